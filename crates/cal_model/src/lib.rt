@@ -1,0 +1,2 @@
+//! The plain data and the definitions that every layer speaks of.
+#![tactic(auto)]
