@@ -1,0 +1,9 @@
+pub mod Data
+pub mod DataCode
+pub mod SameData
+pub mod ObjectKeys
+pub mod WholeNumber
+pub mod TreeData
+pub mod TreeDepth
+pub mod Base
+pub mod Stamp

@@ -1,2 +1,10 @@
 //! The plain data and the definitions that every layer speaks of.
 #![tactic(auto)]
+
+pub mod book;
+pub mod call;
+pub mod entry;
+pub mod lists;
+pub mod num;
+pub mod text;
+pub mod tree;
