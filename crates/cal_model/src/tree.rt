@@ -1,6 +1,8 @@
 //! JSON values.
-ghost use Rattle.std.specs.Prelude.{◌≡◌, IfOk, length};
-ghost use Rattle.cal_model.specs.TreeData.{data_of};
+ghost use Rattle.std.specs.Prelude.{◌≡◌, IfOk, length, map};
+ghost use Rattle.cal_model.specs.Data.{items_of, members_of};
+ghost use Rattle.cal_model.specs.SameData.{same_items, same_members};
+ghost use Rattle.cal_model.specs.TreeData.{data_of, pair_of};
 
 use crate::num::Num;
 use crate::text::Text;
@@ -202,4 +204,76 @@ impl TreeObject {
         }
         Ok(TreeObject { members: copies })
     }
+}
+
+impl Tree {
+    ghost use Rattle.cal_model.specs.SameData.{same_data};
+
+    /// Whether the two are equal. Takes no memory.
+    #[cycle(same)]
+    pub fn same(&self, other: &Tree) -> bool
+        ensures { result ≡ same_data (data_of self.now) (data_of other.now) }
+    {
+        match (self, other) {
+            (Tree::Null, Tree::Null) => true,
+            (Tree::Truth(one), Tree::Truth(two)) => *one == *two,
+            (Tree::Whole(one), Tree::Whole(two)) => one.get() == two.get(),
+            (Tree::Text(one), Tree::Text(two)) => one.as_str() == two.as_str(),
+            (Tree::List(one), Tree::List(two)) => one.same(two),
+            (Tree::Object(one), Tree::Object(two)) => one.same(two),
+            _ => false,
+        }
+    }
+}
+
+impl TreeList {
+    /// Whether the two are equal. Takes no memory.
+    #[cycle(same)]
+    pub fn same(&self, other: &TreeList) -> bool
+        ensures { result ≡ same_items (items_of self.now) (items_of other.now) }
+    {
+        same_trees(&self.items, &other.items)
+    }
+}
+
+#[cycle(same)]
+#[tactic(auto, using(crate::proofs::SameLists::unlike_items, crate::proofs::SameLists::no_items_left))]
+fn same_trees(one: &[Tree], two: &[Tree]) -> bool
+    ensures { result ≡ same_items (items_of (map data_of one.now)) (items_of (map data_of two.now)) }
+{
+    if one.len() != two.len() {
+        return false;
+    }
+    for (i, item) in one.iter().enumerate() {
+        if !item.same(&two[i]) {
+            return false;
+        }
+    }
+    true
+}
+
+impl TreeObject {
+    /// Whether the two are equal. Takes no memory.
+    #[cycle(same)]
+    pub fn same(&self, other: &TreeObject) -> bool
+        ensures { result ≡ same_members (members_of self.now) (members_of other.now) }
+    {
+        same_each(&self.members, &other.members)
+    }
+}
+
+#[cycle(same)]
+#[tactic(auto, using(crate::proofs::SameLists::unlike_members, crate::proofs::SameLists::no_members_left))]
+fn same_each(one: &[Member], two: &[Member]) -> bool
+    ensures { result ≡ same_members (members_of (map pair_of one.now)) (members_of (map pair_of two.now)) }
+{
+    if one.len() != two.len() {
+        return false;
+    }
+    for (i, member) in one.iter().enumerate() {
+        if member.key.as_str() != two[i].key.as_str() || !member.value.same(&two[i].value) {
+            return false;
+        }
+    }
+    true
 }
