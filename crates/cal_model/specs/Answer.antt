@@ -8,7 +8,7 @@ use Rattle.cal_model.specs.History.{changes_of, next_number, live_at}
 use Rattle.cal_model.specs.Id.{id_text, state_text}
 use Rattle.cal_model.specs.Parts.{members_in}
 use Rattle.cal_model.specs.SameData.{same_data}
-use Rattle.cal_model.specs.Stamp.{Stamp}
+use Rattle.cal_model.specs.declared.stamp.Stamp.{Stamp}
 use Rattle.cal_model.specs.TreeData.{data_of}
 use Rattle.cal_model.specs.declared.call.Call.{Call}
 use Rattle.cal_model.specs.declared.call.Call.TheVariants.{Get, Set}
@@ -43,10 +43,10 @@ answered h arguments created = record { arguments = arguments; error = None; cre
 abbrev pub refused : List Entry → MethodError → Reply
 refused h error = record { arguments = Null; error = Some error; created = []; place = length h }
 
--- the reply to a get of all calendars (RFC 8620 section 5.1)
-abbrev pub get_arguments : Base → List Change → Tree
-get_arguments base cs = Object (
-    (codes "accountId", text base.account_id) ∷ (codes "list", list (items_of (map data_of (live_at cs Calendar))))
+-- the reply to a get of all calendars of an account (RFC 8620 section 5.1)
+abbrev pub get_arguments : List ℕ → List Change → Tree
+get_arguments account cs = Object (
+    (codes "accountId", text account) ∷ (codes "list", list (items_of (map data_of (live_at cs Calendar))))
     ∷ (codes "notFound", list no_items) ∷ (codes "state", text (state_text Calendar cs)) ∷ [])
 
 -- The changes that plain creates make, each after those before it (RFC 8620 section 5.3).
@@ -79,25 +79,27 @@ object_or_null [] = null
 object_or_null (p ∷ ps) = object (members_of (p ∷ ps))
 
 -- the reply to a set whose creates made these changes
-abbrev pub set_arguments : Base → List Change → List Pair → List Change → Tree
-set_arguments base before creates made = Object (
-    (codes "accountId", text base.account_id) ∷ (codes "created", object_or_null (map created_member (zip creates made)))
+abbrev pub set_arguments : List ℕ → List Change → List Pair → List Change → Tree
+set_arguments account before creates made = Object (
+    (codes "accountId", text account) ∷ (codes "created", object_or_null (map created_member (zip creates made)))
     ∷ (codes "destroyed", null) ∷ (codes "newState", text (state_text Calendar (before ++ made)))
     ∷ (codes "notCreated", null) ∷ (codes "notDestroyed", null) ∷ (codes "notUpdated", null)
     ∷ (codes "oldState", text (state_text Calendar before)) ∷ (codes "updated", null) ∷ [])
 
-abbrev pub set_answer : Base → List Entry → List Pair → List Change → Reply
-set_answer base h creates made = answered h (set_arguments base (changes_of h) creates made) (map created_id (zip creates made))
+abbrev pub set_answer : List ℕ → List Entry → List Pair → List Change → Reply
+set_answer account h creates made = answered h (set_arguments account (changes_of h) creates made) (map created_id (zip creates made))
+
+abbrev pub entry_of : Stamp → ℕ → Change → Entry
+entry_of stamp part c = record { author = stamp.author; turn = stamp.turn; part = part; moment = stamp.moment; change = c }
 
 -- the entries of a call's changes, from this part on
 abbrev pub entries_from : Stamp → ℕ → List Change → List Entry
 entries_from stamp part [] = []
-entries_from stamp part (c ∷ cs) =
-    record { author = stamp.author; turn = stamp.turn; part = part; moment = stamp.moment; change = c } ∷ entries_from stamp (suc part) cs
+entries_from stamp part (c ∷ cs) = entry_of stamp part c ∷ entries_from stamp (suc part) cs
 
 abbrev pub answer_to : Base → List Entry → Form → Reply
-answer_to base h get_all = answered h (get_arguments base (changes_of h)) []
-answer_to base h (create_plain creates) = set_answer base h creates (planned (changes_of h) creates)
+answer_to base h get_all = answered h (get_arguments base.account_id (changes_of h)) []
+answer_to base h (create_plain creates) = set_answer base.account_id h creates (planned (changes_of h) creates)
 answer_to base h not_built = refused h NotBuilt
 
 abbrev pub added_by : Stamp → List Entry → Form → List Entry

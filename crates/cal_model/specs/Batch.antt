@@ -5,7 +5,7 @@ use Rattle.cal_model.specs.Base.{Base}
 use Rattle.cal_model.specs.Data.{Data, text, list, object, Pair, lookup, items_of, members_of}
 use Rattle.cal_model.specs.Methods.{method_used}
 use Rattle.cal_model.specs.Parts.{as_object}
-use Rattle.cal_model.specs.Stamp.{Stamp}
+use Rattle.cal_model.specs.declared.stamp.Stamp.{Stamp}
 use Rattle.cal_model.specs.TreeData.{data_of}
 use Rattle.cal_model.specs.declared.call.Call.{Call}
 use Rattle.cal_model.specs.declared.call.Call.TheVariants.{Get, Set}

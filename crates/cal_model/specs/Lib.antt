@@ -7,7 +7,7 @@ pub mod TreeData
 pub mod TreeDepth
 pub mod Keyed
 pub mod Base
-pub mod Stamp
+pub mod Signed
 pub mod History
 pub mod Id
 pub mod Json

@@ -1,8 +1,9 @@
 //! A list of entries that grows by calls.
 ghost use Rattle.std.specs.Prelude.{◌≡◌, ◌++◌, ◌≤◌, ◌^◌, ℕ, List, IfOk, OnOk, OnErr, length};
 ghost use Rattle.cal_model.specs.Base.{Base};
-ghost use Rattle.cal_model.specs.Stamp.{Stamp, AreSigned};
+ghost use Rattle.cal_model.specs.Signed.{AreSigned};
 ghost use Rattle.cal_model.specs.declared.entry.Entry.{Entry};
+ghost use Rattle.cal_model.specs.declared.stamp.Stamp.{Stamp};
 
 use std::alloc::AllocError;
 

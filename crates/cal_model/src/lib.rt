@@ -9,6 +9,7 @@ pub mod method;
 pub mod num;
 pub mod object;
 pub mod request;
+pub mod stamp;
 pub mod status;
 pub mod text;
 pub mod tree;
