@@ -2,6 +2,7 @@
 #![tactic(auto)]
 
 pub mod clock;
+mod failing_calls;
 pub mod memory_clock;
 pub mod memory_opener;
 pub mod memory_sink;
@@ -11,5 +12,3 @@ pub mod sink;
 pub mod source;
 pub mod streams;
 pub mod system_clock;
-
-mod failing_calls;

@@ -25,15 +25,14 @@ impl SureOpener {
 
 impl Opener for SureOpener {
     ghost files = { λ opener. Some (map (λ file. (string_bytes file.0, file.1.items)) opener.files.items) };
+
     ghost faults = { λ _. 0 };
 
     fn load(&mut self, name: &str, most: u64) -> Result<Vec<u8>, LoadError> {
         for file in &self.files {
             if file.0.as_str() == name {
                 let count = most.min(file.1.len() as u64) as usize;
-                return file.1[..count]
-                    .to_vec(self.alloc)
-                    .map_err(|_| LoadError::NoMemory);
+                return Ok(file.1[..count].to_vec(self.alloc)?);
             }
         }
         Err(LoadError::Missing)
@@ -64,6 +63,7 @@ impl MemOpener {
 
 impl Opener for MemOpener {
     ghost files = { λ opener. Some (map (λ file. (string_bytes file.0, file.1.items)) opener.inner.files.items) };
+
     ghost faults = { λ opener. faults_of opener.failing };
 
     fn load(&mut self, name: &str, most: u64) -> Result<Vec<u8>, LoadError> {

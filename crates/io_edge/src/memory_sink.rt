@@ -40,6 +40,7 @@ impl Sink for SureSink {
     ghost use Rattle.io_edge.specs.MemoryForms.{held_by};
 
     ghost holds = { held_by };
+
     ghost faults = { λ _. 0 };
 
     fn give(&mut self, bytes: &[u8]) -> Result<usize, Failed> {
@@ -85,6 +86,7 @@ impl Sink for MemSink {
     ghost use Rattle.io_edge.specs.MemoryForms.{held_by};
 
     ghost holds = { λ sink. held_by sink.inner };
+
     ghost faults = { λ sink. faults_of sink.failing };
 
     fn give(&mut self, bytes: &[u8]) -> Result<usize, Failed> {

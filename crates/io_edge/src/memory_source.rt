@@ -38,6 +38,7 @@ impl SureSource {
 
 impl Source for SureSource {
     ghost left = { λ source. Some (drop source.at source.bytes.items) };
+
     ghost faults = { λ _. 0 };
 
     fn take(&mut self, buf: &mut [u8]) -> Result<usize, Failed> {
@@ -73,6 +74,7 @@ impl MemSource {
 
 impl Source for MemSource {
     ghost left = { λ source. Some (drop source.inner.at source.inner.bytes.items) };
+
     ghost faults = { λ source. faults_of source.failing };
 
     fn take(&mut self, buf: &mut [u8]) -> Result<usize, Failed> {

@@ -3,6 +3,8 @@
 ghost use Rattle.std.specs.Prelude.{◌≡◌, ℕ, ◌≤◌, List, Option, IfOk};
 ghost use Rattle.cal_model.specs.Outside.{IsMissing, IsThere, Loads, Rose};
 
+use std::alloc::AllocError;
+
 /// Why a file wasn't loaded.
 #[derive(Clone, Copy, Debug, PartialEq, Eq)]
 pub enum LoadError {
@@ -12,6 +14,16 @@ pub enum LoadError {
     Failed,
     /// There was no memory for the bytes.
     NoMemory,
+}
+
+impl From<AllocError> for LoadError {
+    ghost use Rattle.io_edge.specs.declared.opener.LoadError.TheVariants.{NoMemory};
+
+    ghost from_gives = { λ _ error. error ≡ NoMemory };
+
+    fn from(_: AllocError) -> LoadError {
+        LoadError::NoMemory
+    }
 }
 
 /// Where files are loaded from.

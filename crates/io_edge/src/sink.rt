@@ -25,6 +25,7 @@ pub trait Sink {
         ensures cause { HasCause (faults self.old) (faults self.new) result };
 }
 
+#[tactic(auto, using(crate::proofs::Pieces::given_more))]
 /// Gives a whole piece. After a fault the sink holds a front of it more.
 ///
 /// Takes no memory.

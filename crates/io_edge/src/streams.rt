@@ -24,6 +24,7 @@ impl<R: Read + Drop> ReaderSource<R> {
 
 impl<R: Read + Drop> Source for ReaderSource<R> {
     ghost left = { λ _. None };
+
     ghost faults = { λ source. source.faults };
 
     fn take(&mut self, buf: &mut [u8]) -> Result<usize, Failed> {
@@ -55,6 +56,7 @@ impl<W: Write + Drop> WriterSink<W> {
 
 impl<W: Write + Drop> Sink for WriterSink<W> {
     ghost holds = { λ _. None };
+
     ghost faults = { λ sink. sink.faults };
 
     // A write of no bytes of a piece that has some is a fault.
