@@ -3,6 +3,7 @@
 
 pub mod clock;
 mod failing_calls;
+pub mod fault;
 pub mod memory_clock;
 pub mod memory_opener;
 pub mod memory_sink;

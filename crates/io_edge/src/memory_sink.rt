@@ -4,8 +4,8 @@ ghost use Rattle.std.specs.Prelude.{◌≡◌, [], Some, option_map};
 ghost use Rattle.io_edge.specs.FailingCalls.{faults_of};
 
 use crate::failing_calls::FailingCalls;
+use crate::fault::Failed;
 use crate::sink::Sink;
-use crate::source::Failed;
 use std::alloc::Global;
 
 /// Holds what it was given. It never fails.

@@ -4,7 +4,8 @@ ghost use Rattle.std.specs.Prelude.{◌≡◌, ◌+◌, ◌<◌, ◌≤◌, ◌+
 ghost use Rattle.io_edge.specs.FailingCalls.{faults_of};
 
 use crate::failing_calls::FailingCalls;
-use crate::source::{Failed, Source};
+use crate::fault::Failed;
+use crate::source::Source;
 
 /// Gives its bytes, as many at once as there is room for. It never fails.
 #[derive(Drop)]

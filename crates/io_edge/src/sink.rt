@@ -4,7 +4,7 @@ ghost use Rattle.std.specs.Prelude.{◌≡◌, ℕ, ◌<◌, List, length, take,
 ghost use Rattle.std.specs.Io.{WritesAtMost};
 ghost use Rattle.cal_model.specs.Outside.{Grows, GrowsByFront, HasCause};
 
-use crate::source::Failed;
+use crate::fault::Failed;
 
 /// Where bytes go.
 pub trait Sink {

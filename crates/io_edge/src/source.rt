@@ -5,11 +5,8 @@ ghost use Rattle.std.specs.Io.{ReadsAtMost};
 ghost use Rattle.std.specs.Io.KnownBytes.{Consumes, IsAtEnd, ReadConsumes};
 ghost use Rattle.cal_model.specs.Outside.{ConsumesAtMost, HasCause, Rose};
 
+use crate::fault::Failed;
 use std::alloc::{AllocError, Global};
-
-/// The outside didn't do what was asked of it.
-#[derive(Clone, Copy, Debug, PartialEq, Eq)]
-pub struct Failed;
 
 /// Where bytes come from.
 pub trait Source {

@@ -1,12 +1,13 @@
-//! The system's streams. They tell no content.
+//! The system's streams.
 
 ghost use Rattle.std.specs.Prelude.{◌≡◌, None};
 
+use crate::fault::Failed;
 use crate::sink::Sink;
-use crate::source::{Failed, Source};
+use crate::source::Source;
 use std::io::{Read, Write};
 
-/// A source over a reader, as standard input. It tells nothing of what is left.
+/// A source over a reader. It tells what the reader tells: of what is left of standard input, nothing.
 #[derive(Drop)]
 pub struct ReaderSource<R: Drop> {
     reader: R,
@@ -16,14 +17,15 @@ pub struct ReaderSource<R: Drop> {
 impl<R: Read + Drop> ReaderSource<R> {
     /// Makes a source over a reader. Takes no memory.
     pub fn new(reader: R) -> ReaderSource<R>
-        ensures { ⟦<ReaderSource<R> as Source>⟧.faults result ≡ 0 }
+        ensures left { ⟦<ReaderSource<R> as Source>⟧.left result ≡ R.remaining reader }
+        ensures faults { ⟦<ReaderSource<R> as Source>⟧.faults result ≡ 0 }
     {
         ReaderSource { reader, faults: 0 }
     }
 }
 
 impl<R: Read + Drop> Source for ReaderSource<R> {
-    ghost left = { λ _. None };
+    ghost left = { λ source. R.remaining source.reader };
 
     ghost faults = { λ source. source.faults };
 
