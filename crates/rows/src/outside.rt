@@ -19,15 +19,25 @@ use std::test::Fail;
 fn a_source_is_read_to_its_end_in_pieces_of_any_size(rt: HostRuntime) -> Result<(), Fail> {
     let alloc = rt.alloc();
     let mut sure = SureSource::new(b"to the end".to_vec(alloc)?);
-    assert_eq!(rt; read_up_to(alloc, &mut sure, 10)?.as_slice(), b"to the end".as_slice());
+    assert_eq!(rt;
+        read_up_to(alloc, &mut sure, 10)?.as_slice(),
+        b"to the end".as_slice()
+    );
     for most in [1, 3, 10, 100] {
         let bytes = b"to the end".to_vec(alloc)?;
         let mut source = MemSource::new(bytes, most, Vec::new(alloc));
         let read = read_up_to(alloc, &mut source, 100)?;
-        assert_eq!(rt; read.as_slice(), b"to the end".as_slice(), "in pieces of {most}");
+        assert_eq!(rt;
+            read.as_slice(),
+            b"to the end".as_slice(),
+            "in pieces of {most}"
+        );
     }
     let mut reader = ReaderSource::new(b"to the end".as_slice());
-    assert_eq!(rt; read_up_to(alloc, &mut reader, 100)?.as_slice(), b"to the end".as_slice());
+    assert_eq!(rt;
+        read_up_to(alloc, &mut reader, 100)?.as_slice(),
+        b"to the end".as_slice()
+    );
     Ok(())
 }
 
@@ -51,9 +61,17 @@ fn reading_stops_one_byte_past_the_most(rt: HostRuntime) -> Result<(), Fail> {
         let bytes = b"0123456789".to_vec(alloc)?;
         let mut source = MemSource::new(bytes, piece, Vec::new(alloc));
         let first = read_up_to(alloc, &mut source, 4)?;
-        assert_eq!(rt; first.as_slice(), b"01234".as_slice(), "in pieces of {piece}");
+        assert_eq!(rt;
+            first.as_slice(),
+            b"01234".as_slice(),
+            "in pieces of {piece}"
+        );
         let rest = read_up_to(alloc, &mut source, 5)?;
-        assert_eq!(rt; rest.as_slice(), b"56789".as_slice(), "in pieces of {piece}");
+        assert_eq!(rt;
+            rest.as_slice(),
+            b"56789".as_slice(),
+            "in pieces of {piece}"
+        );
     }
     Ok(())
 }
@@ -82,10 +100,19 @@ fn a_failing_read_is_told(rt: HostRuntime) -> Result<(), Fail> {
     let alloc = rt.alloc();
     let failing = [2].to_vec(alloc)?;
     let mut source = MemSource::new(b"abcdef".to_vec(alloc)?, 2, failing);
-    assert_eq!(rt; read_up_to(alloc, &mut source, 100).err(), Some(ReadError::Failed));
-    assert_eq!(rt; read_up_to(alloc, &mut source, 100)?.as_slice(), b"ef".as_slice());
+    assert_eq!(rt;
+        read_up_to(alloc, &mut source, 100).err(),
+        Some(ReadError::Failed)
+    );
+    assert_eq!(rt;
+        read_up_to(alloc, &mut source, 100)?.as_slice(),
+        b"ef".as_slice()
+    );
     let mut reader = ReaderSource::new(Broken);
-    assert_eq!(rt; read_up_to(alloc, &mut reader, 100).err(), Some(ReadError::Failed));
+    assert_eq!(rt;
+        read_up_to(alloc, &mut reader, 100).err(),
+        Some(ReadError::Failed)
+    );
     Ok(())
 }
 
@@ -117,7 +144,11 @@ fn a_fault_within_a_piece_leaves_a_front(rt: HostRuntime) -> Result<(), Fail> {
             held: &mut held,
             room,
         });
-        assert_eq!(rt; put_all(&mut sink, b"0123456789"), Err(Failed), "with room {room}");
+        assert_eq!(rt;
+            put_all(&mut sink, b"0123456789"),
+            Err(Failed),
+            "with room {room}"
+        );
         assert_eq!(rt; held.as_slice(), wanted.as_bytes());
     }
     let mut held = Vec::new(alloc);
