@@ -53,9 +53,13 @@ lacks_form (Some m) arguments = not (is_built_form m arguments)
 abbrev pub is_unbuilt_call : List (List ℕ) → Invocation → Bool
 is_unbuilt_call using c = lacks_form (method_used using c.name) c.arguments
 
+-- how many creates the argument `create` has
+abbrev pub creates_given : List Pair → ℕ
+creates_given arguments = length (members_in (unwrap_or (lookup (codes "create") arguments) null))
+
 abbrev pub creates_of : Option Method → List Pair → ℕ
-creates_of (Some CalendarSet) arguments = length (members_in (unwrap_or (lookup (codes "create") arguments) null))
-creates_of (Some EventSet) arguments = length (members_in (unwrap_or (lookup (codes "create") arguments) null))
+creates_of (Some CalendarSet) arguments = creates_given arguments
+creates_of (Some EventSet) arguments = creates_given arguments
 creates_of _ arguments = 0
 
 -- all creates of all calls
@@ -64,5 +68,5 @@ creates_in calls = sum_by (λ c. creates_of (method_named c.name) c.arguments) c
 
 abbrev pub is_unbuilt : Request → Bool
 is_unbuilt r =
-    is_some r.created_ids || (nat_lt 16 (length r.calls) || (list_any (λ u. not (is_capability u)) r.using
+    is_some r.created_ids || (nat_lt 16 (length r.calls) || (not (list_all is_capability r.using)
     || (nat_lt 500 (creates_in r.calls) || list_any (is_unbuilt_call r.using) r.calls)))

@@ -2,7 +2,7 @@
 #![tactic(auto)]
 
 //pub mod batch;
-//pub mod built;
-//pub mod problem;
+pub mod built;
+pub mod problem;
 pub mod request;
 //pub mod run;
