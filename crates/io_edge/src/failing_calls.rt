@@ -12,8 +12,10 @@ pub struct FailingCalls {
 }
 
 impl FailingCalls {
+    // No call was made yet.
     pub fn new(numbers: Vec<u64>) -> FailingCalls
-        ensures { faults_of result ≡ 0 }
+        ensures numbers { result.numbers.items ≡ numbers.items }
+        ensures none { faults_of result ≡ 0 }
     {
         FailingCalls { numbers, calls: 0 }
     }
