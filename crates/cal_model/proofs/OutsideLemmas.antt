@@ -1,5 +1,5 @@
 -- One piece after another in a sink.
-use Rattle.std.proofs.Common.{◌≡◌, ℕ, List, [], ◌++◌, Option, Some, None, sym, ap, ◌∙◌, append_assoc, append-nil}
+use Rattle.std.proofs.Common.{ℕ, List, [], ◌++◌, Option, Some, None, sym, ap, ◌∙◌, append_assoc, append-nil}
 use Rattle.cal_model.specs.Outside.{Grows}
 
 -- nothing was given

@@ -1,12 +1,20 @@
--- What the forms in memory tell.
-use Rattle.std.specs.Prelude.{ℕ, ◌-◌, min, ℤ, pos, List, length, Option, Some, None, if◌then◌else◌}
-use Rattle.std.specs.List.{slice_index_or}
+-- What the forms in memory tell, and which of their calls are to fail.
+use Rattle.std.specs.Prelude.{ℕ, List, Option, Some, None, if◌then◌else◌}
+use Rattle.io_edge.specs.declared.memory_source.MemSource.{MemSource}
 use Rattle.io_edge.specs.declared.memory_sink.SureSink.{SureSink}
+use Rattle.io_edge.specs.declared.memory_sink.MemSink.{MemSink}
+use Rattle.io_edge.specs.declared.memory_opener.MemOpener.{MemOpener}
 
 -- what a sink holds, until it has found no memory
 abbrev pub held_by : SureSink → Option (List ℕ)
 held_by sink = if sink.tells then Some sink.bytes.items else None
 
--- the moment of the call of this number, from 0; from the last on it stays
-abbrev pub moment_at : List ℤ → ℕ → ℤ
-moment_at moments call = slice_index_or moments (min call (length moments - 1)) (pos 0)
+-- the numbers of the calls that are to fail, from 0
+abbrev pub failing_takes : MemSource → List ℕ
+failing_takes source = source.failing.numbers.items
+
+abbrev pub failing_gives : MemSink → List ℕ
+failing_gives sink = sink.failing.numbers.items
+
+abbrev pub failing_loads : MemOpener → List ℕ
+failing_loads opener = opener.failing.numbers.items

@@ -12,13 +12,15 @@ pub struct FailingCalls {
 }
 
 impl FailingCalls {
+    /// No call was made yet. Takes no memory.
     pub fn new(numbers: Vec<u64>) -> FailingCalls
-        ensures { faults_of result ≡ 0 }
+        ensures numbers { result.numbers.items ≡ numbers.items }
+        ensures none { faults_of result ≡ 0 }
     {
         FailingCalls { numbers, calls: 0 }
     }
 
-    // Counts a call, and says whether it fails. At the last value of the count none does.
+    /// Counts a call, and says whether it fails. At the last value of the count none does. Takes no memory.
     pub fn next_fails(&mut self) -> bool
         ensures faults { faults_of self.new ≡ faults_of self.old + (if result then 1 else 0) }
         ensures listed { self.old.calls < u64.MAX → result ≡ list_any (λ n. n == self.old.calls) self.old.numbers.items }

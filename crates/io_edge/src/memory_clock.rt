@@ -1,7 +1,7 @@
 //! Clocks whose moments are known.
 
 ghost use Rattle.std.specs.Prelude.{◌≡◌, ◌+◌, ◌<◌, Some, length};
-ghost use Rattle.io_edge.specs.MemoryForms.{moment_at};
+ghost use Rattle.io_edge.specs.Moments.{moment_at};
 
 use crate::clock::Clock;
 

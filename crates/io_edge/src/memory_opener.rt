@@ -47,12 +47,15 @@ pub struct MemOpener {
 }
 
 impl MemOpener {
+    ghost use Rattle.io_edge.specs.MemoryForms.{failing_loads};
+
     /// Makes an opener of these files.
     ///
     /// The calls of `load` whose numbers, from 0, stand in `failing` fail. Takes no memory.
     pub fn new(alloc: Global, files: Vec<(String, Vec<u8>)>, failing: Vec<u64>) -> MemOpener
         ensures files { ⟦<MemOpener as Opener>⟧.files result ≡ Some (map (λ file. (string_bytes file.0, file.1.items)) files.items) }
         ensures faults { ⟦<MemOpener as Opener>⟧.faults result ≡ 0 }
+        ensures failing { failing_loads result ≡ failing.items }
     {
         MemOpener {
             inner: SureOpener::new(alloc, files),

@@ -61,12 +61,15 @@ pub struct MemSink {
 }
 
 impl MemSink {
+    ghost use Rattle.io_edge.specs.MemoryForms.{failing_gives};
+
     /// Makes a sink that holds nothing.
     ///
     /// The calls of `give` whose numbers, from 0, stand in `failing` fail. Takes no memory.
     pub fn new(alloc: Global, failing: Vec<u64>) -> MemSink
         ensures holds { ⟦<MemSink as Sink>⟧.holds result ≡ Some [] }
         ensures faults { ⟦<MemSink as Sink>⟧.faults result ≡ 0 }
+        ensures failing { failing_gives result ≡ failing.items }
     {
         MemSink {
             inner: SureSink::new(alloc),

@@ -57,6 +57,8 @@ pub struct MemSource {
 }
 
 impl MemSource {
+    ghost use Rattle.io_edge.specs.MemoryForms.{failing_takes};
+
     /// Makes a source of these bytes, which gives at most `most` of them in one call.
     ///
     /// The calls of `take` whose numbers, from 0, stand in `failing` fail. Takes no memory.
@@ -64,6 +66,7 @@ impl MemSource {
         requires { 0 < most }
         ensures left { ⟦<MemSource as Source>⟧.left result ≡ Some bytes.items }
         ensures faults { ⟦<MemSource as Source>⟧.faults result ≡ 0 }
+        ensures failing { failing_takes result ≡ failing.items }
     {
         MemSource {
             inner: SureSource::new(bytes),

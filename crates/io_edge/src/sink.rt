@@ -25,10 +25,10 @@ pub trait Sink {
         ensures cause { HasCause (faults self.old) (faults self.new) result };
 }
 
-#[tactic(auto, using(crate::proofs::Pieces::given_more))]
 /// Gives a whole piece. After a fault the sink holds a front of it more.
 ///
 /// Takes no memory.
+#[tactic(auto, using(crate::proofs::Pieces::given_more))]
 pub fn put_all<K: Sink>(sink: &mut K, bytes: &[u8]) -> Result<(), Failed>
     ensures ok { OnOk result (Grows (K.holds sink.old) (K.holds sink.new) bytes.now) }
     ensures err { OnErr result (GrowsByFront (K.holds sink.old) (K.holds sink.new) bytes.now) }

@@ -57,10 +57,10 @@ impl From<Failed> for ReadError {
 /// How many bytes are asked of a source at once.
 const PIECE: usize = 65536;
 
-#[tactic(auto, using(crate::proofs::Pieces::consumed_more))]
 /// Reads to the end of a source, or stops when it holds `most + 1` bytes, and takes none beyond them.
 ///
 /// Takes memory for the bytes. After an error those that were taken are lost.
+#[tactic(auto, using(crate::proofs::Pieces::consumed_more))]
 pub fn read_up_to<S: Source>(
     alloc: Global,
     source: &mut S,
