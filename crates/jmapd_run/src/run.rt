@@ -105,6 +105,13 @@ fn answer_to(alloc: Global, bytes: &[u8], moment: &i64) -> Result<Answer, AllocE
     })
 }
 
+/// The moment nearest to this one that lies from 1970 to the end of the year 9998.
+fn clamped_moment(moment: &i64) -> i64
+    ensures { result ≡ clamped moment.now }
+{
+    (*moment).clamp(0, LAST_MOMENT)
+}
+
 fn is_batch_word(words: &[String]) -> bool
     ensures { result ≡ is_batch words.now }
 {
@@ -139,7 +146,8 @@ pub fn run<O: Opener, S: Source, K: Sink, C: Clock>(
         Err(ReadError::Failed) => return Status::ReadFault,
         Err(ReadError::NoMemory) => return Status::NoMemory,
     };
-    let moment = clock.now().clamp(0, LAST_MOMENT);
+    let told = clock.now();
+    let moment = clamped_moment(&told);
     let Ok(answer) = answer_to(alloc, &bytes, &moment) else {
         return Status::NoMemory;
     };
