@@ -1,0 +1,2 @@
+pub mod IntRing
+pub mod CongruenceLemmas

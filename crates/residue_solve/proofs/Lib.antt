@@ -1,0 +1,4 @@
+pub mod EuclidLemmas
+pub mod SolutionLemmas
+pub mod JointLemmas
+pub mod LeastLemmas

@@ -1,0 +1,4 @@
+pub mod Cong
+pub mod Euclid
+pub mod Least
+pub mod ResidueClass
