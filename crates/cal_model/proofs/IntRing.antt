@@ -1,6 +1,6 @@
 -- The ring of whole numbers: the laws of products that std lacks, and sets of laws for tactics.
-use Rattle.std.proofs.Common.{◌≡◌, ℕ, ◌+◌, ◌*◌, ◌<◌, ◌/◌, ℤ, pos, ◌+ℤ◌, ◌*ℤ◌, arith, neg_ℤ, ap, sym, ◌∙◌}
-use Rattle.std.proofs.Math.IntN.{*ℤ_comm}
+use Rattle.std.proofs.Common.{◌≡◌, ℕ, zero, suc, ◌+◌, ◌*◌, ◌<◌, ◌/◌, ℤ, pos, negsuc, ◌+ℤ◌, ◌*ℤ◌, ◌≤ℤ◌, ◌<ℤ◌, arith, neg_ℤ, ap, sym, ◌∙◌}
+use Rattle.std.proofs.Math.IntN.{*ℤ_comm, zero-*ℤ}
 use Rattle.std.proofs.Math.Nat.{mul-div_cancel}
 use borrow.Author.Differences.{up, down, same_out, same_in, Apart-out, lt_out, le_out, below_in, at_most_in, sum_is_lem, neg_is, product_is}
 
@@ -71,3 +71,9 @@ pub *ℤ_cancel : (x y : ℤ) (g : ℕ) → 0 < g → x *ℤ pos g ≡ y *ℤ po
     let s : (up x + down y) * g ≡ (up y + down x) * g = omega (arith, sums, e, p, q) in
     let t : up x + down y ≡ up y + down x = sym (mul-div_cancel (up x + down y) h) ∙ ap (λ z. z / g) s ∙ mul-div_cancel (up y + down x) h in
     omega (arith, sums, t)
+
+-- a multiple of n above 0 is n at least
+pub multiple_above : (z : ℤ) (n : ℕ) → pos 0 <ℤ (z *ℤ pos n) → pos n ≤ℤ (z *ℤ pos n)
+multiple_above (pos zero) n h = absurd (omega (arith, sums, zero-*ℤ (pos n)))
+multiple_above (pos (suc m)) n h = omega (arith, sums, product_is (pos (suc m)) (pos n))
+multiple_above (negsuc m) n h = absurd (omega (arith, sums, product_is (negsuc m) (pos n)))

@@ -1,17 +1,9 @@
 -- The least of a residue class from a number on.
 use Rattle.std.proofs.Common.{◌≡◌, ℕ, zero, suc, ◌<◌, ◌≤◌, ℤ, pos, negsuc, ◌+ℤ◌, ◌-ℤ◌, ◌*ℤ◌, ◌≤ℤ◌, ◌<ℤ◌, ◌↔◌, arith, neg_ℤ}
 use Rattle.std.proofs.lemmas.Int.{by_lt_z}
-use Rattle.std.proofs.Math.IntN.{zero-*ℤ}
-use borrow.Author.Differences.{product_is}
-use Rattle.cal_model.proofs.IntRing.{sums, products}
+use Rattle.cal_model.proofs.IntRing.{sums, products, multiple_above}
 use Rattle.cal_model.specs.Congruence.{Congruent}
 use Rattle.residue_solve.specs.Least.{IsLeastFrom}
-
--- a multiple that is above 0 is at least one step
-one_step : (z : ℤ) (n : ℕ) → pos 0 <ℤ (z *ℤ pos n) → pos n ≤ℤ (z *ℤ pos n)
-one_step (pos zero) n h = absurd (omega (arith, sums, zero-*ℤ (pos n)))
-one_step (pos (suc m)) n h = omega (arith, sums, product_is (pos (suc m)) (pos n))
-one_step (negsuc m) n h = absurd (omega (arith, sums, product_is (negsuc m) (pos n)))
 
 -- what lies less than n behind `from` and agrees with r is the first from there on that does
 pub next_lem : (n : ℕ) (r from d : ℤ) → pos 0 ≤ℤ d → d <ℤ pos n → Congruent (pos n) (r -ℤ from) d → IsLeastFrom from (λ x. Congruent (pos n) x r) (from +ℤ d)
@@ -22,7 +14,7 @@ next_lem n r from d low high h = record {
       let z : ℤ = neg_ℤ h.0 +ℤ neg_ℤ on.0 in
       let gap : z *ℤ pos n ≡ (from +ℤ d) -ℤ y = simp products (omega (arith, sums, simp products at h.1, simp products at on.1)) in
       by_lt_z y (from +ℤ d)
-      (λ below. let above : pos 0 <ℤ (z *ℤ pos n) = omega (arith, sums, gap, below) in absurd (omega (arith, sums, gap, after, low, high, one_step z n above)))
+      (λ below. let above : pos 0 <ℤ (z *ℤ pos n) = omega (arith, sums, gap, below) in absurd (omega (arith, sums, gap, after, low, high, multiple_above z n above)))
       (λ fine. fine);
 }
 
