@@ -31,9 +31,9 @@ Congruent-near n x y below above h =
     by_lt_z x y
     (λ lt. absurd (omega (arith, sums, above, lt, back, multiple_above (neg_ℤ h.0) n (omega (arith, sums, lt, back)))))
     (λ le.
-        by_lt_z y x
-        (λ lt. absurd (omega (arith, sums, below, lt, h.1, multiple_above h.0 n (omega (arith, sums, lt, h.1)))))
-        (λ ge. omega (arith, sums, le, ge)))
+    by_lt_z y x
+    (λ lt. absurd (omega (arith, sums, below, lt, h.1, multiple_above h.0 n (omega (arith, sums, lt, h.1)))))
+    (λ ge. omega (arith, sums, le, ge)))
 
 -- numbers agree modulo n exactly where their remainders are equal
 pub Congruent-same_rem_euclid : (x y : ℤ) (n : ℕ) → 0 < n → Congruent (pos n) x y ↔ (int_rem_euclid x (pos n) ≡ int_rem_euclid y (pos n))

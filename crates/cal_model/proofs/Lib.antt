@@ -1,2 +1,3 @@
+-- The lemmas on the definitions, by subject.
 pub mod IntRing
 pub mod CongruenceLemmas

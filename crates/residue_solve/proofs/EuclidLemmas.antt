@@ -1,6 +1,5 @@
 -- The multiples of a in Euclid's algorithm, modulo n.
-use Rattle.std.proofs.Common.{◌≡◌, ℕ, ◌+◌, ◌*◌, ◌-◌, ◌≤◌, ◌/◌, ◌%◌, ℤ, pos, negsuc, ◌+ℤ◌, ◌*ℤ◌, arith, neg_ℤ, ap, sym}
-use Rattle.std.proofs.lemmas.Int.{ints}
+use Rattle.std.proofs.Common.{◌≡◌, ℕ, ◌+◌, ◌*◌, ◌-◌, ◌≤◌, ◌/◌, ◌%◌, ℤ, pos, ◌+ℤ◌, ◌*ℤ◌, arith, neg_ℤ, ap, sym}
 use Rattle.std.proofs.Math.Nat.{div-add-mod'}
 use Rattle.cal_model.proofs.IntRing.{sums, products}
 use Rattle.cal_model.proofs.CongruenceLemmas.{Congruent-rem}
@@ -14,7 +13,7 @@ step : (n a m0 m1 m2 t r0 r1 r2 : ℤ) →
 step n a m0 m1 m2 t r0 r1 r2 h g m r = (
   h.0 +ℤ a *ℤ t +ℤ neg_ℤ (t *ℤ g.0) +ℤ neg_ℤ (a *ℤ m.0),
   simp products
-  (omega (arith, sums, r, simp products at h.1, simp products at (ap (λ x. t *ℤ x) g.1), simp products at (ap (λ x. a *ℤ x) m.1))),
+      (omega (arith, sums, r, simp products at h.1, simp products at (ap (λ x. t *ℤ x) g.1), simp products at (ap (λ x. a *ℤ x) m.1))),
 )
 
 pub leaves_more : (n a m0 m1 r0 r1 : ℕ) → m1 ≤ n →

@@ -5,8 +5,8 @@ use Rattle.cal_model.proofs.IntRing.{sums, products}
 use Rattle.cal_model.specs.Congruence.{Congruent}
 
 -- at q = r + k * m, the congruence on q is one on k
-pub along : (n a b r m k : ℤ) → Congruent n ((a *ℤ m) *ℤ k) (b -ℤ a *ℤ r) ↔ Congruent n (a *ℤ (r +ℤ k *ℤ m)) b
-along n a b r m k = (
+pub substituted_lem : (n a b r m k : ℤ) → Congruent n ((a *ℤ m) *ℤ k) (b -ℤ a *ℤ r) ↔ Congruent n (a *ℤ (r +ℤ k *ℤ m)) b
+substituted_lem n a b r m k = (
   (λ h. (h.0, simp products (omega (arith, sums, simp products at h.1)))),
   (λ h. (h.0, simp products (omega (arith, sums, simp products at h.1)))),
 )
@@ -17,13 +17,13 @@ product_small a m ha hm = rw unsigned_abs-mul (omega (arith, mul-le-mul_left (un
 
 -- the numbers of which P holds are r1 + k * m1, and R says of k that Q holds of this number
 module _ (P Q R : ℤ → Type 0) (r1 m1 : ℤ) (first : (q : ℤ) → P q ↔ Congruent m1 q r1) (same : (k : ℤ) → R k ↔ Q (r1 +ℤ k *ℤ m1)) where
-  pub joint_none : ((k : ℤ) → R k → ⊥) → (q : ℤ) → P q × Q q → ⊥
-  joint_none none q h =
+  pub no_common_solution : ((k : ℤ) → R k → ⊥) → (q : ℤ) → P q × Q q → ⊥
+  no_common_solution none q h =
       let on = (first q).0 h.0 in
       none on.0 ((same on.0).1 (subst Q on.1 h.1))
 
-  pub joint_some : (r2 m2 : ℤ) → ((k : ℤ) → R k ↔ Congruent m2 k r2) → (q : ℤ) → P q × Q q ↔ Congruent (m1 *ℤ m2) q (r1 +ℤ m1 *ℤ r2)
-  joint_some r2 m2 turns q = (
+  pub class_of_common_solutions : (r2 m2 : ℤ) → ((k : ℤ) → R k ↔ Congruent m2 k r2) → (q : ℤ) → P q × Q q ↔ Congruent (m1 *ℤ m2) q (r1 +ℤ m1 *ℤ r2)
+  class_of_common_solutions r2 m2 turns q = (
     (λ h.
         let on = (first q).0 h.0 in
         let g = (turns on.0).0 ((same on.0).1 (subst Q on.1 h.1)) in

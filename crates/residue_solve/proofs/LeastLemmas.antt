@@ -1,13 +1,13 @@
 -- The least of a residue class from a number on.
-use Rattle.std.proofs.Common.{◌≡◌, ℕ, zero, suc, ◌<◌, ◌≤◌, ℤ, pos, negsuc, ◌+ℤ◌, ◌-ℤ◌, ◌*ℤ◌, ◌≤ℤ◌, ◌<ℤ◌, ◌↔◌, arith, neg_ℤ}
+use Rattle.std.proofs.Common.{◌≡◌, ℕ, ℤ, pos, ◌+ℤ◌, ◌-ℤ◌, ◌*ℤ◌, ◌≤ℤ◌, ◌<ℤ◌, ◌↔◌, arith, neg_ℤ}
 use Rattle.std.proofs.lemmas.Int.{by_lt_z}
 use Rattle.cal_model.proofs.IntRing.{sums, products, multiple_above}
 use Rattle.cal_model.specs.Congruence.{Congruent}
 use Rattle.residue_solve.specs.Least.{IsLeastFrom}
 
 -- what lies less than n behind `from` and agrees with r is the first from there on that does
-pub next_lem : (n : ℕ) (r from d : ℤ) → pos 0 ≤ℤ d → d <ℤ pos n → Congruent (pos n) (r -ℤ from) d → IsLeastFrom from (λ x. Congruent (pos n) x r) (from +ℤ d)
-next_lem n r from d low high h = record {
+pub least_of_class : (n : ℕ) (r from d : ℤ) → pos 0 ≤ℤ d → d <ℤ pos n → Congruent (pos n) (r -ℤ from) d → IsLeastFrom from (λ x. Congruent (pos n) x r) (from +ℤ d)
+least_of_class n r from d low high h = record {
   at_or_after = omega (arith, sums);
   holds = (neg_ℤ h.0, simp products (omega (arith, sums, simp products at h.1)));
   least = λ y after on.

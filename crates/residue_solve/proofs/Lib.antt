@@ -1,3 +1,4 @@
+-- The lemmas, by subject.
 pub mod EuclidLemmas
 pub mod SolutionLemmas
 pub mod JointLemmas

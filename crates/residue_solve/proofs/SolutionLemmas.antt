@@ -1,14 +1,13 @@
--- The solutions of one congruence, and of two.
-use Rattle.std.proofs.Common.{◌≡◌, ℕ, suc, ◌+◌, ◌*◌, ◌<◌, ◌/◌, ◌%◌, ℤ, pos, negsuc, ◌+ℤ◌, ◌-ℤ◌, ◌*ℤ◌, ◌↔◌, arith, neg_ℤ, ap, sym, ◌∙◌}
-use Rattle.std.specs.Int.{◌∣◌}
-use Rattle.std.proofs.Math.IntN.{*ℤ_comm, pos-*ℤ-negsuc}
-use Rattle.std.proofs.Math.Nat.{zero-mod, div-add-mod', div-mul_cancel, dvd-mul_right, mod-eq-zero_of_dvd, pos_of_dvd_of_pos}
+-- The solutions of one congruence.
+use Rattle.std.proofs.Common.{◌≡◌, ℕ, suc, ◌*◌, ◌<◌, ◌/◌, ◌%◌, ℤ, pos, negsuc, ◌+ℤ◌, ◌*ℤ◌, ◌↔◌, arith, neg_ℤ, ap, sym, ◌∙◌}
+use Rattle.std.proofs.Math.IntN.{pos-*ℤ-negsuc}
+use Rattle.std.proofs.Math.Nat.{zero-mod, div-add-mod', div-mul_cancel, dvd-mul_right, mod-eq-zero_of_dvd}
 use borrow.Author.Differences.{up, neg_is}
 use Rattle.cal_model.proofs.IntRing.{sums, products, *ℤ_cancel}
 use Rattle.cal_model.proofs.CongruenceLemmas.{Congruent-sym, Congruent-trans, Congruent-rem}
 use Rattle.cal_model.specs.Congruence.{Congruent}
 use Rattle.residue_solve.specs.declared.congruence.Cong.{Cong}
-use Rattle.residue_solve.specs.Cong.{Solves, SolvesBoth}
+use Rattle.residue_solve.specs.Cong.{Solves}
 use Rattle.residue_solve.specs.Euclid.{IsBezout}
 
 -- a whole multiple of g leaves no remainder
@@ -37,7 +36,7 @@ module _ (a n q a' n' : ℤ) (g : ℕ) (a_is : a ≡ a' *ℤ pos g) (n_is : n �
     solves h = (
       b' *ℤ leaves.0 +ℤ h.0 *ℤ a',
       simp (a_is, b_is, n_is, products)
-      (omega (arith, sums, simp (a_is, products) at (ap (λ x. a *ℤ x) h.1), simp (a_is, n_is, products) at (ap (λ x. b' *ℤ x) leaves.1))),
+          (omega (arith, sums, simp (a_is, products) at (ap (λ x. a *ℤ x) h.1), simp (a_is, n_is, products) at (ap (λ x. b' *ℤ x) leaves.1))),
     )
 
     only : 0 < g → Congruent n (a *ℤ q) b → Congruent n' q (b' *ℤ m)
@@ -45,7 +44,7 @@ module _ (a n q a' n' : ℤ) (g : ℕ) (a_is : a ≡ a' *ℤ pos g) (n_is : n �
         let k = m *ℤ h.0 +ℤ neg_ℤ (leaves.0 *ℤ q) in (
           k,
           *ℤ_cancel q (b' *ℤ m +ℤ k *ℤ n') g some
-          (simp products (omega (arith, sums, simp (a_is, n_is, products) at (ap (λ x. q *ℤ x) leaves.1), simp (a_is, b_is, n_is, products) at (ap (λ x. m *ℤ x) h.1)))),
+              (simp products (omega (arith, sums, simp (a_is, n_is, products) at (ap (λ x. q *ℤ x) leaves.1), simp (a_is, b_is, n_is, products) at (ap (λ x. m *ℤ x) h.1)))),
         )
 
 module _ (c : Cong) (a b g m : ℕ) (some : 0 < g) (ea : Congruent (pos c.n) c.a (pos a)) (eb : Congruent (pos c.n) c.b (pos b)) (z : IsBezout a c.n g m) (q : ℤ) where
@@ -56,12 +55,12 @@ module _ (c : Cong) (a b g m : ℕ) (some : 0 < g) (ea : Congruent (pos c.n) c.a
   n_is = ap pos (sym (div-mul_cancel g z.greatest.0))
 
   -- where g does not divide b, nothing solves
-  pub none_lem : (b % g ≡ 0 → ⊥) → Solves c q → ⊥
-  none_lem odd h = odd (divides (pos a) (pos c.n) q (pos (a / g)) (pos (c.n / g)) g a_is n_is b (same_solutions (pos c.n) c.a (pos a) c.b (pos b) q ea eb h))
+  pub no_solution : (b % g ≡ 0 → ⊥) → Solves c q → ⊥
+  no_solution odd h = odd (divides (pos a) (pos c.n) q (pos (a / g)) (pos (c.n / g)) g a_is n_is b (same_solutions (pos c.n) c.a (pos a) c.b (pos b) q ea eb h))
 
   -- where it does, the solutions are a class
-  pub some_lem : b % g ≡ 0 → Solves c q ↔ Congruent (pos (c.n / g)) q (pos ((b / g * m) % (c.n / g)))
-  some_lem even =
+  pub class_of_solutions : b % g ≡ 0 → Solves c q ↔ Congruent (pos (c.n / g)) q (pos ((b / g * m) % (c.n / g)))
+  class_of_solutions even =
       let n = pos c.n in
       let n' = pos (c.n / g) in
       let b_is : pos b ≡ pos (b / g) *ℤ pos g = ap pos (omega (arith, div-add-mod' b g)) in

@@ -1,12 +1,13 @@
 -- What solves a congruence, and the sizes that the solver takes.
-use Rattle.std.specs.Prelude.{ℕ, ◌<◌, ◌≤◌, ◌^◌, ℤ, pos, ◌*ℤ◌, unsigned_abs}
+use Rattle.std.specs.Prelude.{◌<◌, ◌≤◌, ◌^◌, ℤ, pos, ◌*ℤ◌, unsigned_abs}
 use Rattle.cal_model.specs.Congruence.{Congruent}
 use Rattle.residue_solve.specs.declared.congruence.Cong.{Cong}
 
--- a * q = b modulo n
+-- q solves a * q = b modulo n
 abbrev pub Solves : Cong → ℤ → Type 0
 Solves c q = Congruent (pos c.n) (c.a *ℤ q) c.b
 
+-- one number solves both
 abbrev pub SolvesBoth : Cong → Cong → ℤ → Type 0
 SolvesBoth first second q = Solves first q × Solves second q
 

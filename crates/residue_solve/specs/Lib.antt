@@ -1,3 +1,4 @@
+-- The definitions that the contracts cite.
 pub mod Cong
 pub mod Euclid
 pub mod Least

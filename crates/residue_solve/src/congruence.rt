@@ -25,7 +25,7 @@ pub fn least(first: Cong, second: Cong, from: i128) -> Option<i128>
     requires from { unsigned_abs from < 2 ^ 60 }
     ensures none { IfNone result ((q : ℤ) → ¬ SolvesBoth first second q) }
     ensures least { IfSome result (IsLeastFrom from (SolvesBoth first second)) }
-    // Callers add to the answer.
+    // Callers add to the answer, and need a bound.
     ensures near { IfSome result (λ q. q <ℤ (from +ℤ pos 1000000)) }
 {
     let solutions = common_solutions(first, second)?;
@@ -48,7 +48,7 @@ fn common_solutions(first: Cong, second: Cong) -> Option<ResidueClass>
     })
 }
 
-// The congruence on k that says that residue + k * modulus of a class solves `c`.
+// The congruence on k that says that the number residue + k * modulus of the class solves `c`.
 fn substituted(c: Cong, class: ResidueClass) -> Cong
     requires range { IsInRange c }
     requires small { class.modulus ≤ 1000 }

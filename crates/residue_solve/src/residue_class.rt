@@ -14,7 +14,7 @@ impl ResidueClass {
     ghost use Rattle.residue_solve.specs.ResidueClass.{IsIn};
     ghost use Rattle.residue_solve.specs.Least.{IsLeastFrom};
 
-    /// Gives the least number of the class at or after `from`.
+    /// Gives the least number of the class at or after `from`. Takes no memory.
     pub fn next_from(self, from: i128) -> i128
         requires small { self.modulus ≤ 1000000 }
         requires from { unsigned_abs from < 2 ^ 60 }

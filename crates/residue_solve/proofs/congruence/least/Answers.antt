@@ -1,3 +1,4 @@
+-- The least number of the class of all solutions is the least solution.
 use Rattle.std.proofs.Common.{rules, FitsSigned}
 use Rattle.std.specs.Int.{w128}
 use Rattle.std.proofs.lemmas.Int.{to_z-of_z}

@@ -1,3 +1,4 @@
+-- A number agrees with its remainder.
 use Rattle.std.proofs.Common.{rules, ◌≡◌, pos, arith, FitsSigned, w64, to_z, of_z, ap, ◌∙◌, unsigned_abs}
 use Rattle.std.specs.Int.{int_rem_euclid}
 use Rattle.std.proofs.lemmas.Int.{ints, to_z-of_z}

@@ -1,6 +1,7 @@
-use Rattle.std.proofs.Common.{rules, ◌≡◌, pos, ◌*ℤ◌, ◌-ℤ◌, FitsSigned, w64, arith}
+-- The products fit, and the new congruence on k is the old one on residue + k * modulus.
+use Rattle.std.proofs.Common.{rules, pos, ◌*ℤ◌, ◌-ℤ◌, FitsSigned, w64, arith}
 use Rattle.std.proofs.lemmas.Int.{ints, to_z-of_z}
-use Rattle.residue_solve.proofs.JointLemmas.{along, product_small}
+use Rattle.residue_solve.proofs.JointLemmas.{substituted_lem, product_small}
 use Rattle.residue_solve.proofs.congruence.substituted.Goals as goal
 
 pub returns-clause-same : goal.returns-clause-same
@@ -14,4 +15,4 @@ returns-clause-same c k =
     let fam : FitsSigned w64 (c.args.c.a *ℤ c.from.result) = omega (arith, ints) in
     let far : FitsSigned w64 (c.args.c.a *ℤ c.from-2.result) = omega (arith, ints) in
     let fbar : FitsSigned w64 (c.args.c.b -ℤ c.args.c.a *ℤ c.from-2.result) = omega (arith, ints) in
-    simp to_z-of_z (rw (c.from.ensures, c.from-2.ensures) (along (pos c.args.c.n) c.args.c.a c.args.c.b (pos c.args.class.residue) (pos c.args.class.modulus) k))
+    simp to_z-of_z (rw (c.from.ensures, c.from-2.ensures) (substituted_lem (pos c.args.c.n) c.args.c.a c.args.c.b (pos c.args.class.residue) (pos c.args.class.modulus) k))

@@ -1,3 +1,4 @@
+-- Two remainders of the algorithm, and the multipliers whose products with a leave them.
 use Rattle.std.proofs.Common.{◌<◌, ◌≤◌, ℕ, pos, ◌*ℤ◌}
 use Rattle.std.specs.Int.{IsGcd}
 use Rattle.cal_model.specs.Congruence.{Congruent}

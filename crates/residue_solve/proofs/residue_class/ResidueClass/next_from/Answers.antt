@@ -1,8 +1,9 @@
+-- `from` and the remainder of the way to the residue make the least number of the class.
 use Rattle.std.proofs.Common.{rules, ◌≡◌, pos, ◌+ℤ◌, ◌-ℤ◌, ◌≤ℤ◌, ◌<ℤ◌, arith, FitsSigned}
 use Rattle.std.specs.Int.{w128, int_rem_euclid}
 use Rattle.std.proofs.lemmas.Int.{ints, to_z-of_z}
 use Rattle.cal_model.proofs.CongruenceLemmas.{Congruent-rem_euclid}
-use Rattle.residue_solve.proofs.LeastLemmas.{next_lem}
+use Rattle.residue_solve.proofs.LeastLemmas.{least_of_class}
 use Rattle.residue_solve.proofs.residue_class.ResidueClass.next_from.Goals as goal
 
 pub returns-clause-least : goal.returns-clause-least
@@ -17,5 +18,5 @@ returns-clause-least c =
     let low : pos 0 ≤ℤ c.rem_euclid.result = omega (arith, ints, c.rem_euclid.ensures.lower_bound) in
     let high : c.rem_euclid.result <ℤ pos c.args.self.modulus = omega (arith, ints, c.rem_euclid.ensures.upper_bound) in
     let e : c.rem_euclid.result ≡ int_rem_euclid (pos c.args.self.residue -ℤ c.args.from) (pos c.args.self.modulus) = rw c.from.ensures at (rw c.from-2.ensures at v) in
-    let n = next_lem c.args.self.modulus (pos c.args.self.residue) c.args.from c.rem_euclid.result low high (rw e (Congruent-rem_euclid (pos c.args.self.residue -ℤ c.args.from) c.args.self.modulus (omega arith))) in
+    let n = least_of_class c.args.self.modulus (pos c.args.self.residue) c.args.from c.rem_euclid.result low high (rw e (Congruent-rem_euclid (pos c.args.self.residue -ℤ c.args.from) c.args.self.modulus (omega arith))) in
     simp to_z-of_z n
