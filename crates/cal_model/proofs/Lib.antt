@@ -1,3 +1,5 @@
--- The lemmas on the definitions, by subject.
+pub mod KeyOrder
+pub mod SameLists
+pub mod OutsideLemmas
 pub mod IntRing
 pub mod CongruenceLemmas

@@ -1,2 +1,15 @@
 //! The plain data and the definitions that every layer speaks of.
 #![tactic(auto)]
+
+pub mod book;
+pub mod call;
+pub mod entry;
+pub mod lists;
+pub mod method;
+pub mod num;
+pub mod object;
+pub mod request;
+pub mod stamp;
+pub mod status;
+pub mod text;
+pub mod tree;

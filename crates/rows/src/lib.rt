@@ -1,5 +1,7 @@
-//! Worked examples, as tests with expected values from outside.
+//! Tests across the crates, a module a subject.
 #![tactic(auto)]
 
 #[cfg(test)]
 mod congruences;
+#[cfg(test)]
+mod outside;

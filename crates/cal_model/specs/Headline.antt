@@ -1,0 +1,81 @@
+-- What a run of `batch` does, whatever bytes come: the main theorem's statement.
+use Rattle.std.specs.Prelude.{◌≡◌, ◌≤◌, ℕ, ℤ, pos, List, [], ◌∷◌, ◌++◌, Bool, true, false, Option, Some, None, length, nat_lt, if◌then◌else◌}
+use Rattle.std.specs.Int.{int_min, int_max}
+use Rattle.std.specs.Io.KnownBytes.{Consumes, IsAtEnd}
+use Rattle.cal_model.specs.Base.{Base}
+use Rattle.cal_model.specs.Batch.{Fits, response_object}
+use Rattle.cal_model.specs.Built.{is_unbuilt, only_account}
+use Rattle.cal_model.specs.Data.{Data}
+use Rattle.cal_model.specs.Json.{Reading, not_json, not_whole, value, reading, text_of}
+use Rattle.cal_model.specs.Outside.{Grows, GrowsByFront, Ticks}
+use Rattle.cal_model.specs.Problem.{problem}
+use Rattle.cal_model.specs.Requests.{request_of}
+use Rattle.cal_model.specs.declared.request.Request.{Request}
+use Rattle.cal_model.specs.declared.request.RequestError.{RequestError}
+use Rattle.cal_model.specs.declared.request.RequestError.TheVariants.{NotJson, NotRequest, NotBuilt}
+use Rattle.cal_model.specs.declared.status.Status.{Status}
+use Rattle.cal_model.specs.declared.status.Status.TheVariants.{Done, Refused, Usage, WriteFault}
+
+-- the most bytes of a request (RFC 8620 section 2, `maxSizeRequest`)
+abbrev pub max_size_request : ℕ
+max_size_request = 10000000
+
+-- what bytes ask for: a request, or a refusal of the whole
+pub data Asked : Type 0 where
+  asked : Request → Asked
+  refused : RequestError → Asked
+
+abbrev pub asked_by_request : Option Request → Asked
+asked_by_request None = refused NotRequest
+asked_by_request (Some r) = if is_unbuilt r then refused NotBuilt else asked r
+
+abbrev pub asked_by_reading : Reading → Asked
+asked_by_reading not_json = refused NotJson
+asked_by_reading not_whole = refused NotRequest
+asked_by_reading (value d) = asked_by_request (request_of d)
+
+abbrev pub asked_in : List ℕ → Asked
+asked_in bytes = if nat_lt max_size_request (length bytes) then refused NotBuilt else asked_by_reading (reading bytes)
+
+abbrev pub is_refused : Asked → Bool
+is_refused (asked r) = false
+is_refused (refused e) = true
+
+-- the only account, before any call
+abbrev pub fresh : Base
+fresh = record { account_id = only_account; zones = [] }
+
+-- The answer to what was asked at a moment. A request's responses fit its calls, on an account without entries.
+abbrev pub IsAnswer : ℤ → Asked → Data → Type 0
+IsAnswer moment (asked r) reply =
+    (responses : List Data) × Fits fresh r.using moment 0 [] r.calls responses × (reply ≡ response_object responses)
+IsAnswer moment (refused e) reply = reply ≡ problem e
+
+-- moments lie from 1970 to the end of the year 9998, in seconds of UTC
+abbrev pub clamped : ℤ → ℤ
+clamped moment = int_max (pos 0) (int_min moment (pos 253370764799))
+
+-- The input was read to its end, or past the most bytes of a request; the clock was read once; and this is the text
+-- of the answer to these bytes at that moment, with a line feed.
+pub record Answers (left left' : Option (List ℕ)) (moments moments' : Option (ℕ → ℤ)) (is_refusal : Bool) (text : List ℕ) : Type 0 where
+  pub bytes : List ℕ
+  pub consumed : Consumes left left' bytes
+  pub whole : length bytes ≤ max_size_request → IsAtEnd left'
+  pub moment : ℤ
+  pub ticked : Ticks moments moments' moment
+  pub reply : Data
+  pub answer : IsAnswer (clamped moment) (asked_in bytes) reply
+  pub refusal : is_refused (asked_in bytes) ≡ is_refusal
+  pub written : text ≡ text_of reply ++ 10 ∷ []
+
+-- What a run that ended with a status did to its input, its clock and its output. At Done and Refused the output
+-- grew by the whole text of the answer, at WriteFault by a front of it, and else by nothing.
+abbrev pub Runs : Option (List ℕ) → Option (List ℕ) → Option (ℕ → ℤ) → Option (ℕ → ℤ) → Option (List ℕ) → Option (List ℕ) → Status → Type 0
+Runs left left' moments moments' held held' Done =
+    (text : List ℕ) × Answers left left' moments moments' false text × Grows held held' text
+Runs left left' moments moments' held held' Refused =
+    (text : List ℕ) × Answers left left' moments moments' true text × Grows held held' text
+Runs left left' moments moments' held held' WriteFault =
+    (is_refusal : Bool) × (text : List ℕ) × Answers left left' moments moments' is_refusal text × GrowsByFront held held' text
+Runs left left' moments moments' held held' Usage = (left' ≡ left) × (moments' ≡ moments) × (held' ≡ held)
+Runs left left' moments moments' held held' _ = held' ≡ held

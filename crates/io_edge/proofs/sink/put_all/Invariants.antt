@@ -1,0 +1,13 @@
+use Rattle.std.proofs.Common.{◌-◌, ◌≤◌, length, take}
+use Rattle.cal_model.specs.Outside.{Grows}
+use Rattle.io_edge.proofs.sink.put_all.Given as goal
+
+abbrev pub invariant-loop-given : goal.invariant-loop-given
+invariant-loop-given g l = record {
+  within : l.given ≤ length l.bytes;
+  held : Grows (g.K.Sink.holds l.initial.sink) (g.K.Sink.holds l.sink) (take l.given l.bytes);
+  later : g.K.Sink.faults l.initial.sink ≤ g.K.Sink.faults l.sink;
+}
+
+abbrev pub decreases-loop-given : goal.decreases-loop-given
+decreases-loop-given g l = length l.bytes - l.given

@@ -1,0 +1,3 @@
+pub use Rattle.cal_model.specs.Outside
+pub mod FailingCalls
+pub mod MemoryForms

@@ -1,0 +1,75 @@
+//! Openers in memory.
+
+ghost use Rattle.std.specs.Prelude.{◌≡◌, ◌+◌, List, ℕ, Some, map, string_bytes};
+ghost use Rattle.io_edge.specs.FailingCalls.{faults_of};
+
+use crate::failing_calls::FailingCalls;
+use crate::opener::{LoadError, Opener};
+use std::alloc::Global;
+
+/// Has files by name, and never fails. Of files with one name the first counts.
+#[derive(Drop)]
+pub struct SureOpener {
+    alloc: Global,
+    files: Vec<(String, Vec<u8>)>,
+}
+
+impl SureOpener {
+    /// Makes an opener of these files. Takes no memory.
+    pub fn new(alloc: Global, files: Vec<(String, Vec<u8>)>) -> SureOpener
+        ensures { ⟦<SureOpener as Opener>⟧.files result ≡ Some (map (λ file. (string_bytes file.0, file.1.items)) files.items) }
+    {
+        SureOpener { alloc, files }
+    }
+}
+
+impl Opener for SureOpener {
+    ghost files = { λ opener. Some (map (λ file. (string_bytes file.0, file.1.items)) opener.files.items) };
+
+    ghost faults = { λ _. 0 };
+
+    fn load(&mut self, name: &str, most: u64) -> Result<Vec<u8>, LoadError> {
+        for file in &self.files {
+            if file.0.as_str() == name {
+                let count = most.min(file.1.len() as u64) as usize;
+                return Ok(file.1[..count].to_vec(self.alloc)?);
+            }
+        }
+        Err(LoadError::Missing)
+    }
+}
+
+/// Has files by name, and fails at the calls that it lists. Of files with one name the first counts.
+#[derive(Drop)]
+pub struct MemOpener {
+    inner: SureOpener,
+    failing: FailingCalls,
+}
+
+impl MemOpener {
+    /// Makes an opener of these files.
+    ///
+    /// The calls of `load` whose numbers, from 0, stand in `failing` fail. Takes no memory.
+    pub fn new(alloc: Global, files: Vec<(String, Vec<u8>)>, failing: Vec<u64>) -> MemOpener
+        ensures files { ⟦<MemOpener as Opener>⟧.files result ≡ Some (map (λ file. (string_bytes file.0, file.1.items)) files.items) }
+        ensures faults { ⟦<MemOpener as Opener>⟧.faults result ≡ 0 }
+    {
+        MemOpener {
+            inner: SureOpener::new(alloc, files),
+            failing: FailingCalls::new(failing),
+        }
+    }
+}
+
+impl Opener for MemOpener {
+    ghost files = { λ opener. Some (map (λ file. (string_bytes file.0, file.1.items)) opener.inner.files.items) };
+
+    ghost faults = { λ opener. faults_of opener.failing };
+
+    fn load(&mut self, name: &str, most: u64) -> Result<Vec<u8>, LoadError> {
+        if self.failing.next_fails() {
+            return Err(LoadError::Failed);
+        }
+        self.inner.load(name, most)
+    }
+}

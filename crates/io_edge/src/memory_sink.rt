@@ -1,0 +1,98 @@
+//! Sinks in memory.
+
+ghost use Rattle.std.specs.Prelude.{◌≡◌, [], Some, option_map};
+ghost use Rattle.io_edge.specs.FailingCalls.{faults_of};
+
+use crate::failing_calls::FailingCalls;
+use crate::fault::Failed;
+use crate::sink::Sink;
+use std::alloc::Global;
+
+/// Holds what it was given. It never fails.
+///
+/// Where it finds no memory for a piece it stops telling what it holds, and goes on taking pieces.
+#[derive(Drop)]
+pub struct SureSink {
+    bytes: Vec<u8>,
+    tells: bool,
+}
+
+impl SureSink {
+    /// Makes a sink that holds nothing. Takes no memory.
+    pub fn new(alloc: Global) -> SureSink
+        ensures { ⟦<SureSink as Sink>⟧.holds result ≡ Some [] }
+    {
+        SureSink {
+            bytes: Vec::new(alloc),
+            tells: true,
+        }
+    }
+
+    /// What the sink holds, where it tells it.
+    pub fn bytes(&self) -> Option<&[u8]>
+        ensures { option_map (λ bytes. bytes.now) result ≡ ⟦<SureSink as Sink>⟧.holds self.now }
+    {
+        if self.tells { Some(&self.bytes) } else { None }
+    }
+}
+
+impl Sink for SureSink {
+    ghost use Rattle.io_edge.specs.MemoryForms.{held_by};
+
+    ghost holds = { held_by };
+
+    ghost faults = { λ _. 0 };
+
+    fn give(&mut self, bytes: &[u8]) -> Result<usize, Failed> {
+        if self.bytes.extend_from_slice(bytes).is_err() {
+            self.tells = false;
+        }
+        Ok(bytes.len())
+    }
+}
+
+/// Holds what it was given, and fails at the calls that it lists. It takes each other piece whole.
+///
+/// Where it finds no memory for a piece it stops telling what it holds, and goes on taking pieces.
+#[derive(Drop)]
+pub struct MemSink {
+    inner: SureSink,
+    failing: FailingCalls,
+}
+
+impl MemSink {
+    /// Makes a sink that holds nothing.
+    ///
+    /// The calls of `give` whose numbers, from 0, stand in `failing` fail. Takes no memory.
+    pub fn new(alloc: Global, failing: Vec<u64>) -> MemSink
+        ensures holds { ⟦<MemSink as Sink>⟧.holds result ≡ Some [] }
+        ensures faults { ⟦<MemSink as Sink>⟧.faults result ≡ 0 }
+    {
+        MemSink {
+            inner: SureSink::new(alloc),
+            failing: FailingCalls::new(failing),
+        }
+    }
+
+    /// What the sink holds, where it tells it.
+    pub fn bytes(&self) -> Option<&[u8]>
+        ensures { option_map (λ bytes. bytes.now) result ≡ ⟦<MemSink as Sink>⟧.holds self.now }
+    {
+        self.inner.bytes()
+    }
+}
+
+impl Sink for MemSink {
+    ghost use Rattle.io_edge.specs.MemoryForms.{held_by};
+
+    ghost holds = { λ sink. held_by sink.inner };
+
+    ghost faults = { λ sink. faults_of sink.failing };
+
+    fn give(&mut self, bytes: &[u8]) -> Result<usize, Failed> {
+        if self.failing.next_fails() {
+            return Err(Failed);
+        }
+        self.inner.give(bytes)
+    }
+}

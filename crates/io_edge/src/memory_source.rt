@@ -1,0 +1,87 @@
+//! Sources in memory.
+
+ghost use Rattle.std.specs.Prelude.{◌≡◌, ◌+◌, ◌<◌, ◌≤◌, ◌++◌, [], Some, drop, length, take};
+ghost use Rattle.io_edge.specs.FailingCalls.{faults_of};
+
+use crate::failing_calls::FailingCalls;
+use crate::fault::Failed;
+use crate::source::Source;
+
+/// Gives its bytes, as many at once as there is room for. It never fails.
+#[derive(Drop)]
+pub struct SureSource {
+    bytes: Vec<u8>,
+    at: usize,
+    ghost within: { at ≤ length bytes.items },
+}
+
+impl SureSource {
+    /// Makes a source of these bytes. Takes no memory.
+    pub fn new(bytes: Vec<u8>) -> SureSource
+        ensures { ⟦<SureSource as Source>⟧.left result ≡ Some bytes.items }
+    {
+        SureSource { bytes, at: 0 }
+    }
+
+    // Puts at most `most` of the bytes that are left at the front of `buf`.
+    fn take_up_to(&mut self, buf: &mut [u8], most: usize) -> usize
+        requires { 0 < most }
+        ensures bound { result ≤ length buf.old }
+        ensures bytes { drop self.old.at self.old.bytes.items ≡ take result buf.new ++ drop self.new.at self.new.bytes.items }
+        ensures end { result ≡ 0 → 0 < length buf.old → drop self.new.at self.new.bytes.items ≡ [] }
+    {
+        let count = (self.bytes.len() - self.at).min(buf.len()).min(most);
+        buf[..count].copy_from_slice(&self.bytes[self.at..self.at + count]);
+        self.at += count;
+        count
+    }
+}
+
+impl Source for SureSource {
+    ghost left = { λ source. Some (drop source.at source.bytes.items) };
+
+    ghost faults = { λ _. 0 };
+
+    fn take(&mut self, buf: &mut [u8]) -> Result<usize, Failed> {
+        Ok(self.take_up_to(buf, usize::MAX))
+    }
+}
+
+/// Gives its bytes, at most so many at once, and fails at the calls that it lists.
+#[derive(Drop)]
+pub struct MemSource {
+    inner: SureSource,
+    most: usize,
+    failing: FailingCalls,
+    ghost some: { 0 < most },
+}
+
+impl MemSource {
+    /// Makes a source of these bytes, which gives at most `most` of them in one call.
+    ///
+    /// The calls of `take` whose numbers, from 0, stand in `failing` fail. Takes no memory.
+    pub fn new(bytes: Vec<u8>, most: usize, failing: Vec<u64>) -> MemSource
+        requires { 0 < most }
+        ensures left { ⟦<MemSource as Source>⟧.left result ≡ Some bytes.items }
+        ensures faults { ⟦<MemSource as Source>⟧.faults result ≡ 0 }
+    {
+        MemSource {
+            inner: SureSource::new(bytes),
+            most,
+            failing: FailingCalls::new(failing),
+        }
+    }
+}
+
+impl Source for MemSource {
+    ghost left = { λ source. Some (drop source.inner.at source.inner.bytes.items) };
+
+    ghost faults = { λ source. faults_of source.failing };
+
+    fn take(&mut self, buf: &mut [u8]) -> Result<usize, Failed> {
+        if self.failing.next_fails() {
+            return Err(Failed);
+        }
+        Ok(self.inner.take_up_to(buf, self.most))
+    }
+}

@@ -1,0 +1,88 @@
+//! Sources: where bytes come from.
+
+ghost use Rattle.std.specs.Prelude.{◌≡◌, ℕ, ◌+◌, ◌≤◌, List, length, Option, IfOk, OnErr};
+ghost use Rattle.std.specs.Io.{ReadsAtMost};
+ghost use Rattle.std.specs.Io.KnownBytes.{Consumes, IsAtEnd, ReadConsumes};
+ghost use Rattle.cal_model.specs.Outside.{ConsumesAtMost, HasCause, Rose};
+
+use crate::fault::Failed;
+use std::alloc::{AllocError, Global};
+
+/// Where bytes come from.
+pub trait Source {
+    /// What is left, where the source tells it.
+    ghost left: { Self → Option (List ℕ) };
+
+    /// How often a call has failed. The count stands at the last value of a `u64`.
+    ghost faults: { Self → ℕ };
+
+    /// Puts some of the bytes that are left at the front of `buf`, and says how many.
+    ///
+    /// An answer 0 for a `buf` that isn't empty is the end of input. Takes no memory.
+    fn take(&mut self, buf: &mut [u8]) -> Result<usize, Failed>
+        ensures bound { ReadsAtMost result buf.new }
+        ensures bytes { ReadConsumes (left self.old) (left self.new) result buf.new }
+        ensures cause { HasCause (faults self.old) (faults self.new) result };
+}
+
+/// Why bytes weren't read to their end.
+#[derive(Clone, Copy, Debug, PartialEq, Eq)]
+pub enum ReadError {
+    /// The source failed.
+    Failed,
+    /// There was no memory for the bytes.
+    NoMemory,
+}
+
+impl From<AllocError> for ReadError {
+    ghost use Rattle.io_edge.specs.declared.source.ReadError.TheVariants.{NoMemory};
+
+    ghost from_gives = { λ _ error. error ≡ NoMemory };
+
+    fn from(_: AllocError) -> ReadError {
+        ReadError::NoMemory
+    }
+}
+
+impl From<Failed> for ReadError {
+    ghost use Rattle.io_edge.specs.declared.source.ReadError.TheVariants.{Failed};
+
+    ghost from_gives = { λ _ error. error ≡ Failed };
+
+    fn from(_: Failed) -> ReadError {
+        ReadError::Failed
+    }
+}
+
+/// How many bytes are asked of a source at once.
+const PIECE: usize = 65536;
+
+#[tactic(auto, using(crate::proofs::Pieces::consumed_more))]
+/// Reads to the end of a source, or stops when it holds `most + 1` bytes, and takes none beyond them.
+///
+/// Takes memory for the bytes. After an error those that were taken are lost.
+pub fn read_up_to<S: Source>(
+    alloc: Global,
+    source: &mut S,
+    most: usize,
+) -> Result<Vec<u8>, ReadError>
+    ensures ok { IfOk result (λ bytes. Consumes (S.left source.old) (S.left source.new) bytes.items) }
+    ensures bound { IfOk result (λ bytes. length bytes.items ≤ most + 1) }
+    ensures whole { IfOk result (λ bytes. length bytes.items ≤ most → IsAtEnd (S.left source.new)) }
+
+    ensures err { OnErr result (ConsumesAtMost (S.left source.old) (S.left source.new) (most + 1)) }
+    ensures later { S.faults source.old ≤ S.faults source.new }
+    ensures failed { result ≡ Err ReadError.Failed → Rose (S.faults source.old) (S.faults source.new) }
+{
+    let mut bytes = Vec::new(alloc);
+    let mut piece = [0; PIECE];
+    while bytes.len() <= most {
+        let room = (most - bytes.len()).min(PIECE - 1) + 1;
+        let count = source.take(&mut piece[..room])?;
+        if count == 0 {
+            break;
+        }
+        bytes.extend_from_slice(&piece[..count])?;
+    }
+    Ok(bytes)
+}

@@ -1,0 +1,127 @@
+//! From bytes to a tree.
+ghost use Rattle.std.specs.Prelude.{◌≡◌, ◌≢◌, IfOk, IfErr, map};
+ghost use Rattle.cal_model.specs.Data.{Data};
+ghost use Rattle.cal_model.specs.TreeData.{data_of, pair_of};
+ghost use Rattle.cal_model.specs.ObjectKeys.{HasOrderedKeys};
+ghost use Rattle.serde_json.specs.View.{view, number_view, items_view, members_view};
+ghost use Rattle.serde_json.specs.Errors.{IsMemory};
+ghost use Rattle.cal_model.specs.Json.{whole_of, whole_items, whole_members, whole_number, reading, not_json, not_whole, value};
+ghost use Rattle.json_edge.specs.declared.read.ReadError.TheVariants.{NotJson, NotWhole, NoMemory};
+
+use cal_model::num::Num;
+use cal_model::text::Text;
+use cal_model::tree::{Member, Tree, TreeList, TreeObject};
+use serde_json::{Error, Map, Number, Value};
+use std::alloc::{AllocError, AllocFailed, Global};
+
+#[derive(Clone, Copy, Debug, PartialEq, Eq)]
+pub enum ReadError {
+    NotJson,
+    NotWhole,
+    NoMemory,
+}
+
+impl From<AllocError> for ReadError {
+    ghost from_gives = { λ _ e. e ≡ NoMemory };
+
+    fn from(_: AllocError) -> Self {
+        ReadError::NoMemory
+    }
+}
+
+impl<T: Drop> From<AllocFailed<T>> for ReadError {
+    ghost from_gives = { λ _ e. e ≡ NoMemory };
+
+    fn from(_: AllocFailed<T>) -> Self {
+        ReadError::NoMemory
+    }
+}
+
+/// The number, where it is whole.
+fn whole_tree(n: &Number) -> Result<Tree, ReadError>
+    ensures ok { IfOk result (λ t. whole_number (number_view n.now) ≡ Some (data_of t)) }
+    ensures float { result ≡ Err NotWhole → whole_number (number_view n.now) ≡ None }
+    ensures other { IfErr result (λ e. e ≡ NotWhole) }
+{
+    if let Some(n) = n.as_u64() {
+        return Ok(Tree::Whole(Num::new(n as i128)));
+    }
+    match n.as_i64() {
+        Some(n) => Ok(Tree::Whole(Num::new(n as i128))),
+        None => Err(ReadError::NotWhole),
+    }
+}
+
+#[cycle(convert)]
+#[tactic(auto, using(crate::proofs::Steps::push_option))]
+fn convert(alloc: Global, value: &Value) -> Result<Tree, ReadError>
+    ensures ok { IfOk result (λ t. whole_of (view value.now) ≡ Some (data_of t)) }
+    ensures float { result ≡ Err NotWhole → whole_of (view value.now) ≡ None }
+    ensures other { IfErr result (λ e. e ≢ NotJson) }
+{
+    match value {
+        Value::Null => Ok(Tree::Null),
+        Value::Bool(b) => Ok(Tree::Truth(*b)),
+        Value::Number(n) => whole_tree(n),
+        Value::String(s) => Ok(Tree::Text(Text::from_str(alloc, s.as_str())?)),
+        Value::Array(items) => Ok(Tree::List(TreeList::new(convert_items(alloc, items)?))),
+        Value::Object(members) => Ok(Tree::Object(TreeObject::new(convert_members(
+            alloc, members,
+        )?))),
+    }
+}
+
+#[cycle(convert)]
+#[tactic(auto, using(crate::proofs::Steps::push_option))]
+fn convert_items(alloc: Global, items: &Vec<Value>) -> Result<Vec<Tree>, ReadError>
+    ensures ok { IfOk result (λ v. whole_items (items_view items.now.items) ≡ Some (map data_of v.items)) }
+    ensures float { result ≡ Err NotWhole → whole_items (items_view items.now.items) ≡ None }
+    ensures other { IfErr result (λ e. e ≢ NotJson) }
+{
+    let mut trees = Vec::with_capacity(alloc, items.len())?;
+    for item in items {
+        trees.push(convert(alloc, item)?)?;
+    }
+    Ok(trees)
+}
+
+#[cycle(convert)]
+#[tactic(auto, using(crate::proofs::Steps::push_option))]
+fn convert_members(alloc: Global, members: &Map<String, Value>) -> Result<Vec<Member>, ReadError>
+    ensures ok { IfOk result (λ v. whole_members (members_view members.now.entries) ≡ Some (map pair_of v.items)) }
+    ensures ordered { IfOk result (λ v. HasOrderedKeys (map pair_of v.items)) }
+    ensures float { result ≡ Err NotWhole → whole_members (members_view members.now.entries) ≡ None }
+    ensures other { IfErr result (λ e. e ≢ NotJson) }
+{
+    let mut all = Vec::new(alloc);
+    for (key, member) in members.iter() {
+        let key = Text::from_str(alloc, key.as_str())?;
+        let value = convert(alloc, member)?;
+        all.push(Member { key, value })?;
+    }
+    Ok(all)
+}
+
+/// What a failed read of `serde_json` means.
+fn failure(e: &Error) -> ReadError
+    ensures memory { IsMemory e.now → result ≡ NoMemory }
+    ensures text { ¬ IsMemory e.now → result ≡ NotJson }
+{
+    if e.is_memory() {
+        ReadError::NoMemory
+    } else {
+        ReadError::NotJson
+    }
+}
+
+#[tactic(auto, using(crate::proofs::Steps::reading_none, crate::proofs::Steps::reading_some))]
+pub fn read_tree(alloc: Global, bytes: &[u8]) -> Result<Tree, ReadError>
+    ensures ok { IfOk result (λ t. reading bytes.now ≡ value (data_of t)) }
+    ensures not_json { result ≡ Err NotJson → reading bytes.now ≡ not_json }
+    ensures not_whole { result ≡ Err NotWhole → reading bytes.now ≡ not_whole }
+{
+    match Value::from_slice(alloc, bytes) {
+        Ok(value) => convert(alloc, &value),
+        Err(e) => Err(failure(&e)),
+    }
+}

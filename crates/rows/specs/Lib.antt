@@ -1,1 +1,0 @@
--- No definitions: the tests compare values.
