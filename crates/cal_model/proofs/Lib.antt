@@ -1,3 +1,5 @@
 pub mod KeyOrder
 pub mod SameLists
 pub mod OutsideLemmas
+pub mod IntRing
+pub mod CongruenceLemmas

@@ -2,4 +2,6 @@
 #![tactic(auto)]
 
 #[cfg(test)]
+mod congruences;
+#[cfg(test)]
 mod outside;
