@@ -1,0 +1,5 @@
+pub mod EntryLemmas
+pub mod HistoryLemmas
+pub mod StepLemmas
+pub mod TicketLemmas
+pub mod ViewLemmas

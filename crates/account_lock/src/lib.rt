@@ -1,0 +1,4 @@
+//! A lock round a book.
+#![tactic(auto)]
+
+pub mod view;
