@@ -1,10 +1,10 @@
 -- Each step keeps what the rule says of tickets and of passes.
-use Rattle.std.proofs.Common.{◌≡◌, ◌≢◌, ℕ, ◌+◌, ◌*◌, ◌%◌, ◌^◌, ◌<◌, ◌≤◌, List, [], ◌∷◌, ◌++◌, length, set, sym, refl, ap, ◌∙◌, subst, IsTrue, Bool, true, false, cond, arith, length-set, length-append}
+use Rattle.std.proofs.Common.{◌≡◌, ◌≢◌, ℕ, ◌+◌, ◌<◌, ◌≤◌, List, [], ◌∷◌, ◌++◌, length, set, sym, refl, ap, ◌∙◌, IsTrue, Bool, cond, arith, length-set, length-append}
 use Rattle.std.proofs.lemmas.Bool.{false≢true}
 use mathlib.Core.Logic.{dite}
 use native.Mathlib.Decide.{ℕ_discrete}
 use lib.ListN.{get_elem?}
-use Rattle.atomic_table.proofs.Lists.{at_longer, at_last, set_here, set_else}
+use Rattle.atomic_table.proofs.Lists.{at_longer, set_here, set_else}
 use Rattle.cal_model.specs.Lock.{PassView, in_line, has_turn, most_turns}
 use Rattle.cal_model.specs.LockSteps.{with_ticket, out_of_line, having_split, split_off}
 use Rattle.cal_model.specs.declared.lock.Phase.{Phase}

@@ -1,5 +1,5 @@
 -- A book of amounts, whose replies are their sum.
-use Rattle.std.specs.Prelude.{◌≡◌, ℕ, ◌+◌, ◌==◌, ◌||◌, Bool, true, false, refl, List, [], ◌∷◌, length, min, None, if◌then◌else◌}
+use Rattle.std.specs.Prelude.{ℕ, ◌+◌, ◌==◌, ◌||◌, Bool, true, false, refl, List, [], ◌∷◌, length, min, None, if◌then◌else◌}
 use Rattle.cal_model.specs.Base.{Base}
 use Rattle.cal_model.specs.Signed.{AreSigned}
 use Rattle.cal_model.specs.declared.entry.Entry.{Entry}
