@@ -151,8 +151,8 @@ module _ {B : Type 0} (entries : B → List Entry) (base : B → Base) (o : List
         ((λ _. (b, refl, home.2 ∙ sym same, subst (λ (x : ℕ × List Entry). Extends x.0 me.0.seen x.1) (λ k. (sym (r.passes.number id me.0 at) k, sym home.3 k)) (unseen_of_others o z r.history r.count s.views id me.0 r.told at))), λ not. absurd (not hit)),
       ))
       (λ out. let m = out.1 in absurd (
-        let same : m.0 ≡ id = r.tickets.apart m.0 id m.1 me.0 m.2 at (turn_in_line m.1.phase m.3) waits_in_line (r.tickets.served m.0 m.1 m.2 m.3 ∙ (sym is ∙ hit)) in
-        false≢true (sym (ap has_turn waits) ∙ (ap (λ (u : PassView). has_turn u.phase) (sym (same_at s.views m.0 id m.1 me.0 same m.2 at)) ∙ m.3))
+      let same : m.0 ≡ id = r.tickets.apart m.0 id m.1 me.0 m.2 at (turn_in_line m.1.phase m.3) waits_in_line (r.tickets.served m.0 m.1 m.2 m.3 ∙ (sym is ∙ hit)) in
+      false≢true (sym (ap has_turn waits) ∙ (ap (λ (u : PassView). has_turn u.phase) (sym (same_at s.views m.0 id m.1 me.0 same m.2 at)) ∙ m.3))
       ))
       r.slot)
       (λ miss. (me.0, keeps, tt, nothing s id me r at, ((λ hit. absurd (miss hit)), λ _. refl)))

@@ -4,7 +4,7 @@ use mathlib.Core.Option.{none, some}
 use mathlib.Core.Option as table
 use Rattle.atomic_table.specs.Table.{State}
 use Rattle.cal_model.specs.Base.{Base}
-use Rattle.cal_model.specs.Lock.{PassView, TicketLock, IsTicketLock, has_turn}
+use Rattle.cal_model.specs.Lock.{PassView, TicketLock, has_turn}
 use Rattle.cal_model.specs.declared.entry.Entry.{Entry}
 use Rattle.account_lock.specs.TicketRule.{At, TicketsHold, PassesHold}
 use Rattle.account_lock.specs.HistoryRule.{HistoryHolds}
@@ -36,7 +36,3 @@ module _ {B : Type 0} (entries : B → List Entry) (base : B → Base) where
     pub tickets : TicketsHold ticket serving s.views
     pub told : HistoryHolds opened z history count s.views
     pub slot : SlotHolds z history s
-
-  -- a table that keeps the rule is a ticket lock
-  abbrev pub RuleMakesTicketLock : Type 0
-  RuleMakesTicketLock = (opened : List Entry) (z : Base) (s : State (Option B) PassView) → RuleHolds opened z s → IsTicketLock entries base opened z (lock_of s)

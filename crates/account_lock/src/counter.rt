@@ -1,6 +1,5 @@
 //! A book of amounts, for tests of the lock.
-ghost use Rattle.std.specs.Prelude.{◌≡◌, [], vec_len};
-ghost use Rattle.account_lock.specs.Counter.{no_base};
+ghost use Rattle.std.specs.Prelude.{◌≡◌, []};
 
 use cal_model::book::Book;
 use cal_model::entry::{Change, Entry, Kind};
@@ -50,6 +49,13 @@ impl CounterBook {
             entries: Vec::new(alloc),
             sum: 0,
         }
+    }
+
+    /// Its entries.
+    pub fn entries(&self) -> &[Entry]
+        ensures { result.now ≡ self.now }
+    {
+        self.entries.as_slice()
     }
 }
 

@@ -6,4 +6,5 @@ pub mod locked;
 pub mod pass;
 mod rule;
 mod steps;
-pub mod view;
+pub mod ticket_lock;
+mod view;

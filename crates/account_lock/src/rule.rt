@@ -2,7 +2,7 @@
 ghost use Rattle.std.specs.Prelude.{List, []};
 ghost use Rattle.cal_model.specs.LockSteps.{new_pass, having_split, split_off};
 ghost use Rattle.cal_model.specs.declared.entry.Entry.{Entry};
-ghost use Rattle.account_lock.specs.Rule.{RuleHolds, RuleMakesTicketLock};
+ghost use Rattle.account_lock.specs.Rule.{RuleHolds};
 ghost use Rattle.account_lock.specs.StepNews.{took_ticket, looked, read_count, added_entries, left_line};
 
 use crate::view::View;
@@ -21,11 +21,6 @@ impl<B: Book> TableRule<Option<B>, View, Snapshot<B>> for LockRule<B> {
 
     ghost first = { λ opened. new_pass 0 (B.entries opened.value) (B.base opened.value) };
 }
-
-/// The rule makes the table a ticket lock.
-pub fn is_ticket_lock<B: Book>()
-    ensures law { RuleMakesTicketLock B.entries B.base }
-{}
 
 /// Takes a ticket.
 pub struct TakeTicket;
