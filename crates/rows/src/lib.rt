@@ -4,4 +4,8 @@
 #[cfg(test)]
 mod congruences;
 #[cfg(test)]
+mod lock;
+#[cfg(test)]
 mod outside;
+#[cfg(test)]
+mod reporting_book;
