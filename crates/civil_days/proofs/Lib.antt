@@ -1,0 +1,3 @@
+pub mod CycleLemmas
+pub mod DateLemmas
+pub mod JiffLemmas
