@@ -1,7 +1,7 @@
 //! Day numbers to dates and back.
-ghost use Rattle.std.specs.Prelude.{◌≡◌, ◌+◌, ◌/◌, ◌<◌, ◌≤◌, ◌^◌, pos, ◌+ℤ◌, ◌*ℤ◌, unsigned_abs, IfSome};
+ghost use Rattle.std.specs.Prelude.{◌≡◌, ◌+◌, ◌/◌, ◌<◌, ◌≤◌, ◌^◌, pos, ◌-ℤ◌, unsigned_abs, IfSome};
 ghost use Rattle.std.specs.Option.{SomeIff};
-ghost use Rattle.cal_model.specs.Floor.{floor_div, modulo};
+ghost use Rattle.std.specs.Int.{int_div_euclid, int_rem_euclid};
 ghost use Rattle.cal_model.specs.CivilDay.{IsDate, day_number, year_of, month_of, day_of_month, weekday_of};
 
 use crate::Civil;
@@ -38,7 +38,7 @@ pub fn civil(day: i64) -> Civil
 {
     let date = Date::from_days_since_min(place_in_cycle(day));
     Civil {
-        year: years_later(date.year, cycle_of_day(day)),
+        year: i64::from(date.year) + CYCLE_YEARS * cycle_of_day(day),
         month: date.month,
         day: date.day,
     }
@@ -54,7 +54,7 @@ pub fn day_of(year: i64, month: u8, day: u8) -> Option<i64>
         return None;
     }
     match Date::new(year_in_cycle(year), month as i8, day as i8) {
-        Ok(date) => Some(days_later(date.to_unix_epoch_day(), cycle_of_year(year))),
+        Ok(date) => Some(i64::from(date.to_unix_epoch_day()) + CYCLE_DAYS * cycle_of_year(year)),
         Err(_) => None,
     }
 }
@@ -62,7 +62,7 @@ pub fn day_of(year: i64, month: u8, day: u8) -> Option<i64>
 // The cycle of a day.
 fn cycle_of_day(day: i64) -> i64
     requires { unsigned_abs day < 2 ^ 42 }
-    ensures value { result ≡ floor_div (day +ℤ pos 4371587) 146097 }
+    ensures value { result ≡ int_div_euclid (day -ℤ FIRST_DAY) CYCLE_DAYS }
     ensures bound { unsigned_abs result ≤ 30200000 }
 {
     (day - FIRST_DAY).div_euclid(CYCLE_DAYS)
@@ -71,24 +71,16 @@ fn cycle_of_day(day: i64) -> i64
 // How many days of its cycle lie before a day.
 fn place_in_cycle(day: i64) -> u32
     requires { unsigned_abs day < 2 ^ 42 }
-    ensures value { result ≡ modulo (day +ℤ pos 4371587) 146097 }
+    ensures value { pos result ≡ int_rem_euclid (day -ℤ FIRST_DAY) CYCLE_DAYS }
     ensures bound { result < 146097 }
 {
     (day - FIRST_DAY).rem_euclid(CYCLE_DAYS) as u32
 }
 
-// The year that lies whole cycles later.
-fn years_later(year: i16, cycles: i64) -> i64
-    requires { unsigned_abs cycles ≤ 31000000 }
-    ensures { result ≡ year +ℤ cycles *ℤ pos 400 }
-{
-    i64::from(year) + CYCLE_YEARS * cycles
-}
-
 // The cycle of a year.
 fn cycle_of_year(year: i64) -> i64
     requires { unsigned_abs year < 2 ^ 33 }
-    ensures value { result ≡ floor_div (year +ℤ pos 9999) 400 }
+    ensures value { result ≡ int_div_euclid (year -ℤ FIRST_YEAR) CYCLE_YEARS }
     ensures bound { unsigned_abs result ≤ 31000000 }
 {
     (year - FIRST_YEAR).div_euclid(CYCLE_YEARS)
@@ -97,15 +89,7 @@ fn cycle_of_year(year: i64) -> i64
 // The year of the first cycle that has the same place in it.
 fn year_in_cycle(year: i64) -> i16
     requires { unsigned_abs year < 2 ^ 33 }
-    ensures { result +ℤ pos 9999 ≡ pos (modulo (year +ℤ pos 9999) 400) }
+    ensures { result -ℤ FIRST_YEAR ≡ int_rem_euclid (year -ℤ FIRST_YEAR) CYCLE_YEARS }
 {
     ((year - FIRST_YEAR).rem_euclid(CYCLE_YEARS) + FIRST_YEAR) as i16
-}
-
-// The day that lies whole cycles later.
-fn days_later(day: i32, cycles: i64) -> i64
-    requires { unsigned_abs cycles ≤ 31000000 }
-    ensures { result ≡ day +ℤ cycles *ℤ pos 146097 }
-{
-    i64::from(day) + CYCLE_DAYS * cycles
 }

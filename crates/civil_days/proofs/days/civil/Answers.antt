@@ -1,4 +1,4 @@
-use Rattle.std.proofs.Common.{◌≡◌, arith, FitsSigned, w16, w64, rules}
+use Rattle.std.proofs.Common.{◌≡◌, arith, pos, ◌+ℤ◌, ◌*ℤ◌, FitsSigned, w64, rules}
 use Rattle.std.proofs.lemmas.Int.{to_z-of_z}
 use Rattle.jiff_core.specs.Date.{epoch_day}
 use Rattle.jiff_core.proofs.SignedLemmas.{signed_arith}
@@ -11,11 +11,12 @@ pub returns : goal.returns
 returns c =
     let date = c.from_days_since_min-date.result in
     let cycle = c.cycle_of_day.result in
-    let year_fits : FitsSigned w16 date.year = search rules in
-    let cycle_fits : FitsSigned w64 cycle = search rules in
-    let day_fits : FitsSigned w64 c.args.day = c.ranges.day in
-    let result_fits : FitsSigned w64 c.years_later.result = search rules in
-    let year = simp to_z-of_z at c.years_later.ensures in
+    let result = c.from.result +ℤ pos 400 *ℤ cycle in
+    let from_fits : FitsSigned w64 c.from.result = search rules in
+    let cycle_fits : FitsSigned w64 cycle = omega (arith, signed_arith) in
+    let years_fit : FitsSigned w64 (pos 400 *ℤ cycle) = omega (arith, signed_arith) in
+    let result_fits : FitsSigned w64 result = omega (arith, signed_arith) in
+    let year : result ≡ date.year +ℤ cycle *ℤ pos 400 = omega (arith, signed_arith) in
     let day : c.args.day ≡ cycles_later (epoch_day date) cycle = omega (arith, signed_arith) in
-    let same = (one_date c.args.day).only c.years_later.result date.month date.day (IsDateOf_later c.args.day c.years_later.result cycle date year day) in
+    let same = (one_date c.args.day).only result date.month date.day (IsDateOf_later c.args.day result cycle date year day) in
     simp to_z-of_z (record { year = same.0; month = same.1; day = same.2; bound = rw same.0 (year_of_size c.args.day) })
