@@ -38,11 +38,11 @@ weekday_of n = modulo (n +ℤ pos 3) 7
 
 -- The date of a day number.
 
--- the year: that of n / 365.2425 from year 1 on, or the one before it
+-- the year: what the mean length of 146097 / 400 days gives is the year, or the one before it
 unfoldable pub year_of : ℤ → ℤ
 year_of n =
-    let y : ℤ = floor_div ((n +ℤ pos 719164) *ℤ pos 400) 146097 +ℤ pos 1 in
-    if int_lt n (day_number y 1 1) then y -ℤ pos 1 else y
+    let y : ℤ = floor_div ((n +ℤ pos 719164) *ℤ pos 400) 146097 in
+    if int_lt n (day_number (y +ℤ pos 1) 1 1) then y else y +ℤ pos 1
 
 -- how many days of its year lie before it
 unfoldable pub days_into_year : ℤ → ℕ
