@@ -1,5 +1,5 @@
--- Civil dates and day numbers: the Gregorian calendar of ISO 8601 on every whole year, without end.
--- RFC 8984 takes its dates from RFC 3339 (sections 1.4.4 and 1.4.5), which has the years 0 to 9999 of it.
+-- Civil dates and day numbers: the Gregorian calendar of ISO 8601, on every whole year without end.
+-- RFC 8984 (sections 1.4.4 and 1.4.5) takes its dates from RFC 3339, which has the years 0 to 9999 of it.
 use Rattle.std.specs.Prelude.{◌≡◌, ℕ, zero, suc, ◌+◌, ◌-◌, Bool, not, ◌&&◌, ◌||◌, ◌==◌, nat_le, if◌then◌else◌, ℤ, pos, ◌+ℤ◌, ◌-ℤ◌, ◌*ℤ◌, int_lt, unsigned_abs}
 use Rattle.std.specs.Int.{IsInRange}
 use Rattle.cal_model.specs.Floor.{floor_div, modulo}
@@ -32,7 +32,7 @@ IsDate y m d = IsInRange 1 12 m × IsInRange 1 (month_length y m) d
 unfoldable pub day_number : ℤ → ℕ → ℕ → ℤ
 day_number y m d = days_before_year y +ℤ pos (days_through_month y (m - 1) + d) -ℤ pos 719163
 
--- the day of the week, where Monday is 0
+-- the day of the week, from 0 for Monday: "mo" to "su" of RFC 8984 section 4.3.3
 unfoldable pub weekday_of : ℤ → ℕ
 weekday_of n = modulo (n +ℤ pos 3) 7
 

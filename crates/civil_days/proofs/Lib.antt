@@ -1,3 +1,4 @@
+-- Lemmas on cycles, years, months and dates, and on the dates of `jiff`.
 pub mod CycleLemmas
 pub mod YearLemmas
 pub mod MonthLemmas

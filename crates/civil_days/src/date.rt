@@ -1,9 +1,12 @@
 //! The type of a civil date.
 
-/// A date of the Gregorian calendar. Year 0 is the year before year 1, and January is month 1.
+/// A date of the Gregorian calendar.
 #[derive(Clone, Copy, Debug, PartialEq, Eq)]
 pub struct Civil {
+    /// The year, where 0 is the one before year 1.
     pub year: i64,
+    /// The month, from 1 for January to 12.
     pub month: u8,
+    /// The day of the month, from 1.
     pub day: u8,
 }

@@ -25,6 +25,8 @@ pub fn civil(day: i64) -> Civil
     ensures year { result.year ≡ year_of day }
     ensures month { result.month ≡ month_of day }
     ensures day { result.day ≡ day_of_month day }
+
+    // So a caller knows that `day_of` takes the year of a day of size below 2^41.
     ensures bound { unsigned_abs result.year ≤ unsigned_abs day / 365 + 1970 }
 {
     let since_first = day - FIRST_DAY;
@@ -40,8 +42,11 @@ pub fn civil(day: i64) -> Civil
 pub fn day_of(year: i64, month: u8, day: u8) -> Option<i64>
     requires { unsigned_abs year < 2 ^ 33 }
     ensures exact { SomeIff result (IsDate year month day) (day_number year month day) }
+
+    // So a caller knows that `civil` and `weekday` take the day.
     ensures bound { IfSome result (λ n. unsigned_abs n < 2 ^ 42) }
 {
+    // `jiff` takes signed bytes, which hold no more than 127.
     if month > 12 || day > 31 {
         return None;
     }
@@ -52,14 +57,6 @@ pub fn day_of(year: i64, month: u8, day: u8) -> Option<i64>
     }
 }
 
-// The year with the same place in the first cycle that `jiff` has.
-fn year_in_cycle(year: i64) -> i16
-    requires { unsigned_abs year < 2 ^ 33 }
-    ensures { result -ℤ FIRST_YEAR ≡ int_rem_euclid (year -ℤ FIRST_YEAR) CYCLE_YEARS }
-{
-    ((year - FIRST_YEAR).rem_euclid(CYCLE_YEARS) + FIRST_YEAR) as i16
-}
-
 /// Gives the day of the week of a day number, from 0 for Monday to 6 for Sunday. Takes no memory.
 pub fn weekday(day: i64) -> u8
     requires { unsigned_abs day < 2 ^ 42 }
@@ -67,4 +64,12 @@ pub fn weekday(day: i64) -> u8
     ensures bound { result < 7 }
 {
     (day + 3).rem_euclid(7) as u8
+}
+
+// The year with the same place in the first cycle that `jiff` has.
+fn year_in_cycle(year: i64) -> i16
+    requires { unsigned_abs year < 2 ^ 33 }
+    ensures { result -ℤ FIRST_YEAR ≡ int_rem_euclid (year -ℤ FIRST_YEAR) CYCLE_YEARS }
+{
+    ((year - FIRST_YEAR).rem_euclid(CYCLE_YEARS) + FIRST_YEAR) as i16
 }

@@ -1,3 +1,4 @@
+-- Why `civil` gives the date of its day: the date of `jiff` and the whole cycles make up a date with that number.
 use Rattle.std.proofs.Common.{◌≡◌, rules, arith, pos, ◌+ℤ◌, ◌*ℤ◌, FitsSigned, w64}
 use Rattle.std.proofs.lemmas.Int.{to_z-of_z}
 use Rattle.jiff_core.specs.Date.{epoch_day}

@@ -1,3 +1,4 @@
+-- Why `day_of` gives the number of its date, and none where there is no such date.
 use Rattle.std.proofs.Common.{rules, sym, ◌≡◌, ◌<◌, ◌^◌, pos, ◌+ℤ◌, ◌*ℤ◌, w16, w64, FitsSigned, arith}
 use Rattle.std.proofs.lemmas.Int.{to_z-of_z, to_z_pos}
 use Rattle.std.proofs.lemmas.Bool.{false≢true}

@@ -1,3 +1,4 @@
+-- Why `weekday` gives the day of the week.
 use Rattle.std.proofs.Common.{arith}
 use Rattle.jiff_core.proofs.SignedLemmas.{signed_casts}
 use Rattle.cal_model.specs.CivilDay.{weekday_of}
