@@ -43,7 +43,11 @@ fn set_call(alloc: Global, arguments: &TreeObject) -> Result<Call, AllocError>
 }
 
 /// The account's call, where the method has an account.
-fn account_call(alloc: Global, method: Method, arguments: &TreeObject) -> Result<Option<Call>, AllocError>
+fn account_call(
+    alloc: Global,
+    method: Method,
+    arguments: &TreeObject,
+) -> Result<Option<Call>, AllocError>
     ensures { IfOk result (λ c. c ≡ call_of method arguments.now) }
 {
     match method {
@@ -59,7 +63,12 @@ fn account_call(alloc: Global, method: Method, arguments: &TreeObject) -> Result
 }
 
 /// A response (RFC 8620 section 3.4).
-fn response_tree(alloc: Global, name: &str, arguments: Tree, call_id: &Text) -> Result<Tree, AllocError>
+fn response_tree(
+    alloc: Global,
+    name: &str,
+    arguments: Tree,
+    call_id: &Text,
+) -> Result<Tree, AllocError>
     ensures { IfOk result (λ t. data_of t ≡ response name.now (data_of arguments) call_id.now) }
 {
     let name = Tree::Text(Text::from_str(alloc, name)?);
@@ -159,9 +168,6 @@ pub fn response_to(alloc: Global, request: &Request, moment: &i64) -> Result<Tre
 {
     let responses = Tree::List(TreeList::new(answer_all(alloc, request, moment)?));
     let state = Tree::Text(Text::from_str(alloc, "1")?);
-    let members = vec![in alloc;
-        ("methodResponses", responses),
-        ("sessionState", state),
-    ]?;
+    let members = vec![in alloc; ("methodResponses", responses), ("sessionState", state)]?;
     Tree::object(alloc, members)
 }

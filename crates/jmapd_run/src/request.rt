@@ -151,7 +151,10 @@ fn id_pairs_from(alloc: Global, members: &[Member]) -> Result<Option<Vec<(Text, 
 
 /// The created ids that a request begins with, or none, where the member `createdIds` is of the right shape.
 #[tactic(auto, using(cal_model::specs::Data::pairs_back))]
-fn created_ids_from(alloc: Global, member: Option<&Tree>) -> Result<Option<Option<Pairs>>, AllocError>
+fn created_ids_from(
+    alloc: Global,
+    member: Option<&Tree>,
+) -> Result<Option<Option<Pairs>>, AllocError>
     ensures { IfOk result (λ o. o ≡ created_ids_of (option_map (λ t. data_of t.now) member.entry)) }
 {
     match member {
