@@ -4,6 +4,8 @@ ghost use Rattle.cal_model.specs.Data.{items_of, members_of};
 ghost use Rattle.cal_model.specs.SameData.{same_items, same_members};
 ghost use Rattle.cal_model.specs.TreeData.{data_of, pair_of};
 
+mod edit;
+
 use crate::num::Num;
 use crate::text::Text;
 use std::alloc::AllocError;
