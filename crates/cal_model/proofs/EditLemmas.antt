@@ -1,5 +1,5 @@
 -- Objects with a member put in or taken out keep their order.
-use Rattle.std.proofs.Common.{zero, suc, add-one, ◌+◌, ◌<◌, ◌++◌, take, drop, map, set, get_or, length, Some, ◌≡◌, List, ℕ, [], ◌∷◌, Bool, true, false, ◌&&◌, refl, sym, ap, ◌∙◌, arith, Ordering, Less, Equal, Greater, if◌then◌else◌}
+use Rattle.std.proofs.Common.{zero, suc, add-one, ◌+◌, ◌<◌, ◌++◌, take, drop, map, set, get_or, length, Some, ◌≡◌, List, ℕ, [], ◌∷◌, Bool, true, false, refl, sym, ap, ◌∙◌, arith, Ordering, Less, Equal, Greater, if◌then◌else◌}
 use Rattle.std.proofs.lemmas.Bool.{and_from}
 use Rattle.std.proofs.lemmas.Cmp.{nat_list_cmp_total}
 use Rattle.std.specs.Ordering.{nat_cmp, is_lt, is_eq, ordering_reverse}
@@ -45,9 +45,9 @@ rises_with k v [] h = refl
 rises_with k v (p ∷ ps) h =
     let parts = both (is_above p.0 ps) (keys_rise ps) h in
     chosen keys_rise (is_lt (cmp p.0 k)) (bytes_eq p.0 k) (p ∷ with_pair k v ps) ((k, v) ∷ ps) ((k, v) ∷ p ∷ ps)
-        (λ b. and_from _ _ (above_with p.0 k v ps b parts.0) (rises_with k v ps parts.1))
-        (λ _ s. and_from _ _ (same_above p.0 k ps s parts.0) parts.1)
-        (λ b s. and_from _ _ (above_else p.0 k b s) h)
+    (λ b. and_from _ _ (above_with p.0 k v ps b parts.0) (rises_with k v ps parts.1))
+    (λ _ s. and_from _ _ (same_above p.0 k ps s parts.0) parts.1)
+    (λ b s. and_from _ _ (above_else p.0 k b s) h)
 
 chosen_two : (Q : List Pair → Bool) (same : Bool) (x y : List Pair) → Q x ≡ true → Q y ≡ true → Q (if same then x else y) ≡ true
 chosen_two Q true x y a b = a

@@ -5,6 +5,7 @@ ghost use Rattle.std.specs.Ordering.{nat_cmp, is_lt};
 ghost use Rattle.cal_model.specs.Data.{lookup};
 ghost use Rattle.cal_model.specs.Edit.{with_pair, without};
 ghost use Rattle.cal_model.specs.KeyAt.{is_key_at};
+ghost use Rattle.cal_model.specs.ObjectKeys.{HasOrderedKeys};
 ghost use Rattle.cal_model.specs.TreeData.{data_of, pair_of};
 
 use super::{Member, Tree, TreeObject};
@@ -29,6 +30,7 @@ impl TreeObject {
     pub fn take(&mut self, key: &str) -> Option<Tree>
         ensures value { option_map data_of result ≡ lookup key.now self.old }
         ensures rest { self.new ≡ without key.now self.old }
+        ensures was_ordered { HasOrderedKeys self.old }
     {
         take_member(&mut self.members, key)
     }

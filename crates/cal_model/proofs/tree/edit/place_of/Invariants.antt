@@ -1,5 +1,5 @@
 use Rattle.std.proofs.Common.{◌≡◌, ◌++◌, ◌≤◌, ◌-◌, take, drop, map, length}
-use Rattle.cal_model.specs.TreeData.{data_of, pair_of}
+use Rattle.cal_model.specs.TreeData.{pair_of}
 use Rattle.cal_model.specs.Data.{lookup}
 use Rattle.cal_model.specs.Edit.{without}
 use Rattle.cal_model.proofs.tree.edit.place_of.Given as goal
