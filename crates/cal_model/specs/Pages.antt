@@ -28,7 +28,7 @@ is_live ms k id = live_from false (take k ms) id
 
 -- an id is mentioned after state k and up to state j
 abbrev pub is_touched : List Mention → ℕ → ℕ → ℕ → Bool
-is_touched ms k j id = list_any (λ m. m.id == id) (take (j - k) (drop k ms))
+is_touched ms k j id = list_any (λ m. m.id == id) (drop k (take j ms))
 
 abbrev pub is_created : List Mention → ℕ → ℕ → ℕ → Bool
 is_created ms k j id = is_live ms j id && not (is_live ms k id)
@@ -38,6 +38,9 @@ is_updated ms k j id = (is_live ms k id && is_live ms j id) && is_touched ms k j
 
 abbrev pub is_destroyed : List Mention → ℕ → ℕ → ℕ → Bool
 is_destroyed ms k j id = is_live ms k id && not (is_live ms j id)
+
+abbrev pub is_in : List ℕ → ℕ → Bool
+is_in ids id = list_any (λ n. n == id) ids
 
 -- the different ids, in order of creation, which is that of their first mention
 abbrev pub ids_of : List Mention → List ℕ
@@ -73,6 +76,6 @@ page_end ms k most = greatest (λ j. is_within most (size_of_page ms k j)) k (le
 abbrev pub window : ℕ
 window = 4096
 
--- pages are made from state k: it has been, and lies at most the window back
-abbrev pub is_retained : List Mention → ℕ → Bool
-is_retained ms k = nat_le k (length ms) && nat_le (length ms - k) window
+-- at state n pages are made from state k: it has been, and lies at most the window back
+abbrev pub is_retained : ℕ → ℕ → Bool
+is_retained n k = nat_le k n && nat_le (n - k) window
