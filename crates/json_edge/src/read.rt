@@ -54,16 +54,16 @@ fn whole_tree(n: &Number) -> Result<Tree, ReadError>
 
 #[cycle(convert)]
 #[tactic(auto, using(crate::proofs::Steps::push_option))]
-fn convert(alloc: Global, value: &Value) -> Result<Tree, ReadError>
-    ensures ok { IfOk result (λ t. whole_of (view value.now) ≡ Some (data_of t)) }
-    ensures float { result ≡ Err NotWhole → whole_of (view value.now) ≡ None }
+fn convert(alloc: Global, value: Value) -> Result<Tree, ReadError>
+    ensures ok { IfOk result (λ t. whole_of (view value) ≡ Some (data_of t)) }
+    ensures float { result ≡ Err NotWhole → whole_of (view value) ≡ None }
     ensures other { IfErr result (λ e. e ≢ NotJson) }
 {
     match value {
         Value::Null => Ok(Tree::Null),
-        Value::Bool(b) => Ok(Tree::Truth(*b)),
-        Value::Number(n) => whole_tree(n),
-        Value::String(s) => Ok(Tree::Text(Text::from_str(alloc, s.as_str())?)),
+        Value::Bool(truth) => Ok(Tree::Truth(truth)),
+        Value::Number(number) => whole_tree(&number),
+        Value::String(text) => Ok(Tree::Text(Text::from_string(text))),
         Value::Array(items) => Ok(Tree::List(TreeList::new(convert_items(alloc, items)?))),
         Value::Object(members) => Ok(Tree::Object(TreeObject::new(convert_members(
             alloc, members,
@@ -73,9 +73,9 @@ fn convert(alloc: Global, value: &Value) -> Result<Tree, ReadError>
 
 #[cycle(convert)]
 #[tactic(auto, using(crate::proofs::Steps::push_option))]
-fn convert_items(alloc: Global, items: &Vec<Value>) -> Result<Vec<Tree>, ReadError>
-    ensures ok { IfOk result (λ v. whole_items (items_view items.now.items) ≡ Some (map data_of v.items)) }
-    ensures float { result ≡ Err NotWhole → whole_items (items_view items.now.items) ≡ None }
+fn convert_items(alloc: Global, items: Vec<Value>) -> Result<Vec<Tree>, ReadError>
+    ensures ok { IfOk result (λ v. whole_items (items_view items.items) ≡ Some (map data_of v.items)) }
+    ensures float { result ≡ Err NotWhole → whole_items (items_view items.items) ≡ None }
     ensures other { IfErr result (λ e. e ≢ NotJson) }
 {
     let mut trees = Vec::with_capacity(alloc, items.len())?;
@@ -87,15 +87,15 @@ fn convert_items(alloc: Global, items: &Vec<Value>) -> Result<Vec<Tree>, ReadErr
 
 #[cycle(convert)]
 #[tactic(auto, using(crate::proofs::Steps::push_option))]
-fn convert_members(alloc: Global, members: &Map<String, Value>) -> Result<Vec<Member>, ReadError>
-    ensures ok { IfOk result (λ v. whole_members (members_view members.now.entries) ≡ Some (map pair_of v.items)) }
+fn convert_members(alloc: Global, members: Map<String, Value>) -> Result<Vec<Member>, ReadError>
+    ensures ok { IfOk result (λ v. whole_members (members_view members.entries) ≡ Some (map pair_of v.items)) }
     ensures ordered { IfOk result (λ v. HasOrderedKeys (map pair_of v.items)) }
-    ensures float { result ≡ Err NotWhole → whole_members (members_view members.now.entries) ≡ None }
+    ensures float { result ≡ Err NotWhole → whole_members (members_view members.entries) ≡ None }
     ensures other { IfErr result (λ e. e ≢ NotJson) }
 {
-    let mut all = Vec::new(alloc);
-    for (key, member) in members.iter() {
-        let key = Text::from_str(alloc, key.as_str())?;
+    let mut all = Vec::with_capacity(alloc, members.len())?;
+    for (key, member) in members {
+        let key = Text::from_string(key);
         let value = convert(alloc, member)?;
         all.push(Member { key, value })?;
     }
@@ -121,7 +121,7 @@ pub fn read_tree(alloc: Global, bytes: &[u8]) -> Result<Tree, ReadError>
     ensures not_whole { result ≡ Err NotWhole → reading bytes.now ≡ not_whole }
 {
     match Value::from_slice(alloc, bytes) {
-        Ok(value) => convert(alloc, &value),
+        Ok(value) => convert(alloc, value),
         Err(e) => Err(failure(&e)),
     }
 }
