@@ -113,9 +113,9 @@ fn echo(alloc: Global, call: &Invocation) -> Result<Tree, AllocError>
 
 /// An account, and how many calls were made on it.
 #[derive(Drop)]
-pub struct Turns {
-    pub account: Account,
-    pub made: u64,
+struct Turns {
+    account: Account,
+    made: u64,
 }
 
 /// Makes one call, at a moment in seconds of UTC from 1970.

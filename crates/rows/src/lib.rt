@@ -9,3 +9,4 @@ mod civil_dates;
 mod congruences;
 #[cfg(test)]
 mod outside;
+pub mod words;
