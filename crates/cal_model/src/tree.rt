@@ -213,9 +213,9 @@ impl TreeObject {
     pub fn into_value(self, key: &str) -> Option<Tree>
         ensures { option_map data_of result ≡ lookup key.now self }
     {
-        for member in self.members {
-            if member.key.as_str() == key {
-                return Some(member.value);
+        for Member { key: found, value } in self.members {
+            if found.as_str() == key {
+                return Some(value);
             }
         }
         None

@@ -4,5 +4,5 @@ use Rattle.cal_model.specs.Data.{lookup}
 use Rattle.cal_model.specs.TreeData.{pair_of}
 use Rattle.cal_model.proofs.tree.TreeObject.into_value.Given as goal
 
-abbrev pub invariant-loop-member : goal.invariant-loop-member
-invariant-loop-member l = lookup l.key (map pair_of (into_iter_items l.member-iterator)) ≡ lookup l.key l.fn.self
+abbrev pub invariant-loop-found : goal.invariant-loop-found
+invariant-loop-found l = lookup l.key (map pair_of (into_iter_items l.found-iterator)) ≡ lookup l.key l.fn.self
