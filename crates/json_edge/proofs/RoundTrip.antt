@@ -21,6 +21,7 @@ use Rattle.std.proofs.lemmas.Int.{ints}
 use Rattle.cal_model.specs.Fit.{IsFit, AreFit, MembersAreFit}
 use Rattle.cal_model.specs.Json.{reading, value, whole_of, whole_items, whole_members, reading_of_whole}
 use Rattle.cal_model.specs.Json.{json_of, json_items, json_members, text_of}
+use Rattle.cal_model.proofs.KeyOrder.{both, less_of}
 use Rattle.json_edge.specs.Tokens.{tokens_of}
 use Rattle.json_edge.proofs.Steps.{reading_some}
 
@@ -61,15 +62,6 @@ joined_snoc (json.member l e found) k d ms = ap (json.member l e) (joined_snoc f
 joined_none : (found : json.Members) → joined found json.no_members ≡ found
 joined_none json.no_members = refl
 joined_none (json.member l e found) = ap (json.member l e) (joined_none found)
-
-less_of : (o : Ordering) → is_lt o ≡ true → o ≡ Less
-less_of Less h = refl
-less_of Equal h = cc
-less_of Greater h = cc
-
-both : (x y : Bool) → (x && y) ≡ true → (x ≡ true) × (y ≡ true)
-both true y h = (refl, h)
-both false y h = cc
 
 above_next : (ms : Members) (found : json.Members) (k : List ℕ) (d : json.Data) → AllBelow found k → is_above k (pairs_of ms) ≡ true → FirstAbove ms (snoc found k d)
 above_next own.no_members found k d below h = tt
