@@ -277,7 +277,7 @@ fn sixteen_calls_and_five_hundred_creates_are_the_most(rt: HostRuntime) -> Resul
 fn ten_million_bytes_are_the_most(rt: HostRuntime) -> Result<(), Fail> {
     let alloc = rt.alloc();
     let mut input = ECHO.as_bytes().to_vec(alloc)?;
-    while input.len() < 10_000_000 {
+    for _ in input.len()..10_000_000 {
         input.push(b' ')?;
     }
     assert_batch(&rt, alloc, &input, Status::Done, ECHOED)?;

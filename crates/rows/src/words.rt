@@ -8,5 +8,6 @@ use std::alloc::{AllocError, Global};
 pub fn batch_words(alloc: Global) -> Result<Vec<String>, AllocError>
     ensures { IfOk result (λ words. is_batch words.items ≡ true) }
 {
-    vec![in alloc; String::from_str(alloc, "batch")?]
+    let word = String::from_str(alloc, "batch")?;
+    Ok(vec![in alloc; word]?)
 }
