@@ -5,6 +5,7 @@ pub mod book;
 pub mod call;
 pub mod entry;
 pub mod lists;
+pub mod lock;
 pub mod method;
 pub mod num;
 pub mod object;
