@@ -1,4 +1,4 @@
-use Rattle.std.proofs.Common.{◌≡◌, ◌∙◌, ◌++◌, map, string_bytes, ap, append-nil, Some}
+use Rattle.std.proofs.Common.{◌≡◌, ◌∙◌, map, string_bytes, ap, append-nil, Some}
 use Rattle.std.proofs.lemmas.List.{map-append}
 use Rattle.cal_model.specs.TreeData.{data_of, pair_of}
 use Rattle.json_edge.proofs.Steps.{members_more, rises}
