@@ -10,13 +10,13 @@ use std::alloc::AllocError;
 /// What holds a history: an account, or anything else whose calls are answered at a list of entries and add to it.
 ///
 /// Contracts see its base, which no call changes, and its entries. What a call is answered and what it adds are
-/// functions of these two, of the call, and of its author, turn and moment.
-pub trait Book: Drop {
+/// functions of these two, of the call, and of its author, turn and moment. A book may go from thread to thread.
+pub trait Book: Drop + Send + 'static {
     /// What is asked.
-    type Call;
+    type Call: 'static;
 
     /// What is answered.
-    type Reply;
+    type Reply: 'static;
 
     ghost base: { Self → Base };
 

@@ -6,6 +6,7 @@ pub mod call;
 pub mod entry;
 pub mod ids;
 pub mod lists;
+pub mod lock;
 pub mod method;
 pub mod num;
 pub mod object;

@@ -1,6 +1,9 @@
 //! The program `jmapd`: runs the command that its words name over the system's streams and clock.
 #![tactic(auto)]
 
+ghost use Rattle.std.specs.Prelude.{◌≡◌};
+ghost use Rattle.cal_model.specs.Statuses.{exit_status};
+
 use cal_model::status::Status;
 use io_edge::memory_opener::SureOpener;
 use io_edge::streams::{ReaderSource, WriterSink};
@@ -9,7 +12,9 @@ use jmapd_run::run::run;
 use std::process::ExitCode;
 use std::{env, io};
 
-fn exit_code(status: Status) -> u8 {
+fn exit_code(status: Status) -> u8
+    ensures { result ≡ exit_status status }
+{
     match status {
         Status::Done => 0,
         Status::Refused => 1,

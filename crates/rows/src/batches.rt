@@ -1,4 +1,5 @@
 //! What `jmapd batch` writes, and how it ends.
+use crate::words::batch_words;
 use cal_model::status::Status;
 use io_edge::clock::Clock;
 use io_edge::memory_clock::StillClock;
@@ -17,14 +18,13 @@ const CLOCK: StillClock = StillClock {
     moment: 1_704_067_200,
 };
 
-/// Runs the command of one word.
-fn run_word<S: Source, K: Sink>(
+/// Runs `batch`.
+fn run_batch<S: Source, K: Sink>(
     alloc: Global,
-    word: &str,
     input: &mut S,
     output: &mut K,
 ) -> Result<Status, Fail> {
-    let words = vec![in alloc; String::from_str(alloc, word)?]?;
+    let words = batch_words(alloc)?;
     let mut opener = SureOpener::new(alloc, Vec::new(alloc));
     let mut clock = CLOCK;
     Ok(run(alloc, &words, &mut opener, input, output, &mut clock))
@@ -40,7 +40,7 @@ fn assert_batch(
 ) -> Result<(), Fail> {
     let mut source = SureSource::new(input.to_vec(alloc)?);
     let mut sink = SureSink::new(alloc);
-    let ended = run_word(alloc, "batch", &mut source, &mut sink)?;
+    let ended = run_batch(alloc, &mut source, &mut sink)?;
     assert_eq!(rt; ended, status);
     assert_eq!(rt; sink.bytes(), Some(written.as_bytes()));
     Ok(())
@@ -245,7 +245,7 @@ fn creates(alloc: Global, count: u32) -> Result<String, Fail> {
 fn ended(alloc: Global, input: &[u8]) -> Result<Status, Fail> {
     let mut source = SureSource::new(input.to_vec(alloc)?);
     let mut sink = SureSink::new(alloc);
-    run_word(alloc, "batch", &mut source, &mut sink)
+    run_batch(alloc, &mut source, &mut sink)
 }
 
 #[test]
@@ -277,7 +277,7 @@ fn sixteen_calls_and_five_hundred_creates_are_the_most(rt: HostRuntime) -> Resul
 fn ten_million_bytes_are_the_most(rt: HostRuntime) -> Result<(), Fail> {
     let alloc = rt.alloc();
     let mut input = ECHO.as_bytes().to_vec(alloc)?;
-    while input.len() < 10_000_000 {
+    for _ in input.len()..10_000_000 {
         input.push(b' ')?;
     }
     assert_batch(&rt, alloc, &input, Status::Done, ECHOED)?;
@@ -324,7 +324,7 @@ fn a_fault_of_the_input_or_the_output_ends_the_run(rt: HostRuntime) -> Result<()
         let mut source = MemSource::new(input, 50, vec![in alloc; call]?);
         let mut sink = SureSink::new(alloc);
         assert_eq!(rt;
-            run_word(alloc, "batch", &mut source, &mut sink)?,
+            run_batch(alloc, &mut source, &mut sink)?,
             Status::ReadFault
         );
         assert_eq!(rt; sink.bytes(), Some(b"".as_slice()));
@@ -332,7 +332,7 @@ fn a_fault_of_the_input_or_the_output_ends_the_run(rt: HostRuntime) -> Result<()
     let mut source = SureSource::new(ECHO.as_bytes().to_vec(alloc)?);
     let mut sink = MemSink::new(alloc, vec![in alloc; 0]?);
     assert_eq!(rt;
-        run_word(alloc, "batch", &mut source, &mut sink)?,
+        run_batch(alloc, &mut source, &mut sink)?,
         Status::WriteFault
     );
     assert_eq!(rt; sink.bytes(), Some(b"".as_slice()));

@@ -8,4 +8,9 @@ mod civil_dates;
 #[cfg(test)]
 mod congruences;
 #[cfg(test)]
+mod lock;
+#[cfg(test)]
 mod outside;
+#[cfg(test)]
+mod reporting_book;
+pub mod words;

@@ -12,6 +12,6 @@ returns-clause-runs g c =
       answer.is_refusal,
       answer.text.items,
       answers_with c.in-Ok.bytes.items c.deref.result.now answer.text.items c.now-told.result moment answer.is_refusal
-          c.in-Ok.ensures.ok c.in-Ok.ensures.whole c.now-told.ensures same clamps c.in-Ok-answer_to.ensures.reply c.in-Ok-answer_to.ensures.refusal,
+          c.in-Ok.ensures.ok c.in-Ok.ensures.bound c.in-Ok.ensures.whole c.now-told.ensures same clamps c.in-Ok-answer_to.ensures.reply c.in-Ok-answer_to.ensures.refusal,
       search rules,
     )

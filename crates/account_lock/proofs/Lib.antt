@@ -1,0 +1,7 @@
+pub mod CounterLemmas
+pub mod EntryLemmas
+pub mod HistoryLemmas
+pub mod LawLemmas
+pub mod StepLemmas
+pub mod TicketLemmas
+pub mod ViewLemmas

@@ -1,0 +1,6 @@
+pub mod Counter
+pub mod HistoryRule
+pub mod Passes
+pub mod Rule
+pub mod StepNews
+pub mod TicketRule

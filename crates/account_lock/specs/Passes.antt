@@ -1,0 +1,44 @@
+-- What contracts see of a pass, and what a call makes of it.
+use Rattle.std.specs.Prelude.{◌≡◌, ℕ, ◌+◌, ℤ, List, [], ◌++◌}
+use Rattle.atomic_table.specs.Seated.{TableId}
+use Rattle.cal_model.specs.Base.{Base}
+use Rattle.cal_model.specs.Lock.{PassView}
+use Rattle.cal_model.specs.declared.entry.Entry.{Entry}
+use Rattle.cal_model.specs.declared.stamp.Stamp.{Stamp}
+use Rattle.account_lock.specs.HistoryRule.{Extends}
+
+-- a pass outside a call
+pub record PassState : Type 0 where
+  -- which lock it is of, and that lock's base
+  pub lock : TableId
+  pub base : Base
+  pub number : ℕ
+  -- the calls that it has made
+  pub turns : ℕ
+  -- the history, as far as it knows it, and the entries in it that its own calls added
+  pub seen : List Entry
+  pub mine : List Entry
+
+abbrev pub state_of : TableId → PassView → PassState
+state_of lock v = record { lock = lock; base = v.base; number = v.number; turns = v.turns; seen = v.seen; mine = v.mine }
+
+-- pass number k of a lock that was opened with a book of these entries
+abbrev pub opened_pass : TableId → Base → List Entry → ℕ → PassState
+opened_pass lock base opened k = record { lock = lock; base = base; number = k; turns = 0; seen = opened; mine = [] }
+
+-- the stamp of the pass's next call
+abbrev pub next_stamp : PassState → ℤ → Stamp
+next_stamp p moment = record { author = p.number; turn = p.turns + 1; moment = moment }
+
+module _ {C R : Type 0} (answer : Base → List Entry → C → Stamp → R) (added : Base → List Entry → C → Stamp → List Entry) where
+  -- The reply is the book's at a history that begins with what the pass had seen, with no entry of the pass between. The pass has then seen that history with the call's entries.
+  pub record IsAnswered (call : C) (moment : ℤ) (reply : R) (old new : PassState) : Type 0 where
+    pub history : List Entry
+    pub begins : Extends old.number old.seen history
+    pub replied : reply ≡ answer old.base history call (next_stamp old moment)
+    pub new_state : new ≡ record old { turns = old.turns + 1; seen = history ++ added old.base history call (next_stamp old moment); mine = old.mine ++ added old.base history call (next_stamp old moment) }
+
+-- The call took its turn and added nothing: the pass may have seen entries of others.
+pub record HasFailed (old new : PassState) : Type 0 where
+  pub begins : Extends old.number old.seen new.seen
+  pub new_state : new ≡ record old { turns = old.turns + 1; seen = new.seen }

@@ -1,0 +1,38 @@
+-- The rule of the lock's table, and the lock that such a table is.
+use Rattle.std.specs.Prelude.{◌≡◌, ℕ, ◌⊎◌, IsTrue, List, [], ◌∷◌, Option, Some, None, slice_index}
+use mathlib.Core.Option.{none, some}
+use mathlib.Core.Option as table
+use Rattle.atomic_table.specs.Table.{State}
+use Rattle.cal_model.specs.Base.{Base}
+use Rattle.cal_model.specs.Lock.{PassView, TicketLock, has_turn}
+use Rattle.cal_model.specs.declared.entry.Entry.{Entry}
+use Rattle.account_lock.specs.TicketRule.{At, TicketsHold, PassesHold}
+use Rattle.account_lock.specs.HistoryRule.{HistoryHolds}
+
+abbrev pub slot_of : {B : Type 0} → List (table.Option (Option B)) → Option B
+slot_of [] = None
+slot_of (none ∷ _) = None
+slot_of (some slot ∷ _) = slot
+
+-- a table of three words and one slot as a ticket lock
+abbrev pub lock_of : {B : Type 0} → State (Option B) PassView → TicketLock B
+lock_of s = record { ticket = slice_index s.words 0; serving = slice_index s.words 1; count = slice_index s.words 2; slot = slot_of s.homes; views = s.views }
+
+module _ {B : Type 0} (entries : B → List Entry) (base : B → Base) where
+  -- The slot has the book, with the whole history, and no pass has the turn; or the slot is out, and one has it.
+  abbrev pub SlotHolds : Base → List Entry → State (Option B) PassView → Type 0
+  SlotHolds z history s =
+      ((b : B) × (s.homes ≡ some (Some b) ∷ []) × (base b ≡ z) × (entries b ≡ history) × ((i : ℕ) (v : PassView) → At s.views i v → IsTrue (has_turn v.phase) → ⊥))
+      ⊎ ((s.homes ≡ none ∷ []) × ((i : ℕ) × (v : PassView) × At s.views i v × IsTrue (has_turn v.phase)))
+
+  -- Stronger than what a ticket lock keeps, so that each step keeps it.
+  pub record RuleHolds (opened : List Entry) (z : Base) (s : State (Option B) PassView) : Type 0 where
+    pub ticket : ℕ
+    pub serving : ℕ
+    pub count : ℕ
+    pub words : s.words ≡ ticket ∷ serving ∷ count ∷ []
+    pub history : List Entry
+    pub passes : PassesHold s.views
+    pub tickets : TicketsHold ticket serving s.views
+    pub told : HistoryHolds opened z history count s.views
+    pub slot : SlotHolds z history s

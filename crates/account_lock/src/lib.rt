@@ -1,0 +1,10 @@
+//! A lock round a book, whose callers take turns by ticket and share one history.
+#![tactic(auto)]
+
+pub mod counter;
+pub mod locked;
+pub mod pass;
+mod rule;
+mod steps;
+pub mod ticket_lock;
+mod view;

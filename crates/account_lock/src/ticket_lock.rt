@@ -1,0 +1,16 @@
+//! What holds of a lock between any two steps of any threads.
+ghost use Rattle.cal_model.specs.Lock.{IsTicketLock};
+ghost use Rattle.account_lock.specs.Rule.{lock_of};
+
+use crate::rule::LockRule;
+use crate::view::View;
+use atomic_table::TableRule;
+use cal_model::book::Book;
+use std::snapshot::Snapshot;
+
+/// Each state that the lock's table can be in between two steps, which are those that keep its rule, is a ticket lock,
+/// opened with the entries and the base of the book that the snapshot has.
+pub fn holds_between_steps<B: Book>()
+    ensures law { (opened : _) (s : _) → ⟦<LockRule<B> as TableRule<Option<B>, View, Snapshot<B>>>⟧.holds opened s
+        → IsTicketLock B.entries B.base (B.entries opened.value) (B.base opened.value) (lock_of s) }
+{}

@@ -1,0 +1,20 @@
+//! What a pass knows, as its seat in the lock's table carries it.
+use std::marker::Model;
+
+/// What a pass knows. It takes no bytes: contracts alone see it.
+#[derive(Drop)]
+pub struct View {}
+
+impl Model for View {
+    ghost use Rattle.std.specs.Prelude.{[]};
+    ghost use Rattle.std.specs.Coded.{codes};
+    ghost use Rattle.cal_model.specs.DataCode.{data_code};
+    ghost use Rattle.cal_model.specs.Lock.{PassView};
+    ghost use Rattle.cal_model.specs.LockSteps.{new_pass};
+
+    ghost Value = { PassView };
+
+    ghost coded = { Prim.hlevel (codes, data_code) };
+
+    ghost view = { λ _. new_pass 0 [] (record { account_id = []; zones = [] }) };
+}
