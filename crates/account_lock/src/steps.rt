@@ -33,6 +33,10 @@ const COUNT: usize = 2;
 /// The low bits of a word, on which a thread can sleep.
 const LOW_BITS: u64 = 0xffff_ffff;
 
+/// How often a pass looks which ticket is served before it sleeps: that takes about as long as to fall asleep and to
+/// be woken, and most turns end sooner.
+const LOOKS_AWAKE: u32 = 2000;
+
 /// Takes the next ticket, and gives its number.
 pub(crate) fn take_ticket<B: Book>(board: &Board<B>, seat: &mut PassSeat<B>) -> u64
     requires board { (seat.old.table_id ≡ board.now.table_id) × (board.now.table_id.words ≡ 3) }
@@ -43,8 +47,8 @@ pub(crate) fn take_ticket<B: Book>(board: &Board<B>, seat: &mut PassSeat<B>) -> 
     board.fetch_add::<TakeTicket>(seat, TICKET, 1)
 }
 
-/// Waits until the ticket is served, and takes the slot with the book. Between two looks the thread sleeps
-/// while the same ticket is served.
+/// Waits until the ticket is served, and takes the slot with the book. The thread soon sleeps, until another ticket
+/// is served.
 pub(crate) fn await_turn<B: Book, R: Wait>(
     rt: &R,
     board: &Board<B>,
@@ -56,12 +60,17 @@ pub(crate) fn await_turn<B: Book, R: Wait>(
     ensures same { (seat.new.table_id ≡ seat.old.table_id) × (seat.new.id ≡ seat.old.id) }
     ensures turn { HasTurn B.entries B.base seat.old.me seat.new.me }
 {
+    let mut looks = 0;
     for _ in rt.forever() {
         let served = board.load::<Look>(seat, SERVING);
         if served == ticket {
             return;
         }
-        board.park(rt, SERVING, (served & LOW_BITS) as u32);
+        if looks < LOOKS_AWAKE {
+            looks += 1;
+        } else {
+            board.park(rt, SERVING, (served & LOW_BITS) as u32);
+        }
     }
     unreachable!()
 }
