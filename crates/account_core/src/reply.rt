@@ -87,7 +87,11 @@ fn created(alloc: Global, create: &Member, change: &Change) -> Result<Member, Al
 }
 
 /// What the reply tells of all creates.
-fn all_created(alloc: Global, creates: &[Member], changes: &[Change]) -> Result<Vec<Member>, AllocError>
+fn all_created(
+    alloc: Global,
+    creates: &[Member],
+    changes: &[Change],
+) -> Result<Vec<Member>, AllocError>
     requires { length creates.now ≡ length changes.now }
     ensures { IfOk result (λ v. map pair_of v.items ≡ map created_member (zip (map pair_of creates.now) changes.now)) }
 {
@@ -99,7 +103,11 @@ fn all_created(alloc: Global, creates: &[Member], changes: &[Change]) -> Result<
 }
 
 /// The creation ids, each with the id that the object got.
-fn created_ids(alloc: Global, creates: &[Member], changes: &[Change]) -> Result<Vec<(Text, Text)>, AllocError>
+fn created_ids(
+    alloc: Global,
+    creates: &[Member],
+    changes: &[Change],
+) -> Result<Vec<(Text, Text)>, AllocError>
     requires { length creates.now ≡ length changes.now }
     ensures { IfOk result (λ v. v.items ≡ map created_id (zip (map pair_of creates.now) changes.now)) }
 {

@@ -1,10 +1,10 @@
 -- Keys that rise from each to the next rise from each to every later one, so they are distinct.
-use Rattle.std.proofs.Common.{◌≡◌, ◌≢◌, ℕ, List, [], ◌∷◌, ◌&&◌, Bool, true, false, refl, Less, Equal, Greater, Ordering}
+use Rattle.std.proofs.Common.{◌≡◌, ℕ, List, [], ◌∷◌, ◌&&◌, Bool, true, false, refl, Less, Equal, Greater, Ordering}
 use Rattle.std.proofs.lemmas.Cmp.{nat_list_cmp_total}
 use Rattle.std.specs.Cmp.Lexicographic.{slice_cmp}
 use Rattle.std.specs.Ordering.{nat_cmp, is_lt}
 use Rattle.cal_model.specs.Data.{Pair}
-use Rattle.cal_model.specs.ObjectKeys.{is_above, keys_rise}
+use Rattle.cal_model.specs.ObjectKeys.{is_above}
 
 pub both : (x y : Bool) → (x && y) ≡ true → (x ≡ true) × (y ≡ true)
 both true y h = (refl, h)

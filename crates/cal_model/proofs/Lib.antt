@@ -1,4 +1,5 @@
 pub mod KeyOrder
+pub mod EditLemmas
 pub mod SameLists
 pub mod OutsideLemmas
 pub mod IntRing

@@ -1,7 +1,7 @@
 -- The test of two lists, as a loop over both makes it.
-use Rattle.std.proofs.Common.{◌≡◌, ◌≢◌, ℕ, suc, List, [], ◌∷◌, ◌&&◌, Bool, true, false, length, map, refl, ap, arith}
-use Rattle.cal_model.specs.Data.{Data, items_of, members_of, Pair}
-use Rattle.cal_model.specs.SameData.{same_data, same_items, same_members}
+use Rattle.std.proofs.Common.{◌≡◌, ◌≢◌, suc, List, [], ◌∷◌, ◌&&◌, Bool, true, false, length, map, refl, ap, arith}
+use Rattle.cal_model.specs.Data.{items_of, members_of}
+use Rattle.cal_model.specs.SameData.{same_items, same_members}
 use Rattle.cal_model.specs.TreeData.{data_of, pair_of}
 use Rattle.cal_model.specs.declared.tree.Member.{Member}
 use Rattle.cal_model.specs.declared.tree.Tree.{Tree}

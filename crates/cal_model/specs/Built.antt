@@ -1,5 +1,5 @@
 -- The forms of a request that are built. A request of another form is refused as not built, before any call.
-use Rattle.std.specs.Prelude.{ℕ, List, ◌∷◌, ◌==◌, ◌+◌, ◌&&◌, ◌||◌, Bool, true, false, not, length, Option, Some, None, codes, nat_lt, is_some, sum_by, unwrap_or, slice_index}
+use Rattle.std.specs.Prelude.{ℕ, List, ◌==◌, ◌&&◌, ◌||◌, Bool, false, not, length, Option, Some, None, codes, nat_lt, is_some, sum_by, unwrap_or, slice_index}
 use Rattle.std.specs.List.{list_all, list_any}
 use Rattle.std.specs.Str.{bytes_eq}
 use Rattle.cal_model.specs.Answer.{are_plain}

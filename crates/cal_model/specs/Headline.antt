@@ -1,5 +1,5 @@
 -- What a run of `batch` does, whatever bytes come: the main theorem's statement.
-use Rattle.std.specs.Prelude.{◌≡◌, ◌≤◌, ℕ, ℤ, pos, List, [], ◌∷◌, ◌++◌, Bool, true, false, Option, Some, None, length, nat_lt, if◌then◌else◌}
+use Rattle.std.specs.Prelude.{◌≡◌, ◌≤◌, ◌+◌, ℕ, ℤ, pos, List, [], ◌∷◌, ◌++◌, Bool, true, false, Option, Some, None, length, nat_lt, if◌then◌else◌}
 use Rattle.std.specs.Int.{int_min, int_max}
 use Rattle.std.specs.Io.KnownBytes.{Consumes, IsAtEnd}
 use Rattle.cal_model.specs.Base.{Base}
@@ -55,11 +55,12 @@ IsAnswer moment (refused e) reply = reply ≡ problem e
 abbrev pub clamped : ℤ → ℤ
 clamped moment = int_max (pos 0) (int_min moment (pos 253370764799))
 
--- The input was read to its end, or past the most bytes of a request; the clock was read once; and this is the text
--- of the answer to these bytes at that moment, with a line feed.
+-- The input was read to its end, or to one byte past the most of a request; the clock was read once; and this is the
+-- text of the answer to these bytes at that moment, with a line feed.
 pub record Answers (left left' : Option (List ℕ)) (moments moments' : Option (ℕ → ℤ)) (is_refusal : Bool) (text : List ℕ) : Type 0 where
   pub bytes : List ℕ
   pub consumed : Consumes left left' bytes
+  pub most : length bytes ≤ max_size_request + 1
   pub whole : length bytes ≤ max_size_request → IsAtEnd left'
   pub moment : ℤ
   pub ticked : Ticks moments moments' moment

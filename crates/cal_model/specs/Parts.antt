@@ -1,6 +1,6 @@
 -- Values of a kind of JSON.
 use Rattle.std.specs.Prelude.{ℕ, List, [], ◌∷◌, Bool, true, false, Option, Some, None, option_map, option_and_then, unwrap_or}
-use Rattle.cal_model.specs.Data.{Data, null, text, list, object, Pair, field, pairs_of, list_of}
+use Rattle.cal_model.specs.Data.{Data, null, text, list, object, Pair, pairs_of, list_of}
 
 abbrev pub is_null : Data → Bool
 is_null null = true

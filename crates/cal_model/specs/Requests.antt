@@ -1,5 +1,5 @@
 -- What bytes are a request (RFC 8620 sections 3.2, 3.3 and 3.6.1).
-use Rattle.std.specs.Prelude.{ℕ, List, [], ◌∷◌, ◌==◌, length, get_or, Option, Some, None, option_map, option_and_then, if◌then◌else◌, codes}
+use Rattle.std.specs.Prelude.{ℕ, List, ◌==◌, length, get_or, Option, Some, None, option_map, option_and_then, if◌then◌else◌, codes}
 use Rattle.cal_model.specs.Data.{Data, null, object, Pair, field, pairs_of}
 use Rattle.cal_model.specs.Id.{is_id}
 use Rattle.cal_model.specs.Parts.{as_text, as_list, as_object, all_some}

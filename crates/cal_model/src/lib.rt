@@ -4,6 +4,7 @@
 pub mod book;
 pub mod call;
 pub mod entry;
+pub mod ids;
 pub mod lists;
 pub mod lock;
 pub mod method;

@@ -50,6 +50,13 @@ impl Invocations {
     {
         &self.items
     }
+
+    /// Gives the calls up, in order. Takes no memory.
+    pub fn into_items(self) -> Vec<Invocation>
+        ensures { result.items ≡ self }
+    {
+        self.items
+    }
 }
 
 /// A request (RFC 8620 section 3.3).

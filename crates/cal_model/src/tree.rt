@@ -4,6 +4,8 @@ ghost use Rattle.cal_model.specs.Data.{items_of, members_of};
 ghost use Rattle.cal_model.specs.SameData.{same_items, same_members};
 ghost use Rattle.cal_model.specs.TreeData.{data_of, pair_of};
 
+mod edit;
+
 use crate::num::Num;
 use crate::text::Text;
 use std::alloc::AllocError;
@@ -111,6 +113,17 @@ impl Tree {
         }
     }
 
+    /// Gives up all but the value at a key, where this is an object that has it. Takes no memory.
+    #[tactic(auto, using(crate::specs::Data::pairs_back))]
+    pub fn into_value(self, key: &str) -> Option<Tree>
+        ensures { option_map data_of result ≡ field key.now (data_of self) }
+    {
+        match self {
+            Tree::Object(object) => object.into_value(key),
+            _ => None,
+        }
+    }
+
     /// Gives an equal tree.
     #[cycle(copy)]
     pub fn copy(&self) -> Result<Tree, AllocError>
@@ -142,6 +155,13 @@ impl TreeList {
         ensures { map data_of result.now.items ≡ self.now }
     {
         &self.items
+    }
+
+    /// Gives the items up. Takes no memory.
+    pub fn into_items(self) -> Vec<Tree>
+        ensures { map data_of result.items ≡ self }
+    {
+        self.items
     }
 
     /// Gives an equal list.
@@ -186,6 +206,18 @@ impl TreeObject {
         for member in &self.members {
             if member.key.as_str() == key {
                 return Some(&member.value);
+            }
+        }
+        None
+    }
+
+    /// Gives up all but the value at a key. Takes no memory.
+    pub fn into_value(self, key: &str) -> Option<Tree>
+        ensures { option_map data_of result ≡ lookup key.now self }
+    {
+        for Member { key: found, value } in self.members {
+            if found.as_str() == key {
+                return Some(value);
             }
         }
         None

@@ -1,18 +1,19 @@
 -- What was read, answered and put together is an answer.
-use Rattle.std.proofs.Common.{◌≡◌, ◌≤◌, ℕ, ℤ, List, Option, Bool, length, subst}
+use Rattle.std.proofs.Common.{◌≡◌, ◌≤◌, ◌+◌, ℕ, ℤ, List, Option, Bool, length, subst}
 use Rattle.std.specs.Io.KnownBytes.{Consumes, IsAtEnd}
 use Rattle.cal_model.specs.Headline.{Answers, IsAnswer, asked_in, clamped, is_refused, max_size_request}
 use Rattle.cal_model.specs.Outside.{Ticks}
 use Rattle.jmapd_run.specs.Texts.{IsText}
 
 pub answers_with : {left left' : Option (List ℕ)} {moments moments' : Option (ℕ → ℤ)} (bytes slice text : List ℕ) (told moment : ℤ) (is_refusal : Bool)
-    → Consumes left left' bytes → (length bytes ≤ max_size_request → IsAtEnd left') → Ticks moments moments' told → slice ≡ bytes → moment ≡ clamped told
+    → Consumes left left' bytes → length bytes ≤ max_size_request + 1 → (length bytes ≤ max_size_request → IsAtEnd left') → Ticks moments moments' told → slice ≡ bytes → moment ≡ clamped told
     → IsText moment slice text → is_refused (asked_in slice) ≡ is_refusal → Answers left left' moments moments' is_refusal text
-answers_with bytes slice text told moment is_refusal consumed whole ticked same clamps is_text refusal =
+answers_with bytes slice text told moment is_refusal consumed most whole ticked same clamps is_text refusal =
     let here : IsText moment bytes text = subst (λ b. IsText moment b text) same is_text in
     record {
       bytes = bytes;
       consumed = consumed;
+      most = most;
       whole = whole;
       moment = told;
       ticked = ticked;

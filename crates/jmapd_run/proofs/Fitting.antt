@@ -1,5 +1,5 @@
 -- The responses that are made one after the other fit.
-use Rattle.std.proofs.Common.{◌≡◌, ℕ, ℤ, List, [], ◌∷◌, refl, subst, sym}
+use Rattle.std.proofs.Common.{◌≡◌, ℕ, ℤ, List, [], ◌∷◌, refl}
 use Rattle.cal_model.specs.Base.{Base}
 use Rattle.cal_model.specs.Batch.{Fits, history_to, response_at, turns_to}
 use Rattle.cal_model.specs.Data.{Data}

@@ -43,7 +43,11 @@ fn set_call(alloc: Global, arguments: &TreeObject) -> Result<Call, AllocError>
 }
 
 /// The account's call, where the method has an account.
-fn account_call(alloc: Global, method: Method, arguments: &TreeObject) -> Result<Option<Call>, AllocError>
+fn account_call(
+    alloc: Global,
+    method: Method,
+    arguments: &TreeObject,
+) -> Result<Option<Call>, AllocError>
     ensures { IfOk result (λ c. c ≡ call_of method arguments.now) }
 {
     match method {
@@ -59,7 +63,12 @@ fn account_call(alloc: Global, method: Method, arguments: &TreeObject) -> Result
 }
 
 /// A response (RFC 8620 section 3.4).
-fn response_tree(alloc: Global, name: &str, arguments: Tree, call_id: &Text) -> Result<Tree, AllocError>
+fn response_tree(
+    alloc: Global,
+    name: &str,
+    arguments: Tree,
+    call_id: &Text,
+) -> Result<Tree, AllocError>
     ensures { IfOk result (λ t. data_of t ≡ response name.now (data_of arguments) call_id.now) }
 {
     let name = Tree::Text(Text::from_str(alloc, name)?);
@@ -95,18 +104,23 @@ fn reply_tree(alloc: Global, call: &Invocation, reply: Reply) -> Result<Tree, Al
     }
 }
 
-fn echo(alloc: Global, call: &Invocation) -> Result<Tree, AllocError>
-    ensures { IfOk result (λ t. data_of t ≡ response call.now.name (object (members_of call.now.arguments)) call.now.call_id) }
+fn echo(alloc: Global, call: Invocation) -> Result<Tree, AllocError>
+    ensures { IfOk result (λ t. data_of t ≡ response call.name (object (members_of call.arguments)) call.call_id) }
 {
-    let arguments = Tree::Object(call.arguments.copy()?);
-    response_tree(alloc, call.name.as_str(), arguments, &call.call_id)
+    let Invocation {
+        name,
+        arguments,
+        call_id,
+    } = call;
+    let arguments = Tree::Object(arguments);
+    response_tree(alloc, name.as_str(), arguments, &call_id)
 }
 
 /// An account, and how many calls were made on it.
 #[derive(Drop)]
-pub struct Turns {
-    pub account: Account,
-    pub made: u64,
+struct Turns {
+    account: Account,
+    made: u64,
 }
 
 /// Makes one call, at a moment in seconds of UTC from 1970.
@@ -114,13 +128,13 @@ fn answer_one(
     alloc: Global,
     turns: &mut Turns,
     using_names: &[Text],
-    call: &Invocation,
+    call: Invocation,
     moment: &i64,
 ) -> Result<Tree, AllocError>
     requires { turns.old.made < 2 ^ 64 - 1 }
-    ensures response { IfOk result (λ t. data_of t ≡ response_at turns.old.account.0 using_names.now moment.now turns.old.made turns.old.account.1 call.now) }
-    ensures made { OnOk result (turns.new.made ≡ turns_to turns.old.account.0 using_names.now moment.now turns.old.made call.now) }
-    ensures history { OnOk result (turns.new.account.1 ≡ history_to turns.old.account.0 using_names.now moment.now turns.old.made turns.old.account.1 call.now) }
+    ensures response { IfOk result (λ t. data_of t ≡ response_at turns.old.account.0 using_names.now moment.now turns.old.made turns.old.account.1 call) }
+    ensures made { OnOk result (turns.new.made ≡ turns_to turns.old.account.0 using_names.now moment.now turns.old.made call) }
+    ensures history { OnOk result (turns.new.account.1 ≡ history_to turns.old.account.0 using_names.now moment.now turns.old.made turns.old.account.1 call) }
     ensures base { turns.new.account.0 ≡ turns.old.account.0 }
 {
     let Some(method) = method_in_use(using_names, call.name.as_str()) else {
@@ -131,37 +145,35 @@ fn answer_one(
         Some(asked) => {
             turns.made += 1;
             let reply = turns.account.act(AUTHOR, turns.made, &asked, *moment)?;
-            reply_tree(alloc, call, reply)
+            reply_tree(alloc, &call, reply)
         }
     }
 }
 
 /// Makes the calls of a request on a fresh account, one after the other, at a moment in seconds of UTC from 1970.
-fn answer_all(alloc: Global, request: &Request, moment: &i64) -> Result<Vec<Tree>, AllocError>
-    ensures { IfOk result (λ v. Fits fresh request.now.using moment.now 0 [] request.now.calls (map data_of v.items)) }
+fn answer_all(alloc: Global, request: Request, moment: &i64) -> Result<Vec<Tree>, AllocError>
+    ensures { IfOk result (λ v. Fits fresh request.using moment.now 0 [] request.calls (map data_of v.items)) }
 {
     let id = Text::from_str(alloc, ONLY_ACCOUNT)?;
     let mut turns = Turns {
         account: Account::open(alloc, id)?,
         made: 0,
     };
-    let calls = request.calls.items();
+    let Request { using, calls, .. } = request;
+    let calls = calls.into_items();
     let mut responses = Vec::with_capacity(alloc, calls.len())?;
     for call in calls {
-        responses.push(answer_one(alloc, &mut turns, request.using.items(), call, moment)?)?;
+        responses.push(answer_one(alloc, &mut turns, using.items(), call, moment)?)?;
     }
     Ok(responses)
 }
 
 /// The response to a request, which finds a fresh account (RFC 8620 section 3.4).
-pub fn response_to(alloc: Global, request: &Request, moment: &i64) -> Result<Tree, AllocError>
-    ensures { IfOk result (λ t. IsAnswer moment.now (asked request.now) (data_of t)) }
+pub fn response_to(alloc: Global, request: Request, moment: &i64) -> Result<Tree, AllocError>
+    ensures { IfOk result (λ t. IsAnswer moment.now (asked request) (data_of t)) }
 {
     let responses = Tree::List(TreeList::new(answer_all(alloc, request, moment)?));
     let state = Tree::Text(Text::from_str(alloc, "1")?);
-    let members = vec![in alloc;
-        ("methodResponses", responses),
-        ("sessionState", state),
-    ]?;
+    let members = vec![in alloc; ("methodResponses", responses), ("sessionState", state)]?;
     Tree::object(alloc, members)
 }

@@ -17,6 +17,7 @@ use cal_model::tree::{Member, Tree, TreeObject};
 pub const ONLY_ACCOUNT: &str = "A1";
 /// The most calls of a request, and the most creates of all of them together.
 const MOST_CALLS: usize = 16;
+
 const MOST_CREATES: usize = 500;
 
 fn is_used(using_names: &[Text], capability: &str) -> bool

@@ -1,8 +1,8 @@
 //! Requests from trees.
-ghost use Rattle.std.specs.Prelude.{◌≡◌, IfOk, Some, None, codes, map, option_map, option_and_then};
+ghost use Rattle.std.specs.Prelude.{◌≡◌, ◌≢◌, [], ◌∷◌, IfOk, IfSome, IfNone, Some, None, codes, length, map, option_map, option_and_then};
 ghost use Rattle.cal_model.specs.Data.{Data, field, null};
 ghost use Rattle.cal_model.specs.Parts.{all_some, as_list, as_object, as_text};
-ghost use Rattle.cal_model.specs.Requests.{created_ids_of, id_in, id_pair, invocation_in, invocation_of, list_at, request_of, request_with};
+ghost use Rattle.cal_model.specs.Requests.{created_ids_of, id_in, id_pair, invocation_in, invocation_of, invocation_with, list_at, request_of, request_with};
 ghost use Rattle.cal_model.specs.TreeData.{data_of, pair_of};
 
 use account_core::plain::is_id_text;
@@ -51,40 +51,84 @@ fn list_at_key<'a>(tree: &'a Tree, key: &str) -> Option<&'a TreeList>
     }
 }
 
-fn invocation(name: &Text, arguments: &TreeObject, call_id: &Text) -> Result<Invocation, AllocError>
-    ensures { IfOk result (λ c. c ≡ record { name = name.now; arguments = arguments.now; call_id = call_id.now }) }
+fn into_text(tree: Tree) -> Option<Text>
+    ensures { result ≡ as_text (data_of tree) }
 {
-    Ok(Invocation {
-        name: name.copy()?,
-        arguments: arguments.copy()?,
-        call_id: call_id.copy()?,
-    })
+    match tree {
+        Tree::Text(text) => Some(text),
+        _ => None,
+    }
 }
 
-fn invocation_from(tree: &Tree) -> Result<Option<Invocation>, AllocError>
-    ensures { IfOk result (λ c. c ≡ invocation_of (data_of tree.now)) }
+#[tactic(auto, using(cal_model::specs::Data::items_back))]
+fn into_list(tree: Tree) -> Option<TreeList>
+    ensures { result ≡ as_list (data_of tree) }
 {
-    let Some(list) = list_in(tree) else {
-        return Ok(None);
-    };
-    let items = list.items();
+    match tree {
+        Tree::List(list) => Some(list),
+        _ => None,
+    }
+}
+
+#[tactic(auto, using(cal_model::specs::Data::pairs_back))]
+fn into_object(tree: Tree) -> Option<TreeObject>
+    ensures { result ≡ as_object (data_of tree) }
+{
+    match tree {
+        Tree::Object(object) => Some(object),
+        _ => None,
+    }
+}
+
+/// The items, where there are three.
+fn three_of(items: Vec<Tree>) -> Option<(Tree, Tree, Tree)>
+    ensures some { IfSome result (λ three. items.items ≡ three.0 ∷ three.1 ∷ three.2 ∷ []) }
+    ensures none { IfNone result (length items.items ≢ 3) }
+{
+    let mut items = items;
     if items.len() != 3 {
-        return Ok(None);
+        return None;
     }
-    match (text_in(&items[0]), object_in(&items[1]), text_in(&items[2])) {
-        (Some(name), Some(arguments), Some(id)) => Ok(Some(invocation(name, arguments, id)?)),
-        _ => Ok(None),
+    let third = items.pop()?;
+    let second = items.pop()?;
+    let first = items.pop()?;
+    Some((first, second, third))
+}
+
+fn invocation(
+    name: Option<Text>,
+    arguments: Option<TreeObject>,
+    call_id: Option<Text>,
+) -> Option<Invocation>
+    ensures { result ≡ invocation_with name arguments call_id }
+{
+    match (name, arguments, call_id) {
+        (Some(name), Some(arguments), Some(call_id)) => Some(Invocation {
+            name,
+            arguments,
+            call_id,
+        }),
+        _ => None,
     }
+}
+
+fn invocation_from(tree: Tree) -> Option<Invocation>
+    ensures { result ≡ invocation_of (data_of tree) }
+{
+    let list = into_list(tree)?;
+    let (name, arguments, call_id) = three_of(list.into_items())?;
+    invocation(into_text(name), into_object(arguments), into_text(call_id))
 }
 
 /// All method calls of a list, where each of its items is one.
 #[tactic(auto, using(crate::proofs::Lists::push_option))]
-fn invocations_from(alloc: Global, list: &TreeList) -> Result<Option<Vec<Invocation>>, AllocError>
-    ensures { IfOk result (λ o. option_map (λ v. v.items) o ≡ all_some invocation_of list.now) }
+fn invocations_from(alloc: Global, list: TreeList) -> Result<Option<Vec<Invocation>>, AllocError>
+    ensures { IfOk result (λ o. option_map (λ v. v.items) o ≡ all_some invocation_of list) }
 {
-    let mut calls = Vec::with_capacity(alloc, list.items().len())?;
-    for item in list.items() {
-        match invocation_from(item)? {
+    let items = list.into_items();
+    let mut calls = Vec::with_capacity(alloc, items.len())?;
+    for item in items {
+        match invocation_from(item) {
             Some(call) => calls.push(call)?,
             None => return Ok(None),
         }
@@ -151,7 +195,10 @@ fn id_pairs_from(alloc: Global, members: &[Member]) -> Result<Option<Vec<(Text, 
 
 /// The created ids that a request begins with, or none, where the member `createdIds` is of the right shape.
 #[tactic(auto, using(cal_model::specs::Data::pairs_back))]
-fn created_ids_from(alloc: Global, member: Option<&Tree>) -> Result<Option<Option<Pairs>>, AllocError>
+fn created_ids_from(
+    alloc: Global,
+    member: Option<&Tree>,
+) -> Result<Option<Option<Pairs>>, AllocError>
     ensures { IfOk result (λ o. o ≡ created_ids_of (option_map (λ t. data_of t.now) member.entry)) }
 {
     match member {
@@ -182,18 +229,28 @@ fn request_from_parts(
     }
 }
 
-/// The request that a tree is, where it is one (RFC 8620 section 3.3).
-pub fn request_from(alloc: Global, tree: &Tree) -> Result<Option<Request>, AllocError>
-    ensures { IfOk result (λ r. r ≡ request_of (data_of tree.now)) }
+fn calls_in(tree: Tree) -> Option<TreeList>
+    ensures { result ≡ list_at (codes "methodCalls") (data_of tree) }
 {
-    let using = match list_at_key(tree, "using") {
+    match tree.into_value("methodCalls") {
+        Some(found) => into_list(found),
+        None => None,
+    }
+}
+
+/// The request that a tree is, where it is one (RFC 8620 section 3.3). The arguments of its calls are moved out of the
+/// tree, and all else is copied.
+pub fn request_from(alloc: Global, tree: Tree) -> Result<Option<Request>, AllocError>
+    ensures { IfOk result (λ r. r ≡ request_of (data_of tree)) }
+{
+    let using = match list_at_key(&tree, "using") {
         Some(list) => texts_from(alloc, list)?,
         None => None,
     };
-    let calls = match list_at_key(tree, "methodCalls") {
+    let created_ids = created_ids_from(alloc, tree.get("createdIds"))?;
+    let calls = match calls_in(tree) {
         Some(list) => invocations_from(alloc, list)?,
         None => None,
     };
-    let created_ids = created_ids_from(alloc, tree.get("createdIds"))?;
     Ok(request_from_parts(using, calls, created_ids))
 }

@@ -36,8 +36,8 @@ enum Input {
     Refused(RequestError),
 }
 
-fn input_from_tree(alloc: Global, tree: &Tree) -> Result<Input, AllocError>
-    ensures { IfOk result (λ i. asked_as i ≡ asked_by_request (request_of (data_of tree.now))) }
+fn input_from_tree(alloc: Global, tree: Tree) -> Result<Input, AllocError>
+    ensures { IfOk result (λ i. asked_as i ≡ asked_by_request (request_of (data_of tree))) }
 {
     match request_from(alloc, tree)? {
         None => Ok(Input::Refused(RequestError::NotRequest)),
@@ -58,7 +58,7 @@ fn input_from(alloc: Global, bytes: &[u8]) -> Result<Input, AllocError>
         return Ok(Input::Refused(RequestError::NotBuilt));
     }
     match read_tree(alloc, bytes) {
-        Ok(tree) => input_from_tree(alloc, &tree),
+        Ok(tree) => input_from_tree(alloc, tree),
         Err(JsonError::NotJson) => Ok(Input::Refused(RequestError::NotJson)),
         Err(JsonError::NotWhole) => Ok(Input::Refused(RequestError::NotRequest)),
         Err(JsonError::NoMemory) => Err(AllocError),
@@ -74,12 +74,12 @@ fn is_refusal(input: &Input) -> bool
     }
 }
 
-fn reply_tree(alloc: Global, input: &Input, moment: &i64) -> Result<Tree, AllocError>
-    ensures { IfOk result (λ t. IsAnswer moment.now (asked_as input.now) (data_of t)) }
+fn reply_tree(alloc: Global, input: Input, moment: &i64) -> Result<Tree, AllocError>
+    ensures { IfOk result (λ t. IsAnswer moment.now (asked_as input) (data_of t)) }
 {
     match input {
         Input::Request(request) => response_to(alloc, request, moment),
-        Input::Refused(error) => problem_tree(alloc, *error),
+        Input::Refused(error) => problem_tree(alloc, error),
     }
 }
 
@@ -96,13 +96,11 @@ fn answer_to(alloc: Global, bytes: &[u8], moment: &i64) -> Result<Answer, AllocE
     ensures refusal { IfOk result (λ a. is_refused (asked_in bytes.now) ≡ a.is_refusal) }
 {
     let input = input_from(alloc, bytes)?;
-    let tree = reply_tree(alloc, &input, moment)?;
+    let is_refusal = is_refusal(&input);
+    let tree = reply_tree(alloc, input, moment)?;
     let mut text = tree_text(alloc, &tree)?;
     text.push(b'\n')?;
-    Ok(Answer {
-        text,
-        is_refusal: is_refusal(&input),
-    })
+    Ok(Answer { text, is_refusal })
 }
 
 /// The moment nearest to this one that lies from 1970 to the end of the year 9998.

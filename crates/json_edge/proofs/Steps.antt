@@ -1,5 +1,5 @@
 -- One more item of what was converted.
-use Rattle.std.proofs.Common.{◌≡◌, ℕ, List, [], ◌∷◌, ◌++◌, Option, Some, None, option_map, option_and_then, Bool, true, false, refl, sym, ap, ◌∙◌, append_assoc, String, Global, string_cmp, string_bytes, Less}
+use Rattle.std.proofs.Common.{◌≡◌, ℕ, List, [], ◌∷◌, ◌++◌, Option, Some, None, option_map, option_and_then, Bool, true, false, refl, sym, ap, append_assoc, String, Global, string_cmp, string_bytes, Less}
 use Rattle.std.specs.List.{AllByRecursion}
 use Rattle.std.specs.List.Sorted.{IsStrictlySortedBy}
 use Rattle.std.specs.Map.{keys_of}
@@ -13,7 +13,7 @@ use Rattle.json.specs.Print.{print}
 use Rattle.serde_json.proofs.Texts.{print-outline}
 use Rattle.cal_model.specs.Json.{json_of, text_of}
 use Rattle.json_edge.specs.Tokens.{tokens_of}
-use Rattle.cal_model.specs.Json.{whole_of, whole_items, whole_members, reading, not_json, reading_of_whole}
+use Rattle.cal_model.specs.Json.{whole_of, whole_members, reading, not_json, reading_of_whole}
 use Rattle.serde_json.specs.Read.{read}
 use Rattle.std.specs.Str.{IsUtf8, is_utf8}
 use Rattle.std.proofs.lemmas.Str.{IsUtf8-from_is_utf8, is_utf8-from_IsUtf8}

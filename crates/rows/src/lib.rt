@@ -1,6 +1,10 @@
-//! Tests across the crates, a module a subject.
+//! Worked examples: what the crates below answer to inputs whose answers are known from outside, a module a subject.
 #![tactic(auto)]
 
+#[cfg(test)]
+mod batches;
+#[cfg(test)]
+mod civil_dates;
 #[cfg(test)]
 mod congruences;
 #[cfg(test)]
@@ -9,3 +13,4 @@ mod lock;
 mod outside;
 #[cfg(test)]
 mod reporting_book;
+pub mod words;

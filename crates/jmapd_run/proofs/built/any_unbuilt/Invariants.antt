@@ -1,8 +1,6 @@
-use Rattle.std.proofs.Common.{◌≡◌, drop, map}
-use Rattle.std.specs.List.{list_all, list_any}
-use Rattle.cal_model.specs.Built.{asks_for_all, is_reference, is_unbuilt_call, only_creates}
-use Rattle.cal_model.specs.Methods.{is_capability, uses}
-use Rattle.cal_model.specs.TreeData.{pair_of}
+use Rattle.std.proofs.Common.{◌≡◌, drop}
+use Rattle.std.specs.List.{list_any}
+use Rattle.cal_model.specs.Built.{is_unbuilt_call}
 use Rattle.jmapd_run.proofs.built.any_unbuilt.Given as goal
 
 abbrev pub invariant-loop-call : goal.invariant-loop-call

@@ -1,6 +1,5 @@
 use Rattle.std.proofs.Common.{◌≡◌, ◌++◌, drop, map, option_map}
 use Rattle.cal_model.specs.Parts.{all_some, as_text}
-use Rattle.cal_model.specs.Requests.{invocation_of}
 use Rattle.cal_model.specs.TreeData.{data_of}
 use Rattle.jmapd_run.proofs.request.texts_from.Given as goal
 

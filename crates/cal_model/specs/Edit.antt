@@ -1,0 +1,16 @@
+-- Objects with a member put in or taken out.
+use Rattle.std.specs.Prelude.{ℕ, List, [], ◌∷◌, if◌then◌else◌}
+use Rattle.std.specs.Cmp.Lexicographic.{slice_cmp}
+use Rattle.std.specs.Ordering.{nat_cmp, is_lt}
+use Rattle.std.specs.Str.{bytes_eq}
+use Rattle.cal_model.specs.Data.{Data, Pair}
+
+-- the members with this one, in the place of one of the same key
+abbrev pub with_pair : List ℕ → Data → List Pair → List Pair
+with_pair k v [] = (k, v) ∷ []
+with_pair k v (p ∷ ps) = if is_lt (slice_cmp nat_cmp p.0 k) then p ∷ with_pair k v ps else if bytes_eq p.0 k then (k, v) ∷ ps else (k, v) ∷ p ∷ ps
+
+-- the members without that of a key
+abbrev pub without : List ℕ → List Pair → List Pair
+without k [] = []
+without k (p ∷ ps) = if bytes_eq p.0 k then ps else p ∷ without k ps

@@ -1,0 +1,113 @@
+//! Patches of a tree.
+ghost use Rattle.std.specs.Prelude.{◌≡◌, ◌<◌, IfErr, IfOk, Ok, Some, false, length};
+ghost use Rattle.std.specs.List.{list_any};
+ghost use Rattle.cal_model.specs.Patch.{fails, has_parent, is_prefix, patched};
+ghost use Rattle.cal_model.specs.Pointer.{parts};
+ghost use Rattle.cal_model.specs.TreeData.{data_of};
+ghost use Rattle.patch_object.specs.Reports.{Reports, ReportsKey};
+ghost use Rattle.patch_object.specs.declared.patch.PatchError.TheVariants.{InvalidPatch, NoMemory};
+
+use crate::place::place;
+use crate::pointer::{Pointer, PointerError, value_at_parts};
+use cal_model::text::Text;
+use cal_model::tree::{Tree, TreeObject};
+use std::alloc::{AllocError, AllocFailed, Global};
+
+/// Why there is no patched tree.
+#[derive(Drop)]
+pub enum PatchError {
+    /// A key of the patch fails.
+    InvalidPatch {
+        /// The first such key, in byte order.
+        key: Text,
+    },
+    /// Memory was wanted.
+    NoMemory,
+}
+
+impl From<AllocError> for PatchError {
+    ghost from_gives = { λ _ error. error ≡ NoMemory };
+
+    fn from(_: AllocError) -> Self {
+        PatchError::NoMemory
+    }
+}
+
+impl<T: Drop> From<AllocFailed<T>> for PatchError {
+    ghost from_gives = { λ _ error. error ≡ NoMemory };
+
+    fn from(_: AllocFailed<T>) -> Self {
+        PatchError::NoMemory
+    }
+}
+
+/// Gives the tree with each member that the patch names put in, or removed where its value is null.
+///
+/// The keys of the patch are pointers into the tree. Nothing is created on the way to a member (RFC 8620 section 5.3): a
+/// key fails where it is no pointer, where a key before it is its prefix, and where the value that the member is to stand in
+/// isn't an object that is there. Takes memory for the new tree.
+pub fn apply(alloc: Global, tree: &Tree, patch: &TreeObject) -> Result<Tree, PatchError>
+    ensures ok { IfOk result (λ t. patched (data_of tree.now) patch.now ≡ Ok (data_of t)) }
+    ensures err { IfErr result (λ error. Reports error (patched (data_of tree.now) patch.now)) }
+{
+    let mut patched = tree.copy()?;
+    let mut earlier = Vec::new(alloc);
+    for member in patch.members() {
+        let pointer = tested_pointer(alloc, tree, &earlier, &member.key)?;
+        patched = place(patched, pointer.parts(), 0, &member.value)?;
+        earlier.push(pointer)?;
+    }
+    Ok(patched)
+}
+
+// The pointer that a key of a patch is, where the key doesn't fail.
+fn tested_pointer(
+    alloc: Global,
+    tree: &Tree,
+    earlier: &[Pointer],
+    key: &Text,
+) -> Result<Pointer, PatchError>
+    ensures pointer { IfOk result (λ pointer. parts key.now ≡ Some pointer) }
+    ensures passes { IfOk result (λ pointer. fails (data_of tree.now) earlier.now (Some pointer) ≡ false) }
+    ensures err { IfErr result (λ error. ReportsKey error key.now (fails (data_of tree.now) earlier.now (parts key.now))) }
+{
+    let pointer = match Pointer::read(alloc, key) {
+        Ok(pointer) => pointer,
+        Err(PointerError::NoMemory) => return Err(PatchError::NoMemory),
+        Err(PointerError::BadEscape) => return Err(PatchError::InvalidPatch { key: key.copy()? }),
+    };
+    if is_covered(earlier, pointer.parts()) || !has_parent_object(tree, pointer.parts()) {
+        return Err(PatchError::InvalidPatch { key: key.copy()? });
+    }
+    Ok(pointer)
+}
+
+// Whether one of the earlier pointers is a prefix of these parts.
+fn is_covered(earlier: &[Pointer], parts: &[Text]) -> bool
+    ensures { result ≡ list_any (λ e. is_prefix e parts.now) earlier.now }
+{
+    earlier.iter().any(|pointer| begins(parts, pointer.parts()))
+}
+
+// Whether these parts begin with those.
+fn begins(parts: &[Text], prefix: &[Text]) -> bool
+    ensures { result ≡ is_prefix prefix.now parts.now }
+{
+    for (i, part) in prefix.iter().enumerate() {
+        if i >= parts.len() || part.as_str() != parts[i].as_str() {
+            return false;
+        }
+    }
+    true
+}
+
+// Whether the value in which the last part stands is an object that is there.
+fn has_parent_object(tree: &Tree, parts: &[Text]) -> bool
+    requires { 0 < length parts.now }
+    ensures { result ≡ has_parent parts.now (data_of tree.now) }
+{
+    matches!(
+        value_at_parts(tree, &parts[..parts.len() - 1]),
+        Some(Tree::Object(_))
+    )
+}

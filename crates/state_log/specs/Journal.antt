@@ -1,0 +1,12 @@
+-- What a journal shows.
+use Rattle.std.specs.Prelude.{ℕ, ◌-◌, List, vec_capacity, vec_len}
+use Rattle.cal_model.specs.declared.entry.Entry.{Entry}
+use Rattle.state_log.specs.declared.journal.Journal.{Journal}
+
+-- its entries, of both kinds
+abbrev pub entries : Journal → List Entry
+entries j = j.entries.items
+
+-- how many more entries it takes without memory, at least
+abbrev pub spare : Journal → ℕ
+spare j = vec_capacity j.entries - vec_len j.entries

@@ -1,0 +1,32 @@
+//! The laws of pages, each the contract of a function that does nothing.
+ghost use Rattle.std.specs.Prelude.{◌≡◌, ◌≤◌, ◌<◌, ◌+◌, ◌-◌, ℕ, List, Option, Some, Bool, true, length, is_some};
+ghost use Rattle.cal_model.specs.History.{ids_at, object_at, state_at};
+ghost use Rattle.cal_model.specs.Pages.{Mention, ids_of, is_live, is_within, mentions, page_end, size_of_page};
+ghost use Rattle.cal_model.specs.PagesLead.{AreApart, held_after_all, last_state};
+ghost use Rattle.cal_model.specs.declared.entry.Change.{Change};
+ghost use Rattle.cal_model.specs.declared.entry.Kind.{Kind};
+
+/// Pages lead a client from one state to the next (RFC 8620 section 5.2).
+///
+/// No id stands in two lists of a page. A page from a state before the last gets on where at least one id is allowed. A client
+/// that holds the live ids of a state, and takes pages one after the other, each from the state that the last named, holds the
+/// live ids of the state that the last page names. Takes no memory.
+pub fn pages_lead()
+    ensures apart { (ms : List Mention) (k j : ℕ) → AreApart ms k j }
+    ensures gets_on { (ms : List Mention) (k most : ℕ) → k < length ms → 0 < most → k < page_end ms k (Some most) }
+    ensures leads { (ms : List Mention) (k : ℕ) (js : List ℕ) (id : ℕ) → held_after_all ms k js (is_live ms k) id ≡ is_live ms (last_state k js) id }
+{}
+
+/// A page ends at the greatest state at which it is within its limit. Takes no memory.
+pub fn pages_are_longest()
+    ensures end { (ms : List Mention) (k : ℕ) (most : Option ℕ) → k ≤ length ms → page_end ms k most ≤ length ms }
+    ensures within { (ms : List Mention) (k : ℕ) (most : Option ℕ) → is_within most (size_of_page ms k (page_end ms k most)) ≡ true }
+    ensures longest { (ms : List Mention) (k : ℕ) (most : Option ℕ) (j : ℕ) → k < j → j ≤ length ms → is_within most (size_of_page ms k j) ≡ true → j ≤ page_end ms k most }
+{}
+
+/// What pages call live at the state of a kind are the objects of the history, and their ids are those of the history. Takes no memory.
+pub fn states_show_objects()
+    ensures live { (cs : List Change) (kind : Kind) (id : ℕ) → is_live (mentions kind cs) (state_at cs kind) id ≡ is_some (object_at cs kind id) }
+    ensures ids { (cs : List Change) (kind : Kind) → ids_of (mentions kind cs) ≡ ids_at cs kind }
+    ensures state { (cs : List Change) (kind : Kind) → length (mentions kind cs) ≡ state_at cs kind }
+{}
