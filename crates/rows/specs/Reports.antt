@@ -1,6 +1,5 @@
 -- A counter book that also tells of its entries.
 use Rattle.std.specs.Prelude.{◌==◌, ◌-◌, List, [], ◌++◌, length, count_by, slice_get, Option, Some, None}
-use Rattle.cal_model.specs.Base.{Base}
 use Rattle.cal_model.specs.Signed.{AreSigned}
 use Rattle.cal_model.specs.declared.entry.Entry.{Entry}
 use Rattle.cal_model.specs.declared.stamp.Stamp.{Stamp}
