@@ -1,5 +1,6 @@
 pub mod KeyOrder
 pub mod EditLemmas
+pub mod MemberLemmas
 pub mod SameLists
 pub mod OutsideLemmas
 pub mod IntRing

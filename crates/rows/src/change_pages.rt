@@ -20,6 +20,7 @@ type Example = (
 );
 
 const PUT: bool = true;
+
 const REMOVE: bool = false;
 
 // Puts an entry at the end of a journal.
@@ -50,11 +51,25 @@ fn journal_of(rt: &impl Abort, alloc: Global, steps: &[Step]) -> Journal {
 
 fn assert_page(rt: &impl Abort, journal: &Journal, kind: Kind, example: &Example) {
     let (since, max, until, created, updated, destroyed) = example;
-    let page = journal.changes(kind, *since, *max).expect(rt, "the state is retained, and there is memory");
+    let page = journal
+        .changes(kind, *since, *max)
+        .expect(rt, "the state is retained, and there is memory");
     assert_eq!(rt; page.until, *until, "from {since} with {max:?}");
-    assert_eq!(rt; page.created.items().as_slice(), *created, "created from {since} with {max:?}");
-    assert_eq!(rt; page.updated.items().as_slice(), *updated, "updated from {since} with {max:?}");
-    assert_eq!(rt; page.destroyed.items().as_slice(), *destroyed, "destroyed from {since} with {max:?}");
+    assert_eq!(rt;
+        page.created.items().as_slice(),
+        *created,
+        "created from {since} with {max:?}"
+    );
+    assert_eq!(rt;
+        page.updated.items().as_slice(),
+        *updated,
+        "updated from {since} with {max:?}"
+    );
+    assert_eq!(rt;
+        page.destroyed.items().as_slice(),
+        *destroyed,
+        "destroyed from {since} with {max:?}"
+    );
 }
 
 fn assert_pages(rt: &impl Abort, alloc: Global, steps: &[Step], examples: &[Example]) {
@@ -96,7 +111,14 @@ fn a_page_ends_before_one_id_too_many(rt: HostRuntime) {
 
 #[test]
 fn a_page_holds_more_changes_of_ids_that_it_lists(rt: HostRuntime) {
-    let steps = [(1, PUT), (2, PUT), (1, PUT), (1, PUT), (2, PUT), (1, REMOVE)];
+    let steps = [
+        (1, PUT),
+        (2, PUT),
+        (1, PUT),
+        (1, PUT),
+        (2, PUT),
+        (1, REMOVE),
+    ];
     let examples: [Example; 5] = [
         // It can't grow past the update of 2.
         (2, Some(1), 4, &[], &[1], &[]),
@@ -111,7 +133,14 @@ fn a_page_holds_more_changes_of_ids_that_it_lists(rt: HostRuntime) {
 
 #[test]
 fn a_page_ends_at_the_last_state_that_fits(rt: HostRuntime) {
-    let steps = [(1, PUT), (2, PUT), (3, PUT), (3, REMOVE), (2, REMOVE), (4, PUT)];
+    let steps = [
+        (1, PUT),
+        (2, PUT),
+        (3, PUT),
+        (3, REMOVE),
+        (2, REMOVE),
+        (4, PUT),
+    ];
     let examples: [Example; 4] = [
         (0, Some(1), 5, &[1], &[], &[]),
         (0, Some(2), 6, &[1, 4], &[], &[]),
@@ -134,7 +163,15 @@ fn an_id_that_goes_and_comes_back_is_updated(rt: HostRuntime) {
 
 #[test]
 fn ids_stand_in_order_of_creation(rt: HostRuntime) {
-    let steps = [(3, PUT), (1, PUT), (2, PUT), (2, PUT), (1, REMOVE), (3, PUT), (2, REMOVE)];
+    let steps = [
+        (3, PUT),
+        (1, PUT),
+        (2, PUT),
+        (2, PUT),
+        (1, REMOVE),
+        (3, PUT),
+        (2, REMOVE),
+    ];
     let examples: [Example; 4] = [
         (0, None, 7, &[3], &[], &[]),
         (0, Some(3), 7, &[3], &[], &[]),
@@ -173,7 +210,15 @@ fn states_are_retained_for_4096_changes(rt: HostRuntime) {
     }
     assert_eq!(rt; WINDOW, 4096);
     // A state, and whether it is retained: of n = 5000 those from n - 4096 = 904 to n.
-    for (state, retained) in [(0, false), (903, false), (904, true), (4999, true), (5000, true), (5001, false), (u64::MAX, false)] {
+    for (state, retained) in [
+        (0, false),
+        (903, false),
+        (904, true),
+        (4999, true),
+        (5000, true),
+        (5001, false),
+        (u64::MAX, false),
+    ] {
         assert_eq!(rt; journal.retained(Kind::Event, state), retained, "{state}");
         match journal.changes(Kind::Event, state, Some(1)) {
             Ok(page) => {

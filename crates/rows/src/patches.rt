@@ -9,7 +9,8 @@ use std::alloc::Global;
 use std::process::Abort;
 
 /// The tree that the tables speak of.
-const TREE: &str = r##"{"":{"":1},"a":{"b":2,"c":[{"d":3}],"e":"text","f":null},"g":4,"~":{"/":5}}"##;
+const TREE: &str =
+    r##"{"":{"":1},"a":{"b":2,"c":[{"d":3}],"e":"text","f":null},"g":4,"~":{"/":5}}"##;
 
 // Reads a JSON text.
 fn tree_of(rt: &impl Abort, alloc: Global, text: &str) -> Tree {
@@ -103,7 +104,13 @@ fn members_are_put_and_removed(rt: HostRuntime) {
 
 #[test]
 fn letters_beyond_ascii_are_kept(rt: HostRuntime) {
-    assert_patched(&rt, rt.alloc(), "{\"ü\":{}}", "{\"ü/é~1\":\"日\"}", "{\"ü\":{\"é/\":\"日\"}}");
+    assert_patched(
+        &rt,
+        rt.alloc(),
+        "{\"ü\":{}}",
+        "{\"ü/é~1\":\"日\"}",
+        "{\"ü\":{\"é/\":\"日\"}}",
+    );
 }
 
 #[test]
@@ -172,7 +179,10 @@ fn a_pointer_leads_through_members_alone(rt: HostRuntime) {
     let tree = tree_of(&rt, alloc, TREE);
     for (key, wanted) in examples {
         let key = Text::from_str(alloc, key).expect(&rt, "there is memory");
-        let pointer = Pointer::read(alloc, &key).expect(&rt, "it is a pointer, and there is memory");
+        let pointer = Pointer::read(alloc, &key).expect(
+            &rt,
+            "it is a pointer, and there is memory",
+        );
         match (lookup(&tree, &pointer), wanted) {
             (None, None) => {}
             (Some(value), Some(wanted)) => {
