@@ -57,22 +57,10 @@ fn a_pass_sees_the_calls_before_its_own(rt: HostRuntime) {
         first: Some(Signature { author: 0, turn: 1 }),
         last: Some(Signature { author: 1, turn: 1 }),
     };
-    assert_eq!(rt;
-        lock.call(&rt, &mut first, &Question::Add(5), 0),
-        Ok(Answer::Sum(5))
-    );
-    assert_eq!(rt;
-        lock.call(&rt, &mut second, &Question::Add(2), 0),
-        Ok(Answer::Sum(7))
-    );
-    assert_eq!(rt;
-        lock.call(&rt, &mut second, &Question::Tell, 0),
-        Ok(Answer::Told(seen))
-    );
-    assert_eq!(rt;
-        lock.call(&rt, &mut first, &Question::Add(0), 0),
-        Ok(Answer::Sum(7))
-    );
+    assert_eq!(rt; lock.call(&rt, &mut first, &Question::Add(5), 0), Ok(Answer::Sum(5)));
+    assert_eq!(rt; lock.call(&rt, &mut second, &Question::Add(2), 0), Ok(Answer::Sum(7)));
+    assert_eq!(rt; lock.call(&rt, &mut second, &Question::Tell, 0), Ok(Answer::Told(seen)));
+    assert_eq!(rt; lock.call(&rt, &mut first, &Question::Add(0), 0), Ok(Answer::Sum(7)));
     assert_eq!(rt;
         lock.call(&rt, &mut first, &Question::Tell, 0),
         Ok(Answer::Told(Report { turn: 3, ..seen }))

@@ -95,9 +95,7 @@ impl Book for ReportingBook {
     ) -> Result<Answer, AllocError> {
         match call {
             Question::Add(amount) => {
-                let sum = self
-                    .counter
-                    .act(author, turn, &counter::Add(*amount), moment)?;
+                let sum = self.counter.act(author, turn, &counter::Add(*amount), moment)?;
                 Ok(Answer::Sum(sum))
             }
             Question::Tell => {
