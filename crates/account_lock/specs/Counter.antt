@@ -16,13 +16,17 @@ sum_of_ids (e ∷ es) = e.change.id + sum_of_ids es
 abbrev pub amount_entry : ℕ → Stamp → Entry
 amount_entry amount s = record { author = s.author; turn = s.turn; part = 0; moment = s.moment; change = record { kind = Calendar; id = amount; object = None } }
 
+-- 2 ^ 40
+abbrev pub most_entries : ℕ
+most_entries = 1099511627776
+
 -- an amount above 1000 counts as 1000, and neither 0 nor a full book adds an entry
 abbrev pub amount_added : List Entry → ℕ → Stamp → List Entry
-amount_added h n s = if (min n 1000 == 0) || (length h == 1099511627776) then [] else amount_entry (min n 1000) s ∷ []
+amount_added h n s = if (min n 1000 == 0) || (length h == most_entries) then [] else amount_entry (min n 1000) s ∷ []
 
 signed_unless : (b : Bool) (n : ℕ) (s : Stamp) → AreSigned s.author s.turn (if b then [] else (amount_entry n s ∷ []))
 signed_unless true n s = tt
 signed_unless false n s = (refl, refl, tt)
 
 pub amount_added_signed : (h : List Entry) (n : ℕ) (s : Stamp) → AreSigned s.author s.turn (amount_added h n s)
-amount_added_signed h n s = signed_unless ((min n 1000 == 0) || (length h == 1099511627776)) (min n 1000) s
+amount_added_signed h n s = signed_unless ((min n 1000 == 0) || (length h == most_entries)) (min n 1000) s

@@ -1,11 +1,16 @@
 -- What each step on a word of the lock tells the pass that makes it, of its view and its slots before and after, and of the number found.
 use Rattle.std.specs.Prelude.{◌≡◌, ◌≢◌, ℕ, List, [], ◌∷◌, length, Option, Some, None}
+use Rattle.atomic_table.specs.Seated.{TableId}
 use Rattle.atomic_table.specs.Table.{Me, Step, rest}
 use Rattle.cal_model.specs.Base.{Base}
 use Rattle.cal_model.specs.Lock.{PassView}
 use Rattle.cal_model.specs.LockSteps.{with_ticket, with_turn, having_read, having_added, out_of_line}
 use Rattle.cal_model.specs.declared.entry.Entry.{Entry}
 use Rattle.account_lock.specs.HistoryRule.{Extends}
+
+-- the seat is at this table, which has the three words of a lock
+abbrev pub IsSeatOf : TableId → TableId → Type 0
+IsSeatOf table seat = (seat ≡ table) × (table.words ≡ 3)
 
 -- the pass has the slot, with this book in it, or empty
 abbrev pub HasBook : {B : Type 0} → List (ℕ × Option B) → B → Type 0

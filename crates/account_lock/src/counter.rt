@@ -28,7 +28,7 @@ impl Model for CounterBook {
     ghost use Rattle.std.specs.Coded.{codes};
     ghost use Rattle.cal_model.specs.DataCode.{data_code};
     ghost use Rattle.cal_model.specs.declared.entry.Entry.{Entry};
-    ghost use Rattle.account_lock.specs.Counter.{sum_of_ids};
+    ghost use Rattle.account_lock.specs.Counter.{sum_of_ids, most_entries};
 
     ghost Value = { List Entry };
 
@@ -37,7 +37,7 @@ impl Model for CounterBook {
     ghost view = { λ b. b.entries.items };
 
     ghost invariant = { λ b. (b.sum ≡ sum_of_ids b.entries.items) × (b.sum ≤ 1000 * length b.entries.items)
-        × (length b.entries.items ≤ 1099511627776) };
+        × (length b.entries.items ≤ most_entries) };
 }
 
 impl CounterBook {

@@ -4,6 +4,7 @@ ghost use Rattle.cal_model.specs.Lock.{most_turns};
 ghost use Rattle.cal_model.specs.LockSteps.{having_read, having_added, new_pass};
 ghost use Rattle.cal_model.specs.declared.lock.Phase.TheVariants.{Idle, Turn};
 ghost use Rattle.account_lock.specs.Passes.{PassState, IsAnswered, HasFailed, state_of, opened_pass};
+ghost use Rattle.account_lock.specs.StepNews.{IsSeatOf};
 ghost use Rattle.account_lock.specs.declared.locked.CallError.TheVariants.{PassSpent, NoMemory};
 
 use crate::pass::Pass;
@@ -116,13 +117,15 @@ fn serve<B: Book, R: Wait>(
     stamp: &Stamp,
     call: &B::Call,
 ) -> Result<B::Reply, AllocError>
-    requires board { (seat.old.table_id ≡ board.now.table_id) × (board.now.table_id.words ≡ 3) }
-    requires idle { (seat.old.me.0.phase ≡ Idle) × (seat.old.me.1 ≡ []) × (seat.old.me.0.turns < most_turns) }
+    requires board { IsSeatOf board.now.table_id seat.old.table_id }
+    requires idle { (seat.old.me.0.phase ≡ Idle) × (seat.old.me.1 ≡ []) }
+    requires turns { seat.old.me.0.turns < most_turns }
     requires stamp { (stamp.now.author ≡ seat.old.me.0.number) × (stamp.now.turn ≡ seat.old.me.0.turns + 1) }
     ensures idle { (seat.new.me.0.phase ≡ Idle) × (seat.new.me.1 ≡ []) }
     ensures answered { IfOk result (λ r. IsAnswered B.answer B.added call.now stamp.now.moment r
         (state_of seat.old.table_id seat.old.me.0) (state_of seat.new.table_id seat.new.me.0)) }
-    ensures failed { OnErr result (HasFailed (state_of seat.old.table_id seat.old.me.0) (state_of seat.new.table_id seat.new.me.0)) }
+    ensures failed { OnErr result (HasFailed
+        (state_of seat.old.table_id seat.old.me.0) (state_of seat.new.table_id seat.new.me.0)) }
 {
     let ticket = take_ticket(board, seat);
     await_turn(rt, board, seat, ticket);
@@ -141,14 +144,15 @@ fn act<B: Book>(
     stamp: &Stamp,
     call: &B::Call,
 ) -> Result<B::Reply, AllocError>
-    requires board { (seat.old.table_id ≡ board.now.table_id) × (board.now.table_id.words ≡ 3) }
+    requires board { IsSeatOf board.now.table_id seat.old.table_id }
     requires turn { seat.old.me.0.phase ≡ Turn }
     requires stamp { (stamp.now.author ≡ seat.old.me.0.number) × (stamp.now.turn ≡ seat.old.me.0.turns) }
     requires book { (B.base book.old ≡ seat.old.me.0.base) × (B.entries book.old ≡ seat.old.me.0.hand.1) }
-    ensures same { (seat.new.table_id ≡ seat.old.table_id) × (seat.new.id ≡ seat.old.id) × (seat.new.me.1 ≡ seat.old.me.1) }
+    ensures same { (seat.new.table_id ≡ seat.old.table_id) × (seat.new.me.1 ≡ seat.old.me.1) }
     ensures book { (B.base book.new ≡ seat.new.me.0.base) × (B.entries book.new ≡ seat.new.me.0.seen) }
     ensures replied { IfOk result (λ r. r ≡ B.answer (B.base book.old) (B.entries book.old) call.now stamp.now) }
-    ensures added { OnOk result (seat.new.me.0 ≡ having_added (having_read seat.old.me.0) (B.added (B.base book.old) (B.entries book.old) call.now stamp.now)) }
+    ensures added { OnOk result (seat.new.me.0 ≡ having_added (having_read seat.old.me.0)
+        (B.added (B.base book.old) (B.entries book.old) call.now stamp.now)) }
     ensures err { OnErr result (seat.new.me.0 ≡ having_added (having_read seat.old.me.0) []) }
 {
     let before = read_history(board, seat);
@@ -160,7 +164,8 @@ fn act<B: Book>(
 
 // A pass that has made no call.
 fn pass_of<B: Book>(seat: PassSeat<B>, number: u32) -> Pass<B>
-    requires { (seat.me.0.phase ≡ Idle) × (seat.me.1 ≡ []) × (seat.me.0.number ≡ number) × (seat.me.0.turns ≡ 0) }
+    requires idle { (seat.me.0.phase ≡ Idle) × (seat.me.1 ≡ []) }
+    requires new { (seat.me.0.number ≡ number) × (seat.me.0.turns ≡ 0) }
     ensures { result ≡ state_of seat.table_id seat.me.0 }
 {
     Pass {
@@ -177,10 +182,12 @@ fn split_others<B: Book>(
     all: &mut Vec<Pass<B>>,
     passes: u32,
 )
-    requires board { (seat.old.table_id ≡ board.now.table_id) × (board.now.table_id.words ≡ 3) }
+    requires board { IsSeatOf board.now.table_id seat.old.table_id }
     requires first { (seat.old.me.0.number ≡ 0) × (seat.old.me.0.splits ≡ 0) }
-    requires room { (1 ≤ passes) × (passes ≤ 256) × (all.old.items ≡ []) × (passes ≤ vec_capacity all.old) }
-    ensures same { (seat.new.me.0.phase ≡ seat.old.me.0.phase) × (seat.new.me.1 ≡ seat.old.me.1) × (state_of seat.new.table_id seat.new.me.0 ≡ state_of seat.old.table_id seat.old.me.0) }
+    requires passes { (1 ≤ passes) × (passes ≤ 256) }
+    requires room { (all.old.items ≡ []) × (passes ≤ vec_capacity all.old) }
+    ensures same { (seat.new.me.0.phase ≡ seat.old.me.0.phase) × (seat.new.me.1 ≡ seat.old.me.1) }
+    ensures state { state_of seat.new.table_id seat.new.me.0 ≡ state_of seat.old.table_id seat.old.me.0 }
     ensures len { vec_len all.new + 1 ≡ passes }
     ensures room { vec_capacity all.new ≡ vec_capacity all.old }
     ensures each { (k : ℕ) (p : PassState) → slice_get all.new.items k ≡ Some p
@@ -197,7 +204,8 @@ type LockTable<B> = Table<Option<B>, View, Snapshot<B>, LockRule<B>, Global>;
 // The table with the book in its slot, and the seat of pass 0.
 fn lay_table<B: Book>(alloc: Global, book: B) -> Result<(LockTable<B>, PassSeat<B>), AllocError>
     ensures table { IfOk result (λ r. r.0.shared.table_id.words ≡ 3) }
-    ensures seat { IfOk result (λ r. (r.1.table_id ≡ r.0.shared.table_id) × (r.1.me ≡ (new_pass 0 (B.entries book) (B.base book), []))) }
+    ensures seat { IfOk result (λ r. r.1.table_id ≡ r.0.shared.table_id) }
+    ensures view { IfOk result (λ r. r.1.me ≡ (new_pass 0 (B.entries book) (B.base book), [])) }
 {
     let opened = Snapshot::of(&book);
     let count = book.count();

@@ -4,7 +4,7 @@ ghost use Rattle.cal_model.specs.Lock.{most_turns};
 ghost use Rattle.cal_model.specs.LockSteps.{with_ticket, having_read, having_added, out_of_line, having_split, split_off};
 ghost use Rattle.cal_model.specs.Signed.{AreSigned};
 ghost use Rattle.cal_model.specs.declared.lock.Phase.TheVariants.{Idle, Waits, Turn, Read, Done};
-ghost use Rattle.account_lock.specs.StepNews.{HasBook, HasEmptySlot, HasTurn};
+ghost use Rattle.account_lock.specs.StepNews.{IsSeatOf, HasBook, HasEmptySlot, HasTurn};
 
 use crate::rule::{
     AddEntries, Growth, LeaveLine, LockRule, Look, ReadCount, SplitPass, TakeTicket,
@@ -33,9 +33,13 @@ const COUNT: usize = 2;
 /// The low bits of a word, on which a thread can sleep.
 const LOW_BITS: u64 = 0xffff_ffff;
 
+/// How often a pass looks which ticket is served before it sleeps: that takes about as long as to fall asleep and to
+/// be woken, and most turns end sooner.
+const LOOKS_AWAKE: u32 = 2000;
+
 /// Takes the next ticket, and gives its number.
 pub(crate) fn take_ticket<B: Book>(board: &Board<B>, seat: &mut PassSeat<B>) -> u64
-    requires board { (seat.old.table_id ≡ board.now.table_id) × (board.now.table_id.words ≡ 3) }
+    requires board { IsSeatOf board.now.table_id seat.old.table_id }
     requires idle { (seat.old.me.0.phase ≡ Idle) × (seat.old.me.0.turns < most_turns) }
     ensures same { (seat.new.table_id ≡ seat.old.table_id) × (seat.new.id ≡ seat.old.id) }
     ensures view { seat.new.me ≡ (with_ticket seat.old.me.0 result, seat.old.me.1) }
@@ -43,32 +47,37 @@ pub(crate) fn take_ticket<B: Book>(board: &Board<B>, seat: &mut PassSeat<B>) -> 
     board.fetch_add::<TakeTicket>(seat, TICKET, 1)
 }
 
-/// Waits until the ticket is served, and takes the slot with the book. Between two looks the thread sleeps
-/// while the same ticket is served.
+/// Waits until the ticket is served, and takes the slot with the book. The thread soon sleeps, until another ticket
+/// is served.
 pub(crate) fn await_turn<B: Book, R: Wait>(
     rt: &R,
     board: &Board<B>,
     seat: &mut PassSeat<B>,
     ticket: u64,
 )
-    requires board { (seat.old.table_id ≡ board.now.table_id) × (board.now.table_id.words ≡ 3) }
+    requires board { IsSeatOf board.now.table_id seat.old.table_id }
     requires waits { (seat.old.me.0.phase ≡ Waits) × (seat.old.me.0.ticket ≡ ticket) }
     ensures same { (seat.new.table_id ≡ seat.old.table_id) × (seat.new.id ≡ seat.old.id) }
     ensures turn { HasTurn B.entries B.base seat.old.me seat.new.me }
 {
+    let mut looks = 0;
     for _ in rt.forever() {
         let served = board.load::<Look>(seat, SERVING);
         if served == ticket {
             return;
         }
-        board.park(rt, SERVING, (served & LOW_BITS) as u32);
+        if looks < LOOKS_AWAKE {
+            looks += 1;
+        } else {
+            board.park(rt, SERVING, (served & LOW_BITS) as u32);
+        }
     }
     unreachable!()
 }
 
 /// Takes the book out of the slot.
 pub(crate) fn take_book<B: Book>(board: &Board<B>, seat: &mut PassSeat<B>) -> B
-    requires board { (seat.old.table_id ≡ board.now.table_id) × (board.now.table_id.words ≡ 3) }
+    requires board { IsSeatOf board.now.table_id seat.old.table_id }
     requires full { (b : B) × HasBook seat.old.me.1 b }
     ensures same { (seat.new.table_id ≡ seat.old.table_id) × (seat.new.id ≡ seat.old.id) }
     ensures book { HasBook seat.old.me.1 result }
@@ -79,7 +88,7 @@ pub(crate) fn take_book<B: Book>(board: &Board<B>, seat: &mut PassSeat<B>) -> B
 
 /// Reads how long the history is.
 pub(crate) fn read_history<B: Book>(board: &Board<B>, seat: &mut PassSeat<B>) -> u64
-    requires board { (seat.old.table_id ≡ board.now.table_id) × (board.now.table_id.words ≡ 3) }
+    requires board { IsSeatOf board.now.table_id seat.old.table_id }
     requires turn { seat.old.me.0.phase ≡ Turn }
     ensures same { (seat.new.table_id ≡ seat.old.table_id) × (seat.new.id ≡ seat.old.id) }
     ensures view { seat.new.me ≡ (having_read seat.old.me.0, seat.old.me.1) }
@@ -95,7 +104,7 @@ pub(crate) fn add_entries<B: Book, G: Growth>(
     book: &B,
     count: u64,
 )
-    requires board { (seat.old.table_id ≡ board.now.table_id) × (board.now.table_id.words ≡ 3) }
+    requires board { IsSeatOf board.now.table_id seat.old.table_id }
     requires read { seat.old.me.0.phase ≡ Read }
     requires grown { B.entries book.now ≡ seat.old.me.0.seen ++ G.grown }
     requires count { count ≡ length G.grown }
@@ -109,7 +118,7 @@ pub(crate) fn add_entries<B: Book, G: Growth>(
 
 /// Puts the book back into the slot.
 pub(crate) fn return_book<B: Book>(board: &Board<B>, seat: &mut PassSeat<B>, book: B)
-    requires board { (seat.old.table_id ≡ board.now.table_id) × (board.now.table_id.words ≡ 3) }
+    requires board { IsSeatOf board.now.table_id seat.old.table_id }
     requires empty { HasEmptySlot seat.old.me.1 }
     ensures same { (seat.new.table_id ≡ seat.old.table_id) × (seat.new.id ≡ seat.old.id) }
     ensures left { (seat.new.me.0 ≡ seat.old.me.0) × HasBook seat.new.me.1 book }
@@ -119,7 +128,7 @@ pub(crate) fn return_book<B: Book>(board: &Board<B>, seat: &mut PassSeat<B>, boo
 
 /// Gives back the slot, with the book that has the whole history, and the turn, and wakes the passes that sleep.
 pub(crate) fn give_turn<B: Book>(board: &Board<B>, seat: &mut PassSeat<B>)
-    requires board { (seat.old.table_id ≡ board.now.table_id) × (board.now.table_id.words ≡ 3) }
+    requires board { IsSeatOf board.now.table_id seat.old.table_id }
     requires done { seat.old.me.0.phase ≡ Done }
     requires book { (b : B) × HasBook seat.old.me.1 b × (B.entries b ≡ seat.old.me.0.seen) × (B.base b ≡ seat.old.me.0.base) }
     ensures same { (seat.new.table_id ≡ seat.old.table_id) × (seat.new.id ≡ seat.old.id) }
@@ -131,7 +140,7 @@ pub(crate) fn give_turn<B: Book>(board: &Board<B>, seat: &mut PassSeat<B>)
 
 /// Makes a new pass. Pass 0 alone does.
 pub(crate) fn split_pass<B: Book>(board: &Board<B>, seat: &mut PassSeat<B>) -> PassSeat<B>
-    requires board { (seat.old.table_id ≡ board.now.table_id) × (board.now.table_id.words ≡ 3) }
+    requires board { IsSeatOf board.now.table_id seat.old.table_id }
     requires first { (seat.old.me.0.number ≡ 0) × (seat.old.me.0.splits + 1 < 256) }
     ensures same { (seat.new.table_id ≡ seat.old.table_id) × (seat.new.id ≡ seat.old.id) }
     ensures view { seat.new.me ≡ (having_split seat.old.me.0, seat.old.me.1) }

@@ -1,3 +1,4 @@
+pub mod Appending
 pub mod KeyOrder
 pub mod EditLemmas
 pub mod MemberLemmas

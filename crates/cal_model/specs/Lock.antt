@@ -1,5 +1,5 @@
 -- A ticket lock round a book, and what holds of it between any two steps of any threads.
-use Rattle.std.specs.Prelude.{◌≡◌, ◌≢◌, ℕ, ◌+◌, ◌<◌, ◌≤◌, ◌==◌, Bool, true, false, IsTrue, List, ◌++◌, length, filter, sum_by, count_by, All, slice_get, Option, Some, None}
+use Rattle.std.specs.Prelude.{◌≡◌, ◌≢◌, ℕ, ◌+◌, ◌^◌, ◌<◌, ◌≤◌, ◌==◌, Bool, true, false, IsTrue, List, ◌++◌, length, filter, sum_by, count_by, All, slice_get, Option, Some, None}
 use Rattle.std.specs.List.Sorted.{IsNonDecreasingBy}
 use Rattle.cal_model.specs.Base.{Base}
 use Rattle.cal_model.specs.declared.entry.Entry.{Entry}
@@ -8,7 +8,7 @@ use Rattle.cal_model.specs.declared.lock.Phase.TheVariants.{Idle, Waits, Turn, R
 
 -- the number of calls that one pass may make
 abbrev pub most_turns : ℕ
-most_turns = 1099511627776
+most_turns = 2 ^ 40
 
 -- what a pass knows, which only its own steps change
 pub record PassView : Type 0 where

@@ -121,7 +121,7 @@ fn invocation_from(tree: Tree) -> Option<Invocation>
 }
 
 /// All method calls of a list, where each of its items is one.
-#[tactic(auto, using(crate::proofs::Lists::push_option))]
+#[tactic(auto, using(cal_model::proofs::Appending::push_option))]
 fn invocations_from(alloc: Global, list: TreeList) -> Result<Option<Vec<Invocation>>, AllocError>
     ensures { IfOk result (λ o. option_map (λ v. v.items) o ≡ all_some invocation_of list) }
 {
@@ -137,7 +137,7 @@ fn invocations_from(alloc: Global, list: TreeList) -> Result<Option<Vec<Invocati
 }
 
 /// All texts of a list, where each of its items is one.
-#[tactic(auto, using(crate::proofs::Lists::push_option))]
+#[tactic(auto, using(cal_model::proofs::Appending::push_option))]
 fn texts_from(alloc: Global, list: &TreeList) -> Result<Option<Vec<Text>>, AllocError>
     ensures { IfOk result (λ o. option_map (λ v. v.items) o ≡ all_some as_text list.now) }
 {
@@ -179,7 +179,7 @@ fn id_pair_from(member: &Member) -> Result<Option<(Text, Text)>, AllocError>
 }
 
 /// All created ids of an object, where each of its members is one.
-#[tactic(auto, using(crate::proofs::Lists::push_option))]
+#[tactic(auto, using(cal_model::proofs::Appending::push_option))]
 fn id_pairs_from(alloc: Global, members: &[Member]) -> Result<Option<Vec<(Text, Text)>>, AllocError>
     ensures { IfOk result (λ o. option_map (λ v. v.items) o ≡ all_some id_pair (map pair_of members.now)) }
 {

@@ -1,9 +1,10 @@
 -- One more item of what was converted.
-use Rattle.std.proofs.Common.{◌≡◌, ℕ, List, [], ◌∷◌, ◌++◌, Option, Some, None, option_map, option_and_then, Bool, true, false, refl, sym, ap, append_assoc, String, Global, string_cmp, string_bytes, Less}
+use Rattle.std.proofs.Common.{◌≡◌, ℕ, List, [], ◌∷◌, ◌++◌, Option, Some, None, option_map, option_and_then, Bool, true, false, refl, String, Global, string_cmp, string_bytes, Less}
 use Rattle.std.specs.List.{AllByRecursion}
 use Rattle.std.specs.List.Sorted.{IsStrictlySortedBy}
 use Rattle.std.specs.Map.{keys_of}
 use Rattle.std.proofs.lemmas.Bool.{and_from}
+use Rattle.cal_model.proofs.Appending.{push_option}
 use Rattle.cal_model.specs.Data.{Data, Pair}
 use Rattle.cal_model.specs.ObjectKeys.{is_above, keys_rise}
 use Rattle.serde_json.specs.Data as json
@@ -17,10 +18,6 @@ use Rattle.cal_model.specs.Json.{whole_of, whole_members, reading, not_json, rea
 use Rattle.serde_json.specs.Read.{read}
 use Rattle.std.specs.Str.{IsUtf8, is_utf8}
 use Rattle.std.proofs.lemmas.Str.{IsUtf8-from_is_utf8, is_utf8-from_IsUtf8}
-
-pub push_option : {X : Type 0} (done : List X) (e : X) (r : Option (List X)) → option_map (λ es. done ++ es) (option_map (λ es. e ∷ es) r) ≡ option_map (λ es. (done ++ e ∷ []) ++ es) r
-push_option done e None = refl
-push_option done e (Some es) = ap Some (sym (append_assoc done (e ∷ []) es))
 
 -- what was found, where a first item and the rest were converted
 found : (k : List ℕ) (o : Option Data) (r : Option (List Pair)) (ps : List Pair) → option_and_then (λ d. option_map (λ qs. (k, d) ∷ qs) r) o ≡ Some ps → (d : Data) × (qs : List Pair) × (r ≡ Some qs) × ((k, d) ∷ qs ≡ ps)

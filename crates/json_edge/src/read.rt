@@ -58,7 +58,7 @@ fn whole_tree(n: &Number) -> Result<Tree, ReadError>
 
 // Each text is moved into the tree, and each list and object of the value is freed once it was gone through.
 #[cycle(convert)]
-#[tactic(auto, using(crate::proofs::Steps::push_option))]
+#[tactic(auto, using(cal_model::proofs::Appending::push_option))]
 fn convert(alloc: Global, value: Value) -> Result<Tree, ReadError>
     ensures ok { IfOk result (λ t. whole_of (view value) ≡ Some (data_of t)) }
     ensures float { result ≡ Err NotWhole → whole_of (view value) ≡ None }
@@ -77,7 +77,7 @@ fn convert(alloc: Global, value: Value) -> Result<Tree, ReadError>
 }
 
 #[cycle(convert)]
-#[tactic(auto, using(crate::proofs::Steps::push_option))]
+#[tactic(auto, using(cal_model::proofs::Appending::push_option))]
 fn convert_items(alloc: Global, items: Vec<Value>) -> Result<Vec<Tree>, ReadError>
     ensures ok { IfOk result (λ v. whole_items (items_view items.items) ≡ Some (map data_of v.items)) }
     ensures float { result ≡ Err NotWhole → whole_items (items_view items.items) ≡ None }
@@ -91,7 +91,7 @@ fn convert_items(alloc: Global, items: Vec<Value>) -> Result<Vec<Tree>, ReadErro
 }
 
 #[cycle(convert)]
-#[tactic(auto, using(crate::proofs::Steps::push_option))]
+#[tactic(auto, using(cal_model::proofs::Appending::push_option))]
 fn convert_members(alloc: Global, members: Map<String, Value>) -> Result<Vec<Member>, ReadError>
     ensures ok { IfOk result (λ v. whole_members (members_view members.entries) ≡ Some (map pair_of v.items)) }
     ensures ordered { IfOk result (λ v. HasOrderedKeys (map pair_of v.items)) }
