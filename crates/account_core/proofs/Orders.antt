@@ -1,9 +1,7 @@
 -- Keys that stay in order.
-use Rattle.std.proofs.Common.{◌≡◌, ℕ, List, [], ◌∷◌, ◌&&◌, Bool, true, false, map, filter, refl, cond}
+use Rattle.std.proofs.Common.{◌≡◌, ℕ, List, [], ◌∷◌, Bool, true, false, map, filter, refl}
 use Rattle.std.proofs.lemmas.Bool.{and_from}
 use Rattle.std.specs.List.{zip}
-use Rattle.std.specs.Ordering.{nat_cmp, is_lt}
-use Rattle.std.specs.Cmp.Lexicographic.{slice_cmp}
 use Rattle.cal_model.proofs.KeyOrder.{above_later, both}
 use Rattle.cal_model.specs.Answer.{created_member}
 use Rattle.cal_model.specs.Data.{Pair}

@@ -6,7 +6,6 @@ use Rattle.cal_model.specs.Calendar.{new_calendar}
 use Rattle.cal_model.specs.Data.{Data, Pair}
 use Rattle.cal_model.specs.History.{is_kind, with_id, ids_from, ids_at, next_number, state_at}
 use Rattle.cal_model.specs.declared.entry.Change.{Change}
-use Rattle.cal_model.specs.declared.entry.Entry.{Entry}
 use Rattle.cal_model.specs.declared.entry.Kind.{Kind}
 use Rattle.cal_model.specs.declared.entry.Kind.TheVariants.{Calendar}
 use Rattle.cal_model.specs.declared.stamp.Stamp.{Stamp}

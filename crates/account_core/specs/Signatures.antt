@@ -1,5 +1,5 @@
 -- What a call adds carries its author and its turn.
-use Rattle.std.proofs.Common.{◌≡◌, ℕ, List, [], ◌∷◌, refl, suc}
+use Rattle.std.proofs.Common.{ℕ, List, [], ◌∷◌, refl, suc}
 use Rattle.cal_model.specs.Answer.{Form, get_all, create_plain, not_built, form_of, added, added_by, entries_from}
 use Rattle.cal_model.specs.Base.{Base}
 use Rattle.cal_model.specs.Signed.{AreSigned}

@@ -127,17 +127,17 @@ struct Turns {
 fn answer_one(
     alloc: Global,
     turns: &mut Turns,
-    using_names: &[Text],
+    capabilities: &[Text],
     call: Invocation,
     moment: &i64,
 ) -> Result<Tree, AllocError>
     requires { turns.old.made < 2 ^ 64 - 1 }
-    ensures response { IfOk result (λ t. data_of t ≡ response_at turns.old.account.0 using_names.now moment.now turns.old.made turns.old.account.1 call) }
-    ensures made { OnOk result (turns.new.made ≡ turns_to turns.old.account.0 using_names.now moment.now turns.old.made call) }
-    ensures history { OnOk result (turns.new.account.1 ≡ history_to turns.old.account.0 using_names.now moment.now turns.old.made turns.old.account.1 call) }
+    ensures response { IfOk result (λ t. data_of t ≡ response_at turns.old.account.0 capabilities.now moment.now turns.old.made turns.old.account.1 call) }
+    ensures made { OnOk result (turns.new.made ≡ turns_to turns.old.account.0 capabilities.now moment.now turns.old.made call) }
+    ensures history { OnOk result (turns.new.account.1 ≡ history_to turns.old.account.0 capabilities.now moment.now turns.old.made turns.old.account.1 call) }
     ensures base { turns.new.account.0 ≡ turns.old.account.0 }
 {
-    let Some(method) = method_in_use(using_names, call.name.as_str()) else {
+    let Some(method) = method_in_use(capabilities, call.name.as_str()) else {
         return error_tree(alloc, MethodError::UnknownMethod, &call.call_id);
     };
     match account_call(alloc, method, &call.arguments)? {

@@ -20,10 +20,10 @@ const MOST_CALLS: usize = 16;
 
 const MOST_CREATES: usize = 500;
 
-fn is_used(using_names: &[Text], capability: &str) -> bool
-    ensures { result ≡ uses using_names.now capability.now }
+fn is_used(capabilities: &[Text], capability: &str) -> bool
+    ensures { result ≡ uses capabilities.now capability.now }
 {
-    for name in using_names {
+    for name in capabilities {
         if name.as_str() == capability {
             return true;
         }
@@ -32,12 +32,12 @@ fn is_used(using_names: &[Text], capability: &str) -> bool
 }
 
 /// The method of a name, where the request uses its capability. Takes no memory.
-pub fn method_in_use(using_names: &[Text], name: &str) -> Option<Method>
-    ensures { result ≡ method_used using_names.now name.now }
+pub fn method_in_use(capabilities: &[Text], name: &str) -> Option<Method>
+    ensures { result ≡ method_used capabilities.now name.now }
 {
     match Method::named(name) {
         Some(method) => {
-            if is_used(using_names, method.capability()) {
+            if is_used(capabilities, method.capability()) {
                 Some(method)
             } else {
                 None
@@ -53,10 +53,10 @@ fn is_known_capability(name: &str) -> bool
     name == CORE || name == CALENDARS || name == AVAILABILITY
 }
 
-fn all_known(using_names: &[Text]) -> bool
-    ensures { result ≡ list_all is_capability using_names.now }
+fn all_known(capabilities: &[Text]) -> bool
+    ensures { result ≡ list_all is_capability capabilities.now }
 {
-    for name in using_names {
+    for name in capabilities {
         if !is_known_capability(name.as_str()) {
             return false;
         }
@@ -164,20 +164,20 @@ fn is_built(method: Method, arguments: &TreeObject) -> bool
     }
 }
 
-fn is_unbuilt_invocation(using_names: &[Text], call: &Invocation) -> bool
-    ensures { result ≡ is_unbuilt_call using_names.now call.now }
+fn is_unbuilt_invocation(capabilities: &[Text], call: &Invocation) -> bool
+    ensures { result ≡ is_unbuilt_call capabilities.now call.now }
 {
-    match method_in_use(using_names, call.name.as_str()) {
+    match method_in_use(capabilities, call.name.as_str()) {
         Some(method) => !is_built(method, &call.arguments),
         None => false,
     }
 }
 
-fn any_unbuilt(using_names: &[Text], calls: &[Invocation]) -> bool
-    ensures { result ≡ list_any (is_unbuilt_call using_names.now) calls.now }
+fn any_unbuilt(capabilities: &[Text], calls: &[Invocation]) -> bool
+    ensures { result ≡ list_any (is_unbuilt_call capabilities.now) calls.now }
 {
     for call in calls {
-        if is_unbuilt_invocation(using_names, call) {
+        if is_unbuilt_invocation(capabilities, call) {
             return true;
         }
     }
@@ -222,11 +222,11 @@ fn has_many_creates(calls: &[Invocation]) -> bool
 pub fn has_unbuilt_form(request: &Request) -> bool
     ensures { result ≡ is_unbuilt request.now }
 {
-    let names = request.using.items();
+    let capabilities = request.using.items();
     let calls = request.calls.items();
     request.created_ids.is_some()
         || calls.len() > MOST_CALLS
-        || !all_known(names)
+        || !all_known(capabilities)
         || has_many_creates(calls)
-        || any_unbuilt(names, calls)
+        || any_unbuilt(capabilities, calls)
 }

@@ -213,15 +213,15 @@ fn created_ids_from(
 }
 
 fn request_from_parts(
-    using: Option<Vec<Text>>,
+    capabilities: Option<Vec<Text>>,
     calls: Option<Vec<Invocation>>,
     created_ids: Option<Option<Pairs>>,
 ) -> Option<Request>
-    ensures { result ≡ request_with (option_map (λ v. v.items) using) (option_map (λ v. v.items) calls) created_ids }
+    ensures { result ≡ request_with (option_map (λ v. v.items) capabilities) (option_map (λ v. v.items) calls) created_ids }
 {
-    match (using, calls, created_ids) {
-        (Some(using), Some(calls), Some(created_ids)) => Some(Request {
-            using: Texts::new(using),
+    match (capabilities, calls, created_ids) {
+        (Some(capabilities), Some(calls), Some(created_ids)) => Some(Request {
+            using: Texts::new(capabilities),
             calls: Invocations::new(calls),
             created_ids,
         }),
@@ -243,7 +243,7 @@ fn calls_in(tree: Tree) -> Option<TreeList>
 pub fn request_from(alloc: Global, tree: Tree) -> Result<Option<Request>, AllocError>
     ensures { IfOk result (λ r. r ≡ request_of (data_of tree)) }
 {
-    let using = match list_at_key(&tree, "using") {
+    let capabilities = match list_at_key(&tree, "using") {
         Some(list) => texts_from(alloc, list)?,
         None => None,
     };
@@ -252,5 +252,5 @@ pub fn request_from(alloc: Global, tree: Tree) -> Result<Option<Request>, AllocE
         Some(list) => invocations_from(alloc, list)?,
         None => None,
     };
-    Ok(request_from_parts(using, calls, created_ids))
+    Ok(request_from_parts(capabilities, calls, created_ids))
 }

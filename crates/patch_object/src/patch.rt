@@ -106,8 +106,6 @@ fn has_parent_object(tree: &Tree, parts: &[Text]) -> bool
     requires { 0 < length parts.now }
     ensures { result ≡ has_parent parts.now (data_of tree.now) }
 {
-    matches!(
-        value_at_parts(tree, &parts[..parts.len() - 1]),
-        Some(Tree::Object(_))
-    )
+    let parent = value_at_parts(tree, &parts[..parts.len() - 1]);
+    matches!(parent, Some(Tree::Object(_)))
 }

@@ -4,6 +4,8 @@
 #[cfg(test)]
 mod batches;
 #[cfg(test)]
+mod change_pages;
+#[cfg(test)]
 mod civil_dates;
 #[cfg(test)]
 mod congruences;
@@ -11,6 +13,8 @@ mod congruences;
 mod lock;
 #[cfg(test)]
 mod outside;
+#[cfg(test)]
+mod patches;
 #[cfg(test)]
 mod reporting_book;
 pub mod words;

@@ -70,7 +70,7 @@ fn take_member(members: &mut Vec<Member>, key: &str) -> Option<Tree>
 }
 
 // The place of the member with this key, or the number of members where there is none.
-#[tactic(auto, using(crate::proofs::EditLemmas::key_at))]
+#[tactic(auto, using(crate::proofs::MemberLemmas::key_at))]
 fn place_of(members: &Vec<Member>, key: &str) -> usize
     ensures place { result ≤ length members.now.items }
     ensures found { result < length members.now.items → is_key_at result key.now members.now.items ≡ true }

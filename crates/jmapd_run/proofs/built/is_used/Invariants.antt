@@ -3,4 +3,4 @@ use Rattle.cal_model.specs.Methods.{uses}
 use Rattle.jmapd_run.proofs.built.is_used.Given as goal
 
 abbrev pub invariant-loop-name : goal.invariant-loop-name
-invariant-loop-name l = uses (drop l.name-index l.using_names) l.capability ≡ uses l.using_names l.capability
+invariant-loop-name l = uses (drop l.name-index l.capabilities) l.capability ≡ uses l.capabilities l.capability

@@ -1,6 +1,6 @@
 use Rattle.std.proofs.Common.{arith}
 use Rattle.std.proofs.lemmas.Grind.{common_steps}
-use Rattle.cal_model.proofs.EditLemmas.{put_here, key_at}
+use Rattle.cal_model.proofs.MemberLemmas.{put_here, key_at}
 use Rattle.cal_model.proofs.tree.edit.put_member.Goals as goal
 
 pub returns-then-eq-clause-ok : goal.returns-then-eq-clause-ok

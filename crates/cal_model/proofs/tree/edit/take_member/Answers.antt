@@ -1,7 +1,7 @@
 use Rattle.std.proofs.Common.{arith}
 use Rattle.std.proofs.lemmas.Grind.{common_steps}
 use Rattle.std.proofs.lemmas.List.{drop_all, take-append-drop}
-use Rattle.cal_model.proofs.EditLemmas.{take_here, found_here}
+use Rattle.cal_model.proofs.MemberLemmas.{take_here, found_here}
 use Rattle.cal_model.proofs.tree.edit.take_member.Goals as goal
 
 pub returns-then-i-len-clause-value : goal.returns-then-i-len-clause-value
