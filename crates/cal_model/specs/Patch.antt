@@ -67,6 +67,7 @@ abbrev pub unless_failing : Option (List ℕ) → Data → Result Data (List ℕ
 unless_failing None d = Ok d
 unless_failing (Some key) d = Err key
 
--- the tree with each member that a patch names put in or removed, or the first key that fails; the tests are made on the tree as it was
+-- The tree with each member that a patch names put in or removed, or the first key that fails, in byte order. The tests are made
+-- on the tree as it was. No key is a prefix of another, so the order of the members doesn't matter.
 abbrev pub patched : Data → List Pair → Result Data (List ℕ)
 patched d ps = unless_failing (first_failing d [] ps) (placed_all d ps)
