@@ -15,6 +15,5 @@ mod lock;
 mod outside;
 #[cfg(test)]
 mod patches;
-#[cfg(test)]
-mod reporting_book;
+pub mod reporting_book;
 pub mod words;
