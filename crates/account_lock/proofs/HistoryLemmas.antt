@@ -6,7 +6,8 @@ use mathlib.Core.Logic.{dite}
 use native.Mathlib.Decide.{ℕ_discrete}
 use Rattle.atomic_table.proofs.Lists.{at_longer, set_here, set_else}
 use Rattle.cal_model.specs.Base.{Base}
-use Rattle.cal_model.specs.Lock.{PassView, has_turn, has_read, written_by, Begins}
+use Rattle.cal_model.specs.Lock.{PassView, has_turn, has_read}
+use Rattle.cal_model.specs.Signed.{written_by, Begins}
 use Rattle.cal_model.specs.LockSteps.{having_read, having_added, having_split, split_off}
 use Rattle.cal_model.specs.Signed.{AreSigned}
 use Rattle.cal_model.specs.declared.entry.Entry.{Entry}

@@ -1,7 +1,8 @@
 -- What the rule of the lock's table says of the history and of what passes know of it.
 use Rattle.std.specs.Prelude.{◌≡◌, ℕ, ◌<◌, ◌≤◌, IsTrue, List, [], ◌∷◌, ◌++◌, length}
 use Rattle.cal_model.specs.Base.{Base}
-use Rattle.cal_model.specs.Lock.{PassView, has_read, written_by, Begins}
+use Rattle.cal_model.specs.Lock.{PassView, has_read}
+use Rattle.cal_model.specs.Signed.{written_by, Begins}
 use Rattle.cal_model.specs.declared.entry.Entry.{Entry}
 use Rattle.cal_model.specs.declared.lock.Phase.TheVariants.{Turn}
 use Rattle.account_lock.specs.TicketRule.{At}
@@ -23,10 +24,6 @@ TurnsFrom t (e ∷ es) = (t ≤ e.turn) × TurnsFrom t es
 abbrev pub TurnsRise : List Entry → Type 0
 TurnsRise [] = Unit {0}
 TurnsRise (e ∷ es) = TurnsFrom e.turn es × TurnsRise es
-
--- xs is the start and then entries of others than this author
-abbrev pub Extends : ℕ → List Entry → List Entry → Type 0
-Extends author start xs = (between : List Entry) × (xs ≡ start ++ between) × (written_by author between ≡ [])
 
 -- What the pass at place i has seen is the opening and then entries of which its own are those that it knows, and begins the history.
 abbrev pub Knows : List Entry → List Entry → ℕ → PassView → Type 0

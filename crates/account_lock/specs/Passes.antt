@@ -5,7 +5,7 @@ use Rattle.cal_model.specs.Base.{Base}
 use Rattle.cal_model.specs.Lock.{PassView}
 use Rattle.cal_model.specs.declared.entry.Entry.{Entry}
 use Rattle.cal_model.specs.declared.stamp.Stamp.{Stamp}
-use Rattle.account_lock.specs.HistoryRule.{Extends}
+use Rattle.cal_model.specs.Signed.{Extends}
 
 -- a pass outside a call
 pub record PassState : Type 0 where

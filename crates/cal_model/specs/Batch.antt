@@ -1,94 +1,126 @@
--- The responses to the calls of a request, on one account (RFC 8620 sections 3.2 to 3.6).
-use Rattle.std.specs.Prelude.{◌≡◌, ℕ, suc, ℤ, List, [], ◌∷◌, ◌++◌, Option, Some, None, option_and_then, codes}
-use Rattle.cal_model.specs.Answer.{answer, added}
-use Rattle.cal_model.specs.Base.{Base}
-use Rattle.cal_model.specs.Data.{Data, text, list, object, Pair, lookup, items_of, members_of}
+-- The responses to a request, each determined by the steps before it (RFC 8620 sections 3.2 to 3.7).
+use Rattle.std.specs.Prelude.{◌≡◌, ℕ, ◌+◌, ◌≤◌, ◌⊎◌, ℤ, List, [], ◌∷◌, ◌++◌, Option, Some, None, codes, flat_map, length, map, unwrap_or, Result, Ok, Err}
+use Rattle.cal_model.specs.Asked.{asked, refused, asked_by}
+use Rattle.cal_model.specs.Data.{Data, text, list, object, Pair, items_of, members_of}
+use Rattle.cal_model.specs.Edit.{put_all}
+use Rattle.cal_model.specs.Lock.{most_turns}
+use Rattle.cal_model.specs.Meaning.{Meaning, refuses, echoes, calls, meaning_of_method}
 use Rattle.cal_model.specs.Methods.{method_used}
-use Rattle.cal_model.specs.Parts.{as_object}
-use Rattle.cal_model.specs.declared.stamp.Stamp.{Stamp}
+use Rattle.cal_model.specs.Parts.{some_of}
+use Rattle.cal_model.specs.Requests.{id_pair_of}
+use Rattle.cal_model.specs.Session.{Made, Shown, Session, front_of}
 use Rattle.cal_model.specs.TreeData.{data_of}
-use Rattle.cal_model.specs.declared.call.Call.{Call}
-use Rattle.cal_model.specs.declared.call.Call.TheVariants.{Get, Set}
 use Rattle.cal_model.specs.declared.call.MethodError.{MethodError}
-use Rattle.cal_model.specs.declared.call.MethodError.TheVariants.{UnknownMethod, NotBuilt}
+use Rattle.cal_model.specs.declared.call.MethodError.TheVariants.{UnknownMethod, InvalidArguments, InvalidResultReference, AccountNotFound, AccountReadOnly, RequestTooLarge, NotBuilt}
 use Rattle.cal_model.specs.declared.call.Reply.{Reply}
-use Rattle.cal_model.specs.declared.entry.Entry.{Entry}
-use Rattle.cal_model.specs.declared.entry.Kind.TheVariants.{Calendar}
-use Rattle.cal_model.specs.declared.method.Method.{Method}
-use Rattle.cal_model.specs.declared.method.Method.TheVariants.{CalendarGet, CalendarSet}
+use Rattle.cal_model.specs.declared.desk.Front.{Front}
+use Rattle.cal_model.specs.declared.request.BatchError.{BatchError}
+use Rattle.cal_model.specs.declared.request.BatchError.TheVariants.{Refused, PassSpent, NoMemory}
 use Rattle.cal_model.specs.declared.request.Invocation.{Invocation}
+use Rattle.cal_model.specs.declared.request.Request.{Request}
+use Rattle.cal_model.specs.declared.response.Response.{Response}
+use Rattle.cal_model.specs.declared.tree.Tree.{Tree}
+use Rattle.cal_model.specs.declared.tree.Tree.TheVariants.{Object}
+use Rattle.cal_model.specs.declared.user.User.{User}
 
--- the account's call, with the defaults of the arguments that are absent
-abbrev pub call_of : Method → List Pair → Option Call
-call_of CalendarGet arguments = Some (Get Calendar None None [])
-call_of CalendarSet arguments = Some (Set Calendar None (option_and_then as_object (lookup (codes "create") arguments)) None None None [])
-call_of _ arguments = None
+-- An invocation, the call on an account that the desk answered for it, if it led to one, and its response.
+pub record Step : Type 0 where
+  pub invocation : Invocation
+  pub made : Option Made
+  pub response : Response
+
+abbrev pub made_in : List Step → List Made
+made_in steps = flat_map (λ s. some_of s.made) steps
+
+abbrev pub responses_in : List Step → List Response
+responses_in steps = map (λ s. s.response) steps
 
 abbrev pub error_type : MethodError → List ℕ
 error_type UnknownMethod = codes "unknownMethod"
+error_type InvalidArguments = codes "invalidArguments"
+error_type InvalidResultReference = codes "invalidResultReference"
+error_type AccountNotFound = codes "accountNotFound"
+error_type AccountReadOnly = codes "accountReadOnly"
+error_type RequestTooLarge = codes "requestTooLarge"
 error_type NotBuilt = codes "notBuilt"
 
--- a response: a name, arguments and the call's id (RFC 8620 section 3.4)
-abbrev pub response : List ℕ → Data → List ℕ → Data
-response name arguments call_id = list (items_of (text name ∷ arguments ∷ text call_id ∷ []))
-
 -- RFC 8620 section 3.6.2
-abbrev pub error_response : MethodError → List ℕ → Data
-error_response e call_id = response (codes "error") (object (members_of ((codes "type", text (error_type e)) ∷ []))) call_id
+abbrev pub error_response : Invocation → MethodError → Response
+error_response c e = record { name = codes "error"; arguments = Object ((codes "type", text (error_type e)) ∷ []); call_id = c.call_id }
 
-abbrev pub reply_response : Invocation → Reply → Option MethodError → Data
-reply_response c reply None = response c.name (data_of reply.arguments) c.call_id
-reply_response c reply (Some e) = error_response e c.call_id
+abbrev pub response_to : Invocation → Tree → Response
+response_to c arguments = record { name = c.name; arguments = arguments; call_id = c.call_id }
 
--- `Core/echo`, which has no account, answers its arguments (RFC 8620 section 4)
-abbrev pub response_of_call : Base → List Entry → Stamp → Invocation → Option Call → Data
-response_of_call base h stamp c None = response c.name (object (members_of c.arguments)) c.call_id
-response_of_call base h stamp c (Some call) = reply_response c (answer base h call stamp) (answer base h call stamp).error
+abbrev pub reply_response : Invocation → Reply → Option MethodError → Response
+reply_response c reply None = response_to c reply.arguments
+reply_response c reply (Some e) = error_response c e
 
-abbrev pub response_of_method : Base → List Entry → Stamp → Invocation → Option Method → Data
-response_of_method base h stamp c None = error_response UnknownMethod c.call_id
-response_of_method base h stamp c (Some m) = response_of_call base h stamp c (call_of m c.arguments)
+-- the response is what the invocation means, and the desk was called where it means a call
+abbrev pub FollowsFrom : ℤ → Meaning → Step → Type 0
+FollowsFrom moment (refuses e) s = (s.made ≡ None) × (s.response ≡ error_response s.invocation e)
+FollowsFrom moment (echoes arguments) s = (s.made ≡ None) × (s.response ≡ response_to s.invocation (Object arguments))
+FollowsFrom moment (calls account call) s =
+    (m : Made) × (s.made ≡ Some m) × (m.account ≡ account) × (m.call ≡ call) × (m.moment ≡ moment)
+    × (s.response ≡ reply_response s.invocation m.reply m.reply.error)
 
--- the account's call that an invocation makes, if any
-abbrev pub call_in : List (List ℕ) → Invocation → Option Call
-call_in using c = option_and_then (λ m. call_of m c.arguments) (method_used using c.name)
+-- a creation id and the id that the object got, as a request gives them
+abbrev pub id_member : List ℕ × List ℕ → Pair
+id_member p = (p.0, text p.1)
 
--- the stamp of the call after so many
-abbrev pub stamp_after : ℕ → ℤ → Stamp
-stamp_after turns moment = record { author = 0; turn = suc turns; moment = moment }
+module _ (user : User) (request : Request) (moment : ℤ) where
+  -- the created ids of the request before some step: those that it gives, and those that the calls added
+  abbrev pub created_before : List Step → List (List ℕ × List ℕ)
+  created_before steps = map id_pair_of (unwrap_or request.created_ids []) ++ flat_map (λ m. m.reply.created) (made_in steps)
 
-abbrev pub turns_after : ℕ → Option Call → ℕ
-turns_after turns None = turns
-turns_after turns (Some call) = suc turns
+  abbrev pub meaning_after : List Step → Invocation → Meaning
+  meaning_after steps c = meaning_of_method user.grants (created_before steps) (responses_in steps) c.arguments (method_used request.using c.name)
 
-abbrev pub history_after : Base → List Entry → Stamp → Option Call → List Entry
-history_after base h stamp None = h
-history_after base h stamp (Some call) = h ++ added base h call stamp
+  -- Each step follows from what its invocation means after the steps before it.
+  abbrev pub Fit : List Step → List Step → Type 0
+  Fit before [] = Unit {0}
+  Fit before (s ∷ ss) = FollowsFrom moment (meaning_after before s.invocation) s × Fit (before ++ s ∷ []) ss
 
-module _ (base : Base) (using : List (List ℕ)) (moment : ℤ) where
-  abbrev pub response_at : ℕ → List Entry → Invocation → Data
-  response_at turns h c = response_of_method base h (stamp_after turns moment) c (method_used using c.name)
+  -- The first invocations led to these steps, which are in a session from one state of the desk to another.
+  pub record Progress (fronts fronts' : List Front) (s t : Shown) (steps : List Step) (rest : List Invocation) : Type 0 where
+    pub invoked : request.calls ≡ map (λ st. st.invocation) steps ++ rest
+    pub fit : Fit [] steps
+    pub session : Session s t (made_in steps)
+    pub fronts_grew : fronts' ≡ fronts ++ map front_of (made_in steps)
+    pub turns : t.turns ≤ s.turns + length request.calls
 
-  abbrev pub turns_to : ℕ → Invocation → ℕ
-  turns_to turns c = turns_after turns (call_in using c)
+abbrev pub response_data : Response → Data
+response_data r = list (items_of (text r.name ∷ data_of r.arguments ∷ text r.call_id ∷ []))
 
-  abbrev pub history_to : ℕ → List Entry → Invocation → List Entry
-  history_to turns h c = history_after base h (stamp_after turns moment) (call_in using c)
+-- the created ids that a request gives, with those that the calls added in the place of ones of the same key
+abbrev pub created_object : List Pair → List (List ℕ × List ℕ) → List Pair
+created_object given added = put_all (put_all (map id_member added) []) given
 
-  -- One response for each call, in order. Each is determined by the number of calls on the account that were made
-  -- before it, and by the history to which those led.
-  abbrev pub Fits : ℕ → List Entry → List Invocation → List Data → Type 0
-  Fits turns h [] [] = Unit {0}
-  Fits turns h (c ∷ cs) (r ∷ rs) = (r ≡ response_at turns h c) × Fits (turns_to turns c) (history_to turns h c) cs rs
-  Fits turns h [] (r ∷ rs) = ⊥
-  Fits turns h (c ∷ cs) [] = ⊥
-
-  -- the history after all calls
-  abbrev pub history_after_all : ℕ → List Entry → List Invocation → List Entry
-  history_after_all turns h [] = h
-  history_after_all turns h (c ∷ cs) = history_after_all (turns_to turns c) (history_to turns h c) cs
+abbrev pub created_member : Option (List Pair) → List (List ℕ × List ℕ) → List Pair
+created_member None added = []
+created_member (Some given) added = (codes "createdIds", object (members_of (created_object given added))) ∷ []
 
 -- the response to a request (RFC 8620 section 3.4)
-abbrev pub response_object : List Data → Data
-response_object rs = object (members_of (
-    (codes "methodResponses", list (items_of rs)) ∷ (codes "sessionState", text (codes "1")) ∷ []))
+abbrev pub response_object : Request → List Step → Data
+response_object r steps = object (members_of (
+    created_member r.created_ids (flat_map (λ m. m.reply.created) (made_in steps))
+    ++ (codes "methodResponses", list (items_of (map response_data (responses_in steps)))) ∷ (codes "sessionState", text (codes "1")) ∷ []))
+
+module _ (user : User) (moment : ℤ) (d : Data) (fronts fronts' : List Front) (s t : Shown) where
+  -- d is a request whose first invocations were answered, and these are left
+  pub record IsBegun (steps : List Step) (rest : List Invocation) : Type 0 where
+    pub request : Request
+    pub is_asked : asked_by d ≡ asked request
+    pub progress : Progress user request moment fronts fronts' s t steps rest
+
+  abbrev pub IsUntouched : Type 0
+  IsUntouched = (t ≡ s) × (fronts' ≡ fronts)
+
+  abbrev pub IsStopped : Type 0
+  IsStopped = (steps : List Step) × (rest : List Invocation) × IsBegun steps rest
+
+  -- What answering d does. All invocations are answered, or none since the whole is refused, or the first ones since the desk makes no more calls or memory is wanted.
+  abbrev pub IsBatch : Result Tree BatchError → Type 0
+  IsBatch (Ok tree) = (steps : List Step) × (begun : IsBegun steps []) × (data_of tree ≡ response_object begun.request steps)
+  IsBatch (Err (Refused e)) = (asked_by d ≡ refused e) × IsUntouched
+  IsBatch (Err PassSpent) = IsStopped × (t.turns ≡ most_turns)
+  IsBatch (Err NoMemory) = IsUntouched ⊎ IsStopped

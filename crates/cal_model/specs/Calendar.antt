@@ -1,7 +1,7 @@
 -- Calendars (draft JMAP for Calendars), and the creates that give a calendar's name and nothing else.
-use Rattle.std.specs.Prelude.{ℕ, pos, List, [], ◌∷◌, ◌&&◌, Bool, true, false, Some, length, codes, nat_lt, unwrap_or}
+use Rattle.std.specs.Prelude.{ℕ, pos, List, [], ◌∷◌, ◌&&◌, Bool, true, false, Some, is_some, length, codes, nat_lt, unwrap_or}
 use Rattle.std.specs.Str.{bytes_eq}
-use Rattle.cal_model.specs.Data.{Data, Pair, field, null, truth, whole, text}
+use Rattle.cal_model.specs.Data.{Data, Pair, field, lookup, null, truth, whole, text}
 use Rattle.cal_model.specs.Id.{id_text, is_id}
 use Rattle.cal_model.specs.Parts.{members_in}
 use Rattle.cal_model.specs.declared.entry.Change.{Change}
@@ -14,6 +14,10 @@ calendar n name =
     (codes "color", null) ∷ (codes "description", null) ∷ (codes "id", text (id_text Calendar n))
     ∷ (codes "isSubscribed", truth true) ∷ (codes "isVisible", truth true) ∷ (codes "name", name)
     ∷ (codes "resourceZone", null) ∷ (codes "sortOrder", whole (pos 0)) ∷ (codes "timeZone", null) ∷ []
+
+-- the name of a property
+abbrev pub is_calendar_property : List ℕ → Bool
+is_calendar_property name = is_some (lookup name (calendar 0 null))
 
 -- a text of 1 to 255 bytes
 abbrev pub is_name : Data → Bool

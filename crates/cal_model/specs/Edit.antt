@@ -14,3 +14,8 @@ with_pair k v (p ∷ ps) = if is_lt (slice_cmp nat_cmp p.0 k) then p ∷ with_pa
 abbrev pub without : List ℕ → List Pair → List Pair
 without k [] = []
 without k (p ∷ ps) = if bytes_eq p.0 k then ps else p ∷ without k ps
+
+-- the members with these put in, one after the other
+abbrev pub put_all : List Pair → List Pair → List Pair
+put_all [] members = members
+put_all (p ∷ ps) members = put_all ps (with_pair p.0 p.1 members)

@@ -1,18 +1,20 @@
 -- What a run of `batch` does, whatever bytes come: the main theorem's statement.
-use Rattle.std.specs.Prelude.{◌≡◌, ◌≤◌, ◌+◌, ℕ, ℤ, pos, List, [], ◌∷◌, ◌++◌, Bool, true, false, Option, Some, None, length, nat_lt, if◌then◌else◌}
+use Rattle.std.specs.Prelude.{◌≡◌, ◌≤◌, ◌+◌, ℕ, ℤ, pos, List, [], ◌∷◌, ◌++◌, Bool, true, false, Option, codes, length, nat_lt, if◌then◌else◌}
 use Rattle.std.specs.Int.{int_min, int_max}
 use Rattle.std.specs.Io.KnownBytes.{Consumes, IsAtEnd}
-use Rattle.cal_model.specs.Base.{Base}
-use Rattle.cal_model.specs.Batch.{Fits, response_object}
-use Rattle.cal_model.specs.Built.{is_unbuilt, only_account}
+use Rattle.cal_model.specs.Asked.{Asked, asked, refused, asked_by, is_refused}
+use Rattle.cal_model.specs.Batch.{Step, Progress, response_object}
 use Rattle.cal_model.specs.Data.{Data}
 use Rattle.cal_model.specs.Json.{Reading, not_json, not_whole, value, reading, text_of}
 use Rattle.cal_model.specs.Outside.{Grows, GrowsByFront, Ticks}
 use Rattle.cal_model.specs.Problem.{problem}
-use Rattle.cal_model.specs.Requests.{request_of}
+use Rattle.cal_model.specs.Session.{Shown}
+use Rattle.cal_model.specs.Signed.{written_by}
+use Rattle.cal_model.specs.declared.desk.Front.{Front}
+use Rattle.cal_model.specs.declared.request.Limit.TheVariants.{SizeRequest}
 use Rattle.cal_model.specs.declared.request.Request.{Request}
-use Rattle.cal_model.specs.declared.request.RequestError.{RequestError}
-use Rattle.cal_model.specs.declared.request.RequestError.TheVariants.{NotJson, NotRequest, NotBuilt}
+use Rattle.cal_model.specs.declared.request.RequestError.TheVariants.{NotJson, NotRequest, Limit}
+use Rattle.cal_model.specs.declared.user.User.{User}
 use Rattle.cal_model.specs.declared.status.Status.{Status}
 use Rattle.cal_model.specs.declared.status.Status.TheVariants.{Done, Refused, Usage, WriteFault}
 
@@ -20,35 +22,46 @@ use Rattle.cal_model.specs.declared.status.Status.TheVariants.{Done, Refused, Us
 abbrev pub max_size_request : ℕ
 max_size_request = 10000000
 
--- what bytes ask for: a request, or a refusal of the whole
-pub data Asked : Type 0 where
-  asked : Request → Asked
-  refused : RequestError → Asked
-
-abbrev pub asked_by_request : Option Request → Asked
-asked_by_request None = refused NotRequest
-asked_by_request (Some r) = if is_unbuilt r then refused NotBuilt else asked r
-
 abbrev pub asked_by_reading : Reading → Asked
 asked_by_reading not_json = refused NotJson
 asked_by_reading not_whole = refused NotRequest
-asked_by_reading (value d) = asked_by_request (request_of d)
+asked_by_reading (value d) = asked_by d
 
+-- what bytes ask for
 abbrev pub asked_in : List ℕ → Asked
-asked_in bytes = if nat_lt max_size_request (length bytes) then refused NotBuilt else asked_by_reading (reading bytes)
+asked_in bytes = if nat_lt max_size_request (length bytes) then refused (Limit SizeRequest) else asked_by_reading (reading bytes)
 
-abbrev pub is_refused : Asked → Bool
-is_refused (asked r) = false
-is_refused (refused e) = true
+-- the user for whom a run answers, with the one account `A1`
+abbrev pub local_user : User
+local_user = record { name = codes "local"; grants = (record { account = 0; id = codes "A1"; read_only = false }) ∷ [] }
 
--- the only account, before any call
-abbrev pub fresh : Base
-fresh = record { account_id = only_account; zones = [] }
+-- a desk over that account, before any call
+abbrev pub fresh_desk : Shown
+fresh_desk = record {
+  accounts = 1;
+  turns = 0;
+  base = λ k. record { account_id = codes "A1"; zones = [] };
+  seen = λ k. [];
+  author = λ k. 0;
+  last = λ k. 0;
+}
 
--- The answer to what was asked at a moment. A request's responses fit its calls, on an account without entries.
+-- no entry is anybody else's than the desk's
+abbrev pub IsSole : Shown → Type 0
+IsSole s = (k : ℕ) → written_by (s.author k) (s.seen k) ≡ s.seen k
+
+-- The answer to a request on a fresh account: its calls are a session that begins there, in which nobody else takes part.
+pub record IsResponse (moment : ℤ) (request : Request) (reply : Data) : Type 0 where
+  pub steps : List Step
+  pub fronts : List Front
+  pub desk : Shown
+  pub progress : Progress local_user request moment [] fronts fresh_desk desk steps []
+  pub sole : IsSole desk
+  pub shows : reply ≡ response_object request steps
+
+-- the answer to what was asked at a moment
 abbrev pub IsAnswer : ℤ → Asked → Data → Type 0
-IsAnswer moment (asked r) reply =
-    (responses : List Data) × Fits fresh r.using moment 0 [] r.calls responses × (reply ≡ response_object responses)
+IsAnswer moment (asked r) reply = IsResponse moment r reply
 IsAnswer moment (refused e) reply = reply ≡ problem e
 
 -- moments lie from 1970 to the end of the year 9998, in seconds of UTC

@@ -1,8 +1,9 @@
 -- Ids and states.
-use Rattle.std.specs.Prelude.{ℕ, List, ◌∷◌, ◌==◌, ◌&&◌, ◌||◌, Bool, length, decimal, nat_lt}
+use Rattle.std.specs.Prelude.{ℕ, List, [], ◌∷◌, ◌==◌, ◌&&◌, ◌||◌, Bool, Option, Some, None, length, decimal, nat_lt, option_and_then, if◌then◌else◌}
 use Rattle.std.specs.Char.{is_ascii_alphanumeric}
 use Rattle.std.specs.List.{list_all}
 use Rattle.cal_model.specs.History.{state_at}
+use Rattle.cal_model.specs.Number.{number_in}
 use Rattle.cal_model.specs.declared.entry.Change.{Change}
 use Rattle.cal_model.specs.declared.entry.Kind.{Kind}
 use Rattle.cal_model.specs.declared.entry.Kind.TheVariants.{Calendar, Event}
@@ -23,6 +24,14 @@ letter Event = 69
 -- the id of the object of this number
 abbrev pub id_text : Kind → ℕ → List ℕ
 id_text kind n = letter kind ∷ decimal n
+
+abbrev pub positive : ℕ → Option ℕ
+positive n = if nat_lt 0 n then Some n else None
+
+-- the number of the object that an id names
+abbrev pub object_number : Kind → List ℕ → Option ℕ
+object_number kind [] = None
+object_number kind (b ∷ bs) = if b == letter kind then option_and_then positive (number_in bs) else None
 
 -- the state of a kind, as clients see it (RFC 8620 section 5.1)
 abbrev pub state_text : Kind → List Change → List ℕ

@@ -1,7 +1,8 @@
 -- A ticket lock round a book, and what holds of it between any two steps of any threads.
-use Rattle.std.specs.Prelude.{◌≡◌, ◌≢◌, ℕ, ◌+◌, ◌^◌, ◌<◌, ◌≤◌, ◌==◌, Bool, true, false, IsTrue, List, ◌++◌, length, filter, sum_by, count_by, All, slice_get, Option, Some, None}
+use Rattle.std.specs.Prelude.{◌≡◌, ◌≢◌, ℕ, ◌+◌, ◌^◌, ◌<◌, ◌≤◌, Bool, true, false, IsTrue, List, ◌++◌, length, sum_by, count_by, All, slice_get, Option, Some, None}
 use Rattle.std.specs.List.Sorted.{IsNonDecreasingBy}
 use Rattle.cal_model.specs.Base.{Base}
+use Rattle.cal_model.specs.Signed.{written_by, Begins}
 use Rattle.cal_model.specs.declared.entry.Entry.{Entry}
 use Rattle.cal_model.specs.declared.lock.Phase.{Phase}
 use Rattle.cal_model.specs.declared.lock.Phase.TheVariants.{Idle, Waits, Turn, Read, Done}
@@ -58,13 +59,6 @@ has_read Waits = false
 has_read Turn = false
 has_read Read = true
 has_read Done = true
-
--- the entries of one author
-abbrev pub written_by : ℕ → List Entry → List Entry
-written_by author es = filter (λ e. e.author == author) es
-
-abbrev pub Begins : List Entry → List Entry → Type 0
-Begins h start = (rest : List Entry) × (h ≡ start ++ rest)
 
 module _ {B : Type 0} (entries : B → List Entry) (base : B → Base) where
   pub record IsTicketLock (opened : List Entry) (lock_base : Base) (l : TicketLock B) : Type 0 where

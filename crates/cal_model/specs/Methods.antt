@@ -1,5 +1,5 @@
 -- The methods by name, and their capabilities (RFC 8620 sections 2, 4 and 5, draft JMAP for Calendars).
-use Rattle.std.specs.Prelude.{ℕ, List, ◌||◌, Bool, Option, Some, None, if◌then◌else◌, option_and_then, codes}
+use Rattle.std.specs.Prelude.{ℕ, List, ◌||◌, Bool, true, false, Option, Some, None, if◌then◌else◌, option_and_then, codes}
 use Rattle.std.specs.List.{list_any}
 use Rattle.std.specs.Str.{bytes_eq}
 use Rattle.cal_model.specs.declared.method.Method.{Method}
@@ -31,6 +31,12 @@ abbrev pub capability : Method → List ℕ
 capability Echo = core
 capability GetAvailability = availability
 capability _ = calendars
+
+-- a method that changes an account
+abbrev pub is_set : Method → Bool
+is_set CalendarSet = true
+is_set EventSet = true
+is_set _ = false
 
 -- a capability that a request may use
 abbrev pub is_capability : List ℕ → Bool

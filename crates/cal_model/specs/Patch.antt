@@ -68,6 +68,6 @@ unless_failing None d = Ok d
 unless_failing (Some key) d = Err key
 
 -- The tree with each member that a patch names put in or removed, or the first key that fails, in byte order. The tests are made
--- on the tree as it was. No key is a prefix of another, so the order of the members doesn't matter.
+-- on the tree as it was.
 abbrev pub patched : Data → List Pair → Result Data (List ℕ)
 patched d ps = unless_failing (first_failing d [] ps) (placed_all d ps)

@@ -1,6 +1,7 @@
 -- What bytes are a request (RFC 8620 sections 3.2, 3.3 and 3.6.1).
-use Rattle.std.specs.Prelude.{ℕ, List, ◌==◌, length, get_or, Option, Some, None, option_map, option_and_then, if◌then◌else◌, codes}
-use Rattle.cal_model.specs.Data.{Data, null, object, Pair, field, pairs_of}
+use Rattle.std.specs.Prelude.{ℕ, List, [], ◌==◌, ◌&&◌, Bool, false, length, get_or, Option, Some, None, option_and_then, unwrap_or, if◌then◌else◌, codes}
+use Rattle.std.specs.List.{list_all}
+use Rattle.cal_model.specs.Data.{Data, null, text, object, Pair, field, pairs_of}
 use Rattle.cal_model.specs.Id.{is_id}
 use Rattle.cal_model.specs.Parts.{as_text, as_list, as_object, all_some}
 use Rattle.cal_model.specs.declared.request.Invocation.{Invocation}
@@ -24,21 +25,29 @@ invocation_of d = option_and_then invocation_in (as_list d)
 abbrev pub list_at : List ℕ → Data → Option (List Data)
 list_at key d = option_and_then as_list (field key d)
 
-abbrev pub id_in : List ℕ → Option (List ℕ)
-id_in s = if is_id s then Some s else None
+abbrev pub is_id_value : Data → Bool
+is_id_value (text s) = is_id s
+is_id_value _ = false
 
--- a creation id and an id
-abbrev pub id_pair : Pair → Option (List ℕ × List ℕ)
-id_pair p = option_and_then (λ k. option_map (λ id. (k, id)) (option_and_then id_in (as_text p.1))) (id_in p.0)
+-- a key and a value that are Ids
+abbrev pub is_id_pair : Pair → Bool
+is_id_pair p = is_id p.0 && is_id_value p.1
+
+-- a creation id and the id that it stands for
+abbrev pub id_pair_of : Pair → List ℕ × List ℕ
+id_pair_of p = (p.0, unwrap_or (as_text p.1) [])
+
+abbrev pub if_ids : List Pair → Option (Option (List Pair))
+if_ids ps = if list_all is_id_pair ps then Some (Some ps) else None
 
 -- The member `createdIds`: absent or null, or an object whose keys and values are Ids.
-abbrev pub created_ids_of : Option Data → Option (Option (List (List ℕ × List ℕ)))
+abbrev pub created_ids_of : Option Data → Option (Option (List Pair))
 created_ids_of None = Some None
 created_ids_of (Some null) = Some None
-created_ids_of (Some (object ms)) = option_map (λ ids. Some ids) (all_some id_pair (pairs_of ms))
+created_ids_of (Some (object ms)) = if_ids (pairs_of ms)
 created_ids_of _ = None
 
-abbrev pub request_with : Option (List (List ℕ)) → Option (List Invocation) → Option (Option (List (List ℕ × List ℕ))) → Option Request
+abbrev pub request_with : Option (List (List ℕ)) → Option (List Invocation) → Option (Option (List Pair)) → Option Request
 request_with (Some using) (Some calls) (Some ids) = Some (record { using = using; calls = calls; created_ids = ids })
 request_with _ _ _ = None
 

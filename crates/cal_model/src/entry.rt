@@ -1,5 +1,6 @@
 //! The history of an account.
 ghost use Rattle.std.specs.Prelude.{◌≡◌, IfOk};
+ghost use Rattle.cal_model.specs.History.{is_kind};
 
 use crate::tree::Tree;
 use std::alloc::AllocError;
@@ -11,6 +12,19 @@ pub enum Kind {
     Calendar,
     /// An event of calendars.
     Event,
+}
+
+impl Kind {
+    /// Whether the two are one kind. Takes no memory.
+    pub fn is(self, other: Kind) -> bool
+        ensures { result ≡ is_kind self other }
+    {
+        match (self, other) {
+            (Kind::Calendar, Kind::Calendar) => true,
+            (Kind::Event, Kind::Event) => true,
+            _ => false,
+        }
+    }
 }
 
 /// Puts one whole object, or removes one.

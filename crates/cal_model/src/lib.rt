@@ -3,6 +3,7 @@
 
 pub mod book;
 pub mod call;
+pub mod desk;
 pub mod entry;
 pub mod ids;
 pub mod lists;
@@ -11,7 +12,9 @@ pub mod method;
 pub mod num;
 pub mod object;
 pub mod request;
+pub mod response;
 pub mod stamp;
 pub mod status;
 pub mod text;
 pub mod tree;
+pub mod user;

@@ -56,6 +56,13 @@ impl Pairs {
         Pairs { pairs }
     }
 
+    /// Gives the pairs up, in order. Takes no memory.
+    pub fn into_pairs(self) -> Vec<(Text, Text)>
+        ensures { result.items ≡ self }
+    {
+        self.pairs
+    }
+
     /// The pairs, in order. Takes no memory.
     pub fn pairs(&self) -> &Vec<(Text, Text)>
         ensures { result.now.items ≡ self.now }

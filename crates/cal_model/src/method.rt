@@ -24,6 +24,23 @@ pub enum Method {
     GetAvailability,
 }
 
+/// A kind of JSON value that an argument may have.
+#[derive(Clone, Copy, Debug, PartialEq, Eq, Drop)]
+pub enum Shape {
+    /// A text.
+    Text,
+    /// A whole number.
+    Number,
+    /// True or false.
+    Truth,
+    /// A list of texts.
+    Texts,
+    /// A list of objects.
+    Objects,
+    /// An object.
+    Object,
+}
+
 impl Method {
     /// The method of a name. Takes no memory.
     pub fn named(name: &str) -> Option<Method>

@@ -1,7 +1,7 @@
 //! Requests.
 ghost use Rattle.std.specs.Prelude.{◌≡◌};
 
-use crate::lists::{Pairs, Texts};
+use crate::lists::Texts;
 use crate::text::Text;
 use crate::tree::TreeObject;
 use std::marker::Model;
@@ -66,8 +66,17 @@ pub struct Request {
     pub using: Texts,
     /// Its method calls, in order.
     pub calls: Invocations,
-    /// Creation ids with the ids of objects that were created before, where it has any.
-    pub created_ids: Option<Pairs>,
+    /// The member `createdIds`, where it has one: creation ids, each with the id of an object that was created before.
+    pub created_ids: Option<TreeObject>,
+}
+
+/// A limit on requests (RFC 8620 section 2).
+#[derive(Clone, Copy, Debug, PartialEq, Eq, Drop)]
+pub enum Limit {
+    /// `maxSizeRequest`: 10,000,000 bytes.
+    SizeRequest,
+    /// `maxCallsInRequest`: 16 calls.
+    CallsInRequest,
 }
 
 /// Why a whole request was refused (RFC 8620 section 3.6.1). No call of it was made.
@@ -77,6 +86,19 @@ pub enum RequestError {
     NotJson,
     /// The JSON is not a request, or has a number that isn't whole.
     NotRequest,
-    /// The form of the request isn't built.
-    NotBuilt,
+    /// The request uses a capability that the server doesn't have.
+    UnknownCapability,
+    /// The request passes a limit.
+    Limit(Limit),
+}
+
+/// Why a request wasn't answered whole.
+#[derive(Clone, Copy, Debug, PartialEq, Eq, Drop)]
+pub enum BatchError {
+    /// The whole request is refused. No call was made.
+    Refused(RequestError),
+    /// The desk made as many calls as it may.
+    PassSpent,
+    /// Memory was wanted.
+    NoMemory,
 }

@@ -199,6 +199,14 @@ impl TreeObject {
         &self.members
     }
 
+    /// Gives the members up, in byte order of their keys. Takes no memory.
+    pub fn into_members(self) -> Vec<Member>
+        ensures value { map pair_of result.items ≡ self }
+        ensures ordered { HasOrderedKeys self }
+    {
+        self.members
+    }
+
     /// The value at a key. Takes no memory.
     pub fn get(&self, key: &str) -> Option<&Tree>
         ensures { option_map (λ t. data_of t.now) result ≡ lookup key.now self.now }

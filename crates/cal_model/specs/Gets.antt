@@ -1,0 +1,81 @@
+-- Gets: the objects that are asked for, and the ids that name none (RFC 8620 section 5.1).
+use Rattle.std.specs.Prelude.{ℕ, List, [], ◌∷◌, ◌++◌, ◌||◌, Bool, true, not, Option, Some, None, option_and_then, is_some, unwrap_or, length, filter, flat_map, fold, map, codes, nat_lt, if◌then◌else◌}
+use Rattle.std.specs.List.{list_all, list_any}
+use Rattle.std.specs.Str.{bytes_eq}
+use Rattle.cal_model.specs.Calendar.{is_calendar_property}
+use Rattle.cal_model.specs.Data.{Data, text, list, object, Pair, items_of, members_of}
+use Rattle.cal_model.specs.History.{object_at, live_at}
+use Rattle.cal_model.specs.Id.{object_number, state_text}
+use Rattle.cal_model.specs.Parts.{behind_hash, members_in, some_of}
+use Rattle.cal_model.specs.TreeData.{data_of}
+use Rattle.cal_model.specs.declared.call.MethodError.{MethodError}
+use Rattle.cal_model.specs.declared.call.MethodError.TheVariants.{InvalidArguments, RequestTooLarge}
+use Rattle.cal_model.specs.declared.entry.Change.{Change}
+use Rattle.cal_model.specs.declared.entry.Kind.{Kind}
+use Rattle.cal_model.specs.declared.entry.Kind.TheVariants.{Calendar}
+use Rattle.cal_model.specs.declared.tree.Tree.{Tree}
+use Rattle.cal_model.specs.declared.tree.Tree.TheVariants.{Object}
+
+-- the id of the object that was last created under a key
+abbrev pub created_id_at : List (List ℕ × List ℕ) → List ℕ → Option (List ℕ)
+created_id_at created key = fold (λ found p. if bytes_eq p.0 key then Some p.1 else found) None created
+
+-- the id that a text stands for: `#key` is the created id of that key, where there is one (RFC 8620 section 5.3)
+abbrev pub resolved_id : List (List ℕ × List ℕ) → List ℕ → List ℕ
+resolved_id created id = unwrap_or (option_and_then (created_id_at created) (behind_hash id)) id
+
+-- the texts with this one, which goes last where it is new
+abbrev pub with_text : List (List ℕ) → List ℕ → List (List ℕ)
+with_text texts t = if list_any (λ u. bytes_eq u t) texts then texts else texts ++ t ∷ []
+
+-- the different texts, in order of first mention
+abbrev pub different : List (List ℕ) → List (List ℕ)
+different texts = fold with_text [] texts
+
+-- the live object of an id
+abbrev pub object_with_id : List Change → Kind → List ℕ → Option Tree
+object_with_id cs kind id = option_and_then (object_at cs kind) (object_number kind id)
+
+-- a property that is asked for; `id` always is
+abbrev pub is_asked_for : Option (List (List ℕ)) → Pair → Bool
+is_asked_for None p = true
+is_asked_for (Some names) p = bytes_eq p.0 (codes "id") || list_any (λ name. bytes_eq name p.0) names
+
+abbrev pub selected : Option (List (List ℕ)) → Tree → Data
+selected properties t = object (members_of (filter (is_asked_for properties) (members_in (data_of t))))
+
+module _ (cs : List Change) (kind : Kind) (created : List (List ℕ × List ℕ)) where
+  abbrev pub asked_ids : List (List ℕ) → List (List ℕ)
+  asked_ids ids = different (map (resolved_id created) ids)
+
+  -- the objects of these ids, or all in order of creation
+  abbrev pub objects_asked : Option (List (List ℕ)) → List Tree
+  objects_asked None = live_at cs kind
+  objects_asked (Some ids) = flat_map (λ id. some_of (object_with_id cs kind id)) (asked_ids ids)
+
+  abbrev pub ids_not_found : Option (List (List ℕ)) → List (List ℕ)
+  ids_not_found None = []
+  ids_not_found (Some ids) = filter (λ id. not (is_some (object_with_id cs kind id))) (asked_ids ids)
+
+-- the most ids of a get, and the most objects where all are asked for (RFC 8620 section 2, `maxObjectsInGet`)
+abbrev pub max_objects_in_get : ℕ
+max_objects_in_get = 500
+
+abbrev pub count_asked : List Change → Kind → Option (List (List ℕ)) → ℕ
+count_asked cs kind None = length (live_at cs kind)
+count_asked cs kind (Some ids) = length ids
+
+abbrev pub are_calendar_properties : Option (List (List ℕ)) → Bool
+are_calendar_properties None = true
+are_calendar_properties (Some names) = list_all is_calendar_property names
+
+-- why a get of calendars is refused: a property that calendars don't have, then too many objects
+abbrev pub get_error : List Change → Option (List (List ℕ)) → Option (List (List ℕ)) → Option MethodError
+get_error cs ids properties =
+    if not (are_calendar_properties properties) then Some InvalidArguments
+    else if nat_lt max_objects_in_get (count_asked cs Calendar ids) then Some RequestTooLarge else None
+
+abbrev pub get_arguments : List ℕ → List Change → List Data → List (List ℕ) → Tree
+get_arguments account cs objects missing = Object (
+    (codes "accountId", text account) ∷ (codes "list", list (items_of objects))
+    ∷ (codes "notFound", list (items_of (map text missing))) ∷ (codes "state", text (state_text Calendar cs)) ∷ [])
