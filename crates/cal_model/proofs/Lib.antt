@@ -6,3 +6,4 @@ pub mod SameLists
 pub mod OutsideLemmas
 pub mod IntRing
 pub mod CongruenceLemmas
+pub mod Sessions

@@ -86,7 +86,6 @@ module _ (user : User) (request : Request) (moment : ℤ) where
     pub fit : Fit [] steps
     pub session : Session s t (made_in steps)
     pub fronts_grew : fronts' ≡ fronts ++ map front_of (made_in steps)
-    pub turns : t.turns ≤ s.turns + length request.calls
 
 abbrev pub response_data : Response → Data
 response_data r = list (items_of (text r.name ∷ data_of r.arguments ∷ text r.call_id ∷ []))
@@ -111,6 +110,7 @@ module _ (user : User) (moment : ℤ) (d : Data) (fronts fronts' : List Front) (
     pub request : Request
     pub is_asked : asked_by d ≡ asked request
     pub progress : Progress user request moment fronts fronts' s t steps rest
+    pub turns : t.turns ≤ s.turns + length request.calls
 
   abbrev pub IsUntouched : Type 0
   IsUntouched = (t ≡ s) × (fronts' ≡ fronts)
