@@ -1,0 +1,9 @@
+//! Requests: what they ask for, and the responses to their calls.
+#![tactic(auto)]
+
+pub mod arguments;
+pub mod call;
+mod id;
+mod parts;
+pub mod problem;
+pub mod request;
