@@ -1,14 +1,18 @@
 -- What the invocations of a request lead to, one after the other.
 use Rattle.std.specs.Prelude.{◌≡◌, ℕ, ◌+◌, ◌≤◌, ℤ, List, [], length, Result, Ok, Err}
-use Rattle.cal_model.specs.Batch.{Step, Progress, created_after, responses_in}
+use Rattle.cal_model.specs.Batch.{Step, Progress, created_after, response_object, responses_in}
 use Rattle.cal_model.specs.Lock.{most_turns}
 use Rattle.cal_model.specs.Session.{Shown}
+use Rattle.cal_model.specs.TreeData.{data_of}
 use Rattle.cal_model.specs.declared.desk.DeskError.{DeskError}
 use Rattle.cal_model.specs.declared.desk.DeskError.TheVariants.{PassSpent, NoMemory}
 use Rattle.cal_model.specs.declared.desk.Front.{Front}
+use Rattle.cal_model.specs.declared.request.BatchError.{BatchError}
+use Rattle.cal_model.specs.declared.request.BatchError.TheVariants.{Refused, PassSpent as PassSpent', NoMemory as NoMemory'}
 use Rattle.cal_model.specs.declared.request.Invocation.{Invocation}
 use Rattle.cal_model.specs.declared.request.Request.{Request}
 use Rattle.cal_model.specs.declared.response.Response.{Response}
+use Rattle.cal_model.specs.declared.tree.Tree.{Tree}
 use Rattle.cal_model.specs.declared.user.User.{User}
 use Rattle.batch_exec.specs.declared.batch.Answers.{Answers}
 
@@ -27,6 +31,13 @@ module _ (user : User) (request : Request) (moment : ℤ) (fronts fronts' : List
 
   abbrev pub HasStopped : Type 0
   HasStopped = (steps : List Step) × (rest : List Invocation) × Took steps rest
+
+  -- the request was answered, or the first of its invocations were
+  abbrev pub IsRequestAnswered : Result Tree BatchError → Type 0
+  IsRequestAnswered (Ok tree) = (steps : List Step) × Took steps [] × (data_of tree ≡ response_object request steps)
+  IsRequestAnswered (Err NoMemory') = HasStopped
+  IsRequestAnswered (Err PassSpent') = HasStopped × (t.turns ≡ most_turns)
+  IsRequestAnswered (Err (Refused e)) = ⊥
 
   abbrev pub HasAnswered : Result Answers DeskError → Type 0
   HasAnswered (Ok answers) = (steps : List Step) × Took steps [] × (answers.responses.items ≡ responses_in steps) × (answers.created ≡ created_after request steps)

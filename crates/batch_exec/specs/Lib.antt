@@ -1,3 +1,4 @@
-pub mod Stepping
-pub mod Judgements
 pub mod Answering
+pub mod Judgements
+pub mod Refusal
+pub mod Stepping
