@@ -11,3 +11,4 @@ pub mod problem;
 pub mod request;
 mod response;
 pub mod run;
+pub mod stub;

@@ -1,11 +1,12 @@
 //! The response to a request, as JSON.
-ghost use Rattle.std.specs.Prelude.{◌≡◌, IfOk, map};
+ghost use Rattle.std.specs.Prelude.{◌≡◌, [], IfOk, map};
 ghost use Rattle.cal_model.specs.Batch.{created_object, id_member, response_data, response_with_ids};
 ghost use Rattle.cal_model.specs.Edit.{put_all};
 ghost use Rattle.cal_model.specs.TreeData.{data_of};
 ghost use Rattle.cal_model.specs.declared.tree.Tree.TheVariants.{Object};
 
 use cal_model::response::Response;
+use crate::stub::with_all;
 use cal_model::text::Text;
 use cal_model::tree::{Tree, TreeList, TreeObject};
 use std::alloc::{AllocError, Global};
@@ -60,7 +61,7 @@ pub(crate) fn response_tree(
             vec![in alloc; ("methodResponses", responses), ("sessionState", state)]?,
         ),
         Some(given) => {
-            let created = Tree::Object(given.with_all(alloc, added_object(alloc, added)?)?);
+            let created = Tree::Object(with_all(alloc, given, added_object(alloc, added)?)?);
             Tree::object(
                 alloc,
                 vec![in alloc;
