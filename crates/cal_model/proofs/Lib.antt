@@ -1,6 +1,7 @@
 pub mod Appending
 pub mod KeyOrder
 pub mod EditLemmas
+pub mod MergeLemmas
 pub mod MemberLemmas
 pub mod SameLists
 pub mod OutsideLemmas
