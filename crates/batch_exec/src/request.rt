@@ -37,9 +37,7 @@ pub fn request_from(alloc: Global, tree: Tree) -> Result<Request, BatchError>
         return Err(BatchError::Refused(RequestError::UnknownCapability));
     }
     if request.calls.items().len() > MAX_CALLS_IN_REQUEST {
-        return Err(BatchError::Refused(RequestError::Limit(
-            Limit::CallsInRequest,
-        )));
+        return Err(BatchError::Refused(RequestError::Limit(Limit::CallsInRequest)));
     }
     Ok(request)
 }
@@ -91,7 +89,7 @@ fn calls_from(alloc: Global, member: Option<Tree>) -> Result<Option<Invocations>
         return Ok(None);
     };
     let items = list.into_items();
-    let mut calls = Vec::with_capacity(alloc, items.len())?;
+    let mut calls = Vec::new(alloc);
     for item in items {
         match invocation_from(item) {
             Some(call) => calls.push(call)?,
