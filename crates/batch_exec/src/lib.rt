@@ -3,7 +3,6 @@
 
 pub mod arguments;
 pub mod call;
-mod id;
 mod parts;
 pub mod problem;
 pub mod request;
