@@ -6,7 +6,6 @@ ghost use Rattle.cal_model.specs.TreeData.{data_of};
 ghost use Rattle.cal_model.specs.declared.tree.Tree.TheVariants.{Object};
 
 use cal_model::response::Response;
-use crate::stub::with_all;
 use cal_model::text::Text;
 use cal_model::tree::{Tree, TreeList, TreeObject};
 use std::alloc::{AllocError, Global};
@@ -61,7 +60,7 @@ pub(crate) fn response_tree(
             vec![in alloc; ("methodResponses", responses), ("sessionState", state)]?,
         ),
         Some(given) => {
-            let created = Tree::Object(with_all(alloc, given, added_object(alloc, added)?)?);
+            let created = Tree::Object(given.with_all(alloc, added_object(alloc, added)?)?);
             Tree::object(
                 alloc,
                 vec![in alloc;

@@ -1,5 +1,5 @@
 //! A request, from its JSON to its response.
-ghost use Rattle.std.specs.Prelude.{◌≡◌, ◌<◌, [], All, IfOk, drop, length, unwrap_or};
+ghost use Rattle.std.specs.Prelude.{◌≡◌, ◌<◌, ◌≤◌, [], All, IfOk, drop, length, unwrap_or};
 ghost use Rattle.batch_exec.specs.Answering.{IsRequestAnswered};
 ghost use Rattle.cal_model.specs.Batch.{IsBatch, response_with_ids};
 ghost use Rattle.cal_model.specs.TreeData.{data_of};
@@ -69,6 +69,7 @@ fn response_from(
     given: Option<TreeObject>,
     answers: Answers,
 ) -> Result<Tree, AllocError>
+    requires { length (unwrap_or given []) ≤ length answers.created }
     ensures { IfOk result (λ t. data_of t ≡ response_with_ids given (drop (length (unwrap_or given [])) answers.created) answers.responses.items) }
 {
     let count = match &given {

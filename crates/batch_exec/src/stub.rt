@@ -2,11 +2,10 @@
 ghost use Rattle.std.specs.Prelude.{◌≡◌, IfOk, IfErr};
 ghost use Rattle.cal_model.specs.References.{resolution, resolved, both_forms, bad_reference};
 ghost use Rattle.batch_exec.specs.declared.stub.ReferenceError.TheVariants.{BothForms, BadReference};
-ghost use Rattle.cal_model.specs.Edit.{put_all};
 
 use cal_model::response::Response;
 use cal_model::tree::TreeObject;
-use std::alloc::{AllocError, Global};
+use std::alloc::Global;
 
 #[derive(Clone, Copy, Debug, PartialEq, Eq, Drop)]
 pub enum ReferenceError {
@@ -25,15 +24,4 @@ pub fn resolve(
     ensures bad { IfErr result (λ e. e ≡ BadReference → resolution _responses.now _arguments ≡ bad_reference) }
 {
     Err(ReferenceError::NoMemory)
-}
-
-pub fn with_all(
-    _alloc: Global,
-    one: TreeObject,
-    others: TreeObject,
-) -> Result<TreeObject, AllocError>
-    ensures { IfOk result (λ o. o ≡ put_all others one) }
-{
-    let _ = (one, others);
-    Err(AllocError)
 }

@@ -4,5 +4,5 @@ use Rattle.cal_model.specs.Batch.{id_member}
 use Rattle.cal_model.specs.Edit.{put_all}
 use Rattle.batch_exec.proofs.response.added_object.Given as goal
 
-abbrev pub invariant-loop-t-2 : goal.invariant-loop-t-2
-invariant-loop-t-2 l = put_all (map id_member (into_iter_items l.iterator)) l.object ≡ put_all (map id_member l.fn.added.items) []
+abbrev pub invariant-loop-key : goal.invariant-loop-key
+invariant-loop-key l = put_all (map id_member (into_iter_items l.key-iterator)) l.object ≡ put_all (map id_member l.fn.added.items) []
