@@ -44,8 +44,8 @@ fn grant_with_id<'a>(grants: &'a [Grant], id: &str) -> Option<&'a Grant>
 /// The call on an account that a method makes of its arguments, with the defaults of those that are absent
 /// (RFC 8620 section 5).
 ///
-/// `Core/echo` makes none. `created` are the created ids of the request so far. Texts and objects are moved out of the
-/// arguments; memory is taken for lists of texts and for defaults.
+/// `Core/echo` makes none. An argument of another kind of JSON counts as absent. `created` are the created ids of the
+/// request so far. Texts and objects are moved out of the arguments; memory is taken for lists of texts and for defaults.
 pub fn call_from(
     alloc: Global,
     method: Method,
