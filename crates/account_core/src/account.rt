@@ -1,15 +1,18 @@
 //! An account.
-ghost use Rattle.std.specs.Prelude.{◌≡◌, ◌++◌, ◌≤◌, [], IfOk, OnOk, OnErr, length, map};
-ghost use Rattle.cal_model.specs.Answer.{entries_from, planned, set_answer};
+ghost use Rattle.std.specs.Prelude.{◌≡◌, ◌++◌, ◌≤◌, [], IfOk, OnOk, OnErr, flat_map, length, map};
+ghost use Rattle.cal_model.specs.Answer.{entries_from, set_answer};
 ghost use Rattle.cal_model.specs.Base.{Base};
 ghost use Rattle.cal_model.specs.History.{changes_of};
 ghost use Rattle.cal_model.specs.ObjectKeys.{HasOrderedKeys};
+ghost use Rattle.cal_model.specs.Sets.{changes_in, outcomes};
 ghost use Rattle.cal_model.specs.TreeData.{pair_of};
 
 use crate::entries::entries_of;
 use crate::plain::all_plain;
 use crate::plan::plan;
-use crate::reply::{get_reply, refusal, set_reply};
+use crate::reply::refusal;
+use crate::set_reply::set_reply;
+use crate::tally::Tally;
 use cal_model::book::Book;
 use cal_model::call::{Call, MethodError, Reply};
 use cal_model::entry::{Entry, Kind};
@@ -20,9 +23,6 @@ use cal_model::tree::Member;
 use std::alloc::{AllocError, Global};
 use std::marker::Model;
 
-/// The most entries of an account. One that has them finds no memory for more.
-const MOST_ENTRIES: usize = 1 << 40;
-
 /// An account. Contracts see its base and its entries.
 #[derive(Drop)]
 pub struct Account {
@@ -30,13 +30,16 @@ pub struct Account {
     id: Text,
     zones: Pairs,
     entries: Vec<Entry>,
+    tally: Tally,
 }
 
 impl Model for Account {
-    ghost use Rattle.std.specs.Prelude.{List, ◌≤◌, ◌^◌, length};
+    ghost use Rattle.std.specs.Prelude.{List};
     ghost use Rattle.std.specs.Coded.{codes};
+    ghost use Rattle.account_core.specs.Tally.{Tallies};
     ghost use Rattle.cal_model.specs.Base.{Base};
     ghost use Rattle.cal_model.specs.DataCode.{data_code};
+    ghost use Rattle.cal_model.specs.History.{changes_of};
     ghost use Rattle.cal_model.specs.declared.entry.Entry.{Entry};
 
     ghost Value = { Base × List Entry };
@@ -45,11 +48,11 @@ impl Model for Account {
 
     ghost view = { λ a. (record { account_id = a.id; zones = a.zones }, a.entries.items) };
 
-    ghost invariant = { λ a. length a.entries.items ≤ 2 ^ 40 };
+    ghost invariant = { λ a. Tallies a.tally (changes_of a.entries.items) };
 }
 
 impl Account {
-    /// An account of this id, with no zones and no entries.
+    /// An account of this id, with no zones and no entries. Takes no memory.
     pub fn open(alloc: Global, id: Text) -> Result<Account, AllocError>
         ensures { IfOk result (λ a. a ≡ (record { account_id = id; zones = [] }, [])) }
     {
@@ -58,27 +61,28 @@ impl Account {
             id,
             zones: Pairs::new(Vec::new(alloc)),
             entries: Vec::new(alloc),
+            tally: Tally::new(),
         })
     }
 
-    /// Carries out plain creates: the reply is built and memory is reserved before an entry is added.
+    /// Carries out plain creates: what comes of each is found, the reply is built and memory is reserved before an entry
+    /// is added.
     fn create(&mut self, stamp: &Stamp, creates: &[Member]) -> Result<Reply, AllocError>
         requires few { length creates.now ≤ 500 }
         requires ordered { HasOrderedKeys (map pair_of creates.now) }
         ensures reply { IfOk result (λ r. r ≡ set_answer self.old.0.account_id self.old.1 (map pair_of creates.now)
-            (planned (changes_of self.old.1) (map pair_of creates.now))) }
+            (outcomes (changes_of self.old.1) (map pair_of creates.now))) }
         ensures grown { OnOk result (self.new.1 ≡ self.old.1 ++ entries_from stamp.now 0
-            (planned (changes_of self.old.1) (map pair_of creates.now))) }
+            (flat_map changes_in (outcomes (changes_of self.old.1) (map pair_of creates.now)))) }
         ensures unchanged { OnErr result (self.new.1 ≡ self.old.1) }
         ensures base { self.new.0 ≡ self.old.0 }
     {
-        if self.entries.len() + creates.len() > MOST_ENTRIES {
-            return Err(AllocError);
-        }
-        let changes = plan(self.alloc, &self.entries, creates)?;
-        let reply = set_reply(self.alloc, &self.id, &self.entries, creates, &changes)?;
-        let mut added = entries_of(self.alloc, stamp, changes)?;
+        let mut tally = self.tally;
+        let outcomes = plan(self.alloc, &mut tally, creates)?;
+        let reply = set_reply(self.alloc, &self.id, &self.entries, creates, &outcomes)?;
+        let mut added = entries_of(self.alloc, stamp, outcomes)?;
         self.entries.append(&mut added)?;
+        self.tally = tally;
         Ok(reply)
     }
 }
@@ -112,12 +116,6 @@ impl Book for Account {
             moment,
         };
         match call {
-            Call::Get {
-                kind: Kind::Calendar,
-                ids: None,
-                properties: None,
-                ..
-            } => get_reply(self.alloc, &self.id, &self.entries),
             Call::Set {
                 kind: Kind::Calendar,
                 if_in_state: None,

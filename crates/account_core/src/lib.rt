@@ -4,7 +4,10 @@
 pub mod account;
 pub mod calendar;
 pub mod entries;
+pub mod outcome;
 pub mod plain;
 pub mod plan;
 pub mod replay;
 pub mod reply;
+pub mod set_reply;
+pub mod tally;
