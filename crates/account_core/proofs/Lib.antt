@@ -1,3 +1,5 @@
-pub mod Orders
+pub mod Differences
 pub mod Numbers
+pub mod Orders
 pub mod Planning
+pub mod Table

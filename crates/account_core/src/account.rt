@@ -1,27 +1,35 @@
 //! An account.
-ghost use Rattle.std.specs.Prelude.{◌≡◌, ◌++◌, ◌≤◌, [], IfOk, OnOk, OnErr, flat_map, length, map};
-ghost use Rattle.cal_model.specs.Answer.{entries_from, set_answer};
+ghost use Rattle.std.specs.Prelude.{◌≡◌, ◌++◌, ◌≤◌, [], ℕ, List, Some, None, true, IfOk, OnOk, OnErr, flat_map, length, map};
+ghost use Rattle.cal_model.specs.Answer.{answer_to, entries_from, get_calendars, refused, set_answer};
 ghost use Rattle.cal_model.specs.Base.{Base};
+ghost use Rattle.cal_model.specs.Gets.{are_calendar_properties};
 ghost use Rattle.cal_model.specs.History.{changes_of};
 ghost use Rattle.cal_model.specs.ObjectKeys.{HasOrderedKeys};
 ghost use Rattle.cal_model.specs.Sets.{changes_in, outcomes};
 ghost use Rattle.cal_model.specs.TreeData.{pair_of};
 
+use crate::asked::are_properties;
 use crate::entries::entries_of;
+use crate::found::{find_all, find_ids};
+use crate::get_reply::get_reply;
 use crate::plain::all_plain;
 use crate::plan::plan;
+use crate::replay::live;
 use crate::reply::refusal;
 use crate::set_reply::set_reply;
 use crate::tally::Tally;
 use cal_model::book::Book;
 use cal_model::call::{Call, MethodError, Reply};
 use cal_model::entry::{Entry, Kind};
-use cal_model::lists::Pairs;
+use cal_model::lists::{Pairs, Texts};
 use cal_model::stamp::Stamp;
 use cal_model::text::Text;
 use cal_model::tree::Member;
 use std::alloc::{AllocError, Global};
 use std::marker::Model;
+
+/// The most ids of a get, and the most objects where all are asked for (RFC 8620 section 2, `maxObjectsInGet`).
+const MAX_OBJECTS_IN_GET: usize = 500;
 
 /// An account. Contracts see its base and its entries.
 #[derive(Drop)]
@@ -63,6 +71,61 @@ impl Account {
             entries: Vec::new(alloc),
             tally: Tally::new(),
         })
+    }
+
+    /// Answers a get of calendars.
+    fn get(
+        &self,
+        ids: &Option<Texts>,
+        properties: &Option<Texts>,
+        created: &Pairs,
+    ) -> Result<Reply, AllocError>
+        ensures { IfOk result (λ r. r ≡ answer_to self.now.0 self.now.1 (get_calendars ids.now properties.now created.now)) }
+    {
+        if !are_properties(properties) {
+            return Ok(self.refusal(MethodError::InvalidArguments));
+        }
+        match ids {
+            Some(ids) => self.get_ids(ids.items(), properties, created.pairs()),
+            None => self.get_all(properties),
+        }
+    }
+
+    /// Answers a get of these ids.
+    fn get_ids(
+        &self,
+        ids: &[Text],
+        properties: &Option<Texts>,
+        created: &[(Text, Text)],
+    ) -> Result<Reply, AllocError>
+        requires { are_calendar_properties properties.now ≡ true }
+        ensures { IfOk result (λ r. r ≡ answer_to self.now.0 self.now.1 (get_calendars (Some ids.now) properties.now created.now)) }
+    {
+        if ids.len() > MAX_OBJECTS_IN_GET {
+            return Ok(self.refusal(MethodError::RequestTooLarge));
+        }
+        let found = find_ids(self.alloc, &self.entries, ids, properties, created)?;
+        get_reply(self.alloc, &self.id, &self.entries, found)
+    }
+
+    /// Answers a get of all calendars.
+    fn get_all(&self, properties: &Option<Texts>) -> Result<Reply, AllocError>
+        requires { are_calendar_properties properties.now ≡ true }
+        ensures { IfOk result (λ r. r ≡ answer_to self.now.0 self.now.1 (get_calendars None properties.now [])) }
+    {
+        let calendars = live(self.alloc, &self.entries, Kind::Calendar, self.tally.calendars)?;
+        if calendars.len() > MAX_OBJECTS_IN_GET {
+            return Ok(self.refusal(MethodError::RequestTooLarge));
+        }
+        let found = find_all(self.alloc, &calendars, properties)?;
+        get_reply(self.alloc, &self.id, &self.entries, found)
+    }
+
+    /// The reply to a call that is refused. Takes no memory.
+    fn refusal(&self, error: MethodError) -> Reply
+        ensures { result ≡ refused self.now.1 error }
+    {
+        refusal(self.alloc, &self.entries, error)
     }
 
     /// Carries out plain creates: what comes of each is found, the reply is built and memory is reserved before an entry
@@ -116,6 +179,12 @@ impl Book for Account {
             moment,
         };
         match call {
+            Call::Get {
+                kind: Kind::Calendar,
+                ids,
+                properties,
+                created,
+            } => self.get(ids, properties, created),
             Call::Set {
                 kind: Kind::Calendar,
                 if_in_state: None,
@@ -137,10 +206,10 @@ impl Book for Account {
                 if all_plain(creates.members()) {
                     self.create(&stamp, creates.members())
                 } else {
-                    Ok(refusal(self.alloc, &self.entries, MethodError::NotBuilt))
+                    Ok(self.refusal(MethodError::NotBuilt))
                 }
             }
-            _ => Ok(refusal(self.alloc, &self.entries, MethodError::NotBuilt)),
+            _ => Ok(self.refusal(MethodError::NotBuilt)),
         }
     }
 

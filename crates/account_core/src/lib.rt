@@ -2,8 +2,11 @@
 #![tactic(auto)]
 
 pub mod account;
+pub mod asked;
 pub mod calendar;
 pub mod entries;
+pub mod found;
+pub mod get_reply;
 pub mod outcome;
 pub mod plain;
 pub mod plan;
