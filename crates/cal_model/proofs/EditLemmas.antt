@@ -1,4 +1,4 @@
--- Objects with a member put in or taken out: their keys stay in order, and what was taken out may be put in again.
+-- Objects with a member put in or taken out: their keys stay in order, other keys keep their values, and what was taken out may be put in again.
 use Rattle.std.proofs.Common.{◌≡◌, ℕ, List, [], ◌∷◌, Bool, true, false, if◌then◌else◌, refl, sym, ap, ◌∙◌, Ordering, Less, Equal, Greater}
 use Rattle.std.proofs.lemmas.Bool.{and_from}
 use Rattle.std.proofs.lemmas.Cmp.{nat_list_cmp_total}
@@ -8,7 +8,7 @@ use Rattle.std.specs.Cmp.Lexicographic.{slice_cmp}
 use Rattle.std.specs.Ordering.{nat_cmp, is_lt, is_eq, ordering_reverse}
 use Rattle.std.specs.Str.{bytes_eq}
 use Rattle.cal_model.proofs.KeyOrder.{above_later, both}
-use Rattle.cal_model.specs.Data.{Data, Pair}
+use Rattle.cal_model.specs.Data.{Data, Pair, lookup}
 use Rattle.cal_model.specs.Edit.{with_pair, without}
 use Rattle.cal_model.specs.ObjectKeys.{is_above, keys_rise}
 
@@ -109,3 +109,13 @@ again_step k v p ps r h false false b s =
 pub with_pair-without : (k : List ℕ) (v : Data) (ps : List Pair) → keys_rise ps ≡ true → with_pair k v (without k ps) ≡ with_pair k v ps
 with_pair-without k v [] r = refl
 with_pair-without k v (p ∷ ps) r = again_step k v p ps r (with_pair-without k v ps (both (is_above p.0 ps) (keys_rise ps) r).1) (is_lt (key_cmp p.0 k)) (bytes_eq p.0 k) refl refl
+
+other_key : (j k : List ℕ) (p : Pair) (ps : List Pair) → bytes_eq j k ≡ false → lookup k (without j ps) ≡ lookup k ps → (same : Bool) → bytes_eq p.0 j ≡ same → lookup k (without j (p ∷ ps)) ≡ lookup k (p ∷ ps)
+other_key j k p ps h e true s =
+    let unlike : bytes_eq p.0 k ≡ false = ap (λ i. bytes_eq i k) ((bytes_eq-Decides p.0 j).0 s) ∙ h in rw (s, unlike) refl
+other_key j k p ps h e false s = rw (s, e) refl
+
+-- a member taken out leaves the values of other keys
+pub lookup_without : (j k : List ℕ) (ps : List Pair) → bytes_eq j k ≡ false → lookup k (without j ps) ≡ lookup k ps
+lookup_without j k [] h = refl
+lookup_without j k (p ∷ ps) h = other_key j k p ps h (lookup_without j k ps h) (bytes_eq p.0 j) refl

@@ -3,6 +3,8 @@ use Rattle.std.specs.Prelude.{ℕ, List, [], ◌∷◌, Bool, true, false, not, 
 use Rattle.std.specs.List.{list_all}
 use Rattle.cal_model.specs.Data.{Data, null, Pair, lookup}
 use Rattle.cal_model.specs.Parts.{as_text, as_truth, as_whole, as_texts, as_list, as_object, all_some}
+use Rattle.cal_model.specs.declared.method.Argument.{Argument as Listed}
+use Rattle.cal_model.specs.declared.method.Argument.TheVariants.{Needs, Takes}
 use Rattle.cal_model.specs.declared.method.Method.{Method}
 use Rattle.cal_model.specs.declared.method.Method.TheVariants.{Echo, CalendarGet, CalendarChanges, CalendarSet, EventGet, EventChanges, EventSet, EventQuery, EventQueryChanges, GetAvailability}
 use Rattle.cal_model.specs.declared.method.Shape.{Shape}
@@ -19,6 +21,11 @@ needs name = record { name = name; shape = Text; is_required = true }
 
 abbrev pub takes : List ℕ → Shape → Argument
 takes name shape = record { name = name; shape = shape; is_required = false }
+
+-- what an argument in the code's table stands for
+abbrev pub argument_of : Listed → Argument
+argument_of (Needs name) = needs name.now
+argument_of (Takes name shape) = takes name.now shape
 
 abbrev pub get_arguments : List Argument
 get_arguments = needs (codes "accountId") ∷ takes (codes "ids") Texts ∷ takes (codes "properties") Texts ∷ []

@@ -32,6 +32,10 @@ pub record Step : Type 0 where
 abbrev pub made_in : List Step → List Made
 made_in steps = flat_map (λ s. some_of s.made) steps
 
+-- the created ids that the calls added
+abbrev pub created_in : List Step → List (List ℕ × List ℕ)
+created_in steps = flat_map (λ m. m.reply.created) (made_in steps)
+
 abbrev pub responses_in : List Step → List Response
 responses_in steps = map (λ s. s.response) steps
 
@@ -44,36 +48,40 @@ error_type AccountReadOnly = codes "accountReadOnly"
 error_type RequestTooLarge = codes "requestTooLarge"
 error_type NotBuilt = codes "notBuilt"
 
+-- RFC 8620 section 3.4
+abbrev pub response_with : List ℕ → List ℕ → Tree → Response
+response_with name call_id arguments = record { name = name; arguments = arguments; call_id = call_id }
+
 -- RFC 8620 section 3.6.2
-abbrev pub error_response : Invocation → MethodError → Response
-error_response c e = record { name = codes "error"; arguments = Object ((codes "type", text (error_type e)) ∷ []); call_id = c.call_id }
+abbrev pub error_response : List ℕ → MethodError → Response
+error_response call_id e = response_with (codes "error") call_id (Object ((codes "type", text (error_type e)) ∷ []))
 
-abbrev pub response_to : Invocation → Tree → Response
-response_to c arguments = record { name = c.name; arguments = arguments; call_id = c.call_id }
-
-abbrev pub reply_response : Invocation → Reply → Option MethodError → Response
-reply_response c reply None = response_to c reply.arguments
-reply_response c reply (Some e) = error_response c e
+abbrev pub reply_response : List ℕ → List ℕ → Tree → Option MethodError → Response
+reply_response name call_id arguments None = response_with name call_id arguments
+reply_response name call_id arguments (Some e) = error_response call_id e
 
 -- the response is what the invocation means, and the desk was called where it means a call
 abbrev pub FollowsFrom : ℤ → Meaning → Step → Type 0
-FollowsFrom moment (refuses e) s = (s.made ≡ None) × (s.response ≡ error_response s.invocation e)
-FollowsFrom moment (echoes arguments) s = (s.made ≡ None) × (s.response ≡ response_to s.invocation (Object arguments))
+FollowsFrom moment (refuses e) s = (s.made ≡ None) × (s.response ≡ error_response s.invocation.call_id e)
+FollowsFrom moment (echoes arguments) s = (s.made ≡ None) × (s.response ≡ response_with s.invocation.name s.invocation.call_id (Object arguments))
 FollowsFrom moment (calls account call) s =
     (m : Made) × (s.made ≡ Some m) × (m.account ≡ account) × (m.call ≡ call) × (m.moment ≡ moment)
-    × (s.response ≡ reply_response s.invocation m.reply m.reply.error)
+    × (s.response ≡ reply_response s.invocation.name s.invocation.call_id m.reply.arguments m.reply.error)
 
 -- a creation id and the id that the object got, as a request gives them
 abbrev pub id_member : List ℕ × List ℕ → Pair
 id_member p = (p.0, text p.1)
 
-module _ (user : User) (request : Request) (moment : ℤ) where
-  -- the created ids of the request before some step: those that it gives, and those that the calls added
-  abbrev pub created_before : List Step → List (List ℕ × List ℕ)
-  created_before steps = map id_pair_of (unwrap_or request.created_ids []) ++ flat_map (λ m. m.reply.created) (made_in steps)
+abbrev pub given_ids : Request → List (List ℕ × List ℕ)
+given_ids request = map id_pair_of (unwrap_or request.created_ids [])
 
+-- the created ids of a request after some steps: those that it gives, and those that the calls added
+abbrev pub created_after : Request → List Step → List (List ℕ × List ℕ)
+created_after request steps = given_ids request ++ created_in steps
+
+module _ (user : User) (request : Request) (moment : ℤ) where
   abbrev pub meaning_after : List Step → Invocation → Meaning
-  meaning_after steps c = meaning_of_method user.grants (created_before steps) (responses_in steps) c.arguments (method_used request.using c.name)
+  meaning_after steps c = meaning_of_method user.grants (created_after request steps) (responses_in steps) c.arguments (method_used request.using c.name)
 
   -- Each step follows from what its invocation means after the steps before it.
   abbrev pub Fit : List Step → List Step → Type 0
@@ -86,7 +94,6 @@ module _ (user : User) (request : Request) (moment : ℤ) where
     pub fit : Fit [] steps
     pub session : Session s t (made_in steps)
     pub fronts_grew : fronts' ≡ fronts ++ map front_of (made_in steps)
-    pub turns : t.turns ≤ s.turns + length request.calls
 
 abbrev pub response_data : Response → Data
 response_data r = list (items_of (text r.name ∷ data_of r.arguments ∷ text r.call_id ∷ []))
@@ -99,11 +106,14 @@ abbrev pub created_member : Option (List Pair) → List (List ℕ × List ℕ) �
 created_member None added = []
 created_member (Some given) added = (codes "createdIds", object (members_of (created_object given added))) ∷ []
 
--- the response to a request (RFC 8620 section 3.4)
+-- the response to a request that gives these created ids, where calls added those (RFC 8620 section 3.4)
+abbrev pub response_with_ids : Option (List Pair) → List (List ℕ × List ℕ) → List Response → Data
+response_with_ids given added responses = object (members_of (
+    created_member given added
+    ++ (codes "methodResponses", list (items_of (map response_data responses))) ∷ (codes "sessionState", text (codes "1")) ∷ []))
+
 abbrev pub response_object : Request → List Step → Data
-response_object r steps = object (members_of (
-    created_member r.created_ids (flat_map (λ m. m.reply.created) (made_in steps))
-    ++ (codes "methodResponses", list (items_of (map response_data (responses_in steps)))) ∷ (codes "sessionState", text (codes "1")) ∷ []))
+response_object r steps = response_with_ids r.created_ids (created_in steps) (responses_in steps)
 
 module _ (user : User) (moment : ℤ) (d : Data) (fronts fronts' : List Front) (s t : Shown) where
   -- d is a request whose first invocations were answered, and these are left
@@ -111,6 +121,7 @@ module _ (user : User) (moment : ℤ) (d : Data) (fronts fronts' : List Front) (
     pub request : Request
     pub is_asked : asked_by d ≡ asked request
     pub progress : Progress user request moment fronts fronts' s t steps rest
+    pub turns : t.turns ≤ s.turns + length request.calls
 
   abbrev pub IsUntouched : Type 0
   IsUntouched = (t ≡ s) × (fronts' ≡ fronts)

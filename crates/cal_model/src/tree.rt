@@ -5,6 +5,7 @@ ghost use Rattle.cal_model.specs.SameData.{same_items, same_members};
 ghost use Rattle.cal_model.specs.TreeData.{data_of, pair_of};
 
 mod edit;
+mod merge;
 
 use crate::num::Num;
 use crate::text::Text;

@@ -3,7 +3,7 @@ ghost use Rattle.std.specs.Prelude.{◌≡◌, ◌≤◌, ◌<◌, ◌++◌, OnO
 ghost use Rattle.std.specs.Cmp.Lexicographic.{slice_cmp};
 ghost use Rattle.std.specs.Ordering.{nat_cmp, is_lt};
 ghost use Rattle.cal_model.specs.Data.{lookup};
-ghost use Rattle.cal_model.specs.Edit.{with_pair, without};
+ghost use Rattle.cal_model.specs.Edit.{ChangesOnlyAt, with_pair, without};
 ghost use Rattle.cal_model.specs.KeyAt.{is_key_at};
 ghost use Rattle.cal_model.specs.ObjectKeys.{HasOrderedKeys};
 ghost use Rattle.cal_model.specs.TreeData.{data_of, pair_of};
@@ -26,10 +26,11 @@ impl TreeObject {
     }
 
     /// Takes out the value at a key. Takes no memory.
-    #[tactic(auto, using(crate::proofs::EditLemmas::rises_without))]
+    #[tactic(auto, using(crate::proofs::EditLemmas::rises_without, crate::proofs::EditLemmas::lookup_without))]
     pub fn take(&mut self, key: &str) -> Option<Tree>
         ensures value { option_map data_of result ≡ lookup key.now self.old }
         ensures rest { self.new ≡ without key.now self.old }
+        ensures others { ChangesOnlyAt key.now self.old self.new }
         ensures was_ordered { HasOrderedKeys self.old }
     {
         take_member(&mut self.members, key)

@@ -1,0 +1,60 @@
+-- What an invocation means, and what came of it, are a step.
+use Rattle.std.proofs.Common.{◌≡◌, ℕ, ℤ, ◌⊎◌, inl, inr, List, [], ◌∷◌, ◌++◌, Option, Some, None, Result, Ok, Err, refl, sym, ap, ◌∙◌, subst, append-nil}
+use Rattle.cal_model.specs.Batch.{Step, FollowsFrom, created_in, reply_response}
+use Rattle.cal_model.specs.Calls.{created_in as created_with_call}
+use Rattle.cal_model.specs.Meaning.{Meaning, calls, meaning_of_method}
+use Rattle.cal_model.specs.Methods.{method_used}
+use Rattle.cal_model.specs.Session.{Made, Shown}
+use Rattle.cal_model.specs.declared.call.Call.{Call}
+use Rattle.cal_model.specs.declared.desk.DeskError.{DeskError}
+use Rattle.cal_model.specs.declared.desk.DeskError.TheVariants.{NoMemory, PassSpent}
+use Rattle.cal_model.specs.declared.desk.Front.{Front}
+use Rattle.cal_model.specs.declared.request.Invocation.{Invocation}
+use Rattle.cal_model.specs.declared.response.Response.{Response}
+use Rattle.cal_model.specs.declared.user.Grant.{Grant}
+use Rattle.batch_exec.specs.Stepping.{Answers, IsCallResponse, IsResponse, Takes}
+use Rattle.batch_exec.proofs.Asking.{unasked}
+
+module _ (grants : List Grant) (using : List (List ℕ)) (moment : ℤ) (responses : List Response) (created created' : List (List ℕ × List ℕ)) (c : Invocation) where
+  abbrev meant : Meaning
+  meant = meaning_of_method grants created responses c.arguments (method_used using c.name)
+
+  -- no account was asked
+  pub responds_itself : (fronts : List Front) (s : Shown) (m : Meaning) (response : Response) → m ≡ meant → created' ≡ created
+      → FollowsFrom moment m (record { invocation = c; made = None; response = response })
+      → IsResponse fronts fronts s s grants using moment responses created created' c (Ok response)
+  responds_itself fronts s m response is same follows =
+      let step : Step = record { invocation = c; made = None; response = response } in (
+        step,
+        record { invocation = refl; follows = subst (λ (n : Meaning). FollowsFrom moment n step) is follows; makes = unasked refl refl },
+        same ∙ sym (append-nil created),
+        refl,
+      )
+
+  module _ (fronts fronts' : List Front) (s t : Shown) (account : ℕ) (call : Call) where
+    takes_call : (m : Made) (response : Response) → calls account call ≡ meant → Answers fronts fronts' s t account call moment m → response ≡ reply_response c.name c.call_id m.reply.arguments m.reply.error
+        → Takes fronts fronts' s t grants using moment responses created created' c (record { invocation = c; made = Some m; response = response })
+    takes_call m response is answers shows =
+        let step : Step = record { invocation = c; made = Some m; response = response } in
+        record {
+          invocation = refl;
+          follows = subst (λ (n : Meaning). FollowsFrom moment n step) is (m, refl, answers.on_account, answers.asked, answers.at_moment, shows);
+          makes = answers.makes;
+        }
+
+    -- an account was asked
+    pub responds_from_account : (r : Result Response DeskError) → calls account call ≡ meant → created_with_call call ≡ created
+        → IsCallResponse fronts fronts' s t account call moment c.name c.call_id created' r → IsResponse fronts fronts' s t grants using moment responses created created' c r
+    responds_from_account (Ok response) is same x =
+        let m = x.0 in (
+          record { invocation = c; made = Some m; response = response },
+          takes_call m response is x.1 x.3,
+          x.2 ∙ (λ k. same k ++ sym (append-nil m.reply.created) k),
+          refl,
+        )
+    responds_from_account (Err NoMemory) is same (inl none) = inl none
+    responds_from_account (Err NoMemory) is same (inr x) =
+        let m = x.0 in
+        let response = reply_response c.name c.call_id m.reply.arguments m.reply.error in
+        inr (record { invocation = c; made = Some m; response = response }, takes_call m response is x.1 refl)
+    responds_from_account (Err PassSpent) is same x = x

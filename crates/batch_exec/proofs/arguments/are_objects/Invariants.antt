@@ -1,0 +1,8 @@
+use Rattle.std.proofs.Common.{◌≡◌, drop, map}
+use Rattle.std.specs.Prelude.{is_some}
+use Rattle.cal_model.specs.Parts.{all_some, as_object}
+use Rattle.cal_model.specs.TreeData.{data_of}
+use Rattle.batch_exec.proofs.arguments.are_objects.Given as goal
+
+abbrev pub invariant-loop-item : goal.invariant-loop-item
+invariant-loop-item l = is_some (all_some as_object (map data_of (drop l.item-index l.items))) ≡ is_some (all_some as_object (map data_of l.items))

@@ -1,0 +1,4 @@
+pub mod Answering
+pub mod Judgements
+pub mod Refusal
+pub mod Stepping

@@ -1,0 +1,248 @@
+//! The invocations of a request, one after the other, on the accounts of a desk.
+ghost use Rattle.std.specs.Prelude.{◌≡◌, ◌<◌, ◌++◌, [], All, IfOk, map, unwrap_or};
+ghost use Rattle.cal_model.specs.Batch.{error_response, error_type, reply_response};
+ghost use Rattle.cal_model.specs.Parts.{as_text};
+ghost use Rattle.cal_model.specs.Requests.{id_pair_of};
+ghost use Rattle.cal_model.specs.TreeData.{data_of, pair_of};
+ghost use Rattle.batch_exec.specs.Answering.{HasAnswered};
+ghost use Rattle.batch_exec.specs.Stepping.{IsCallResponse, IsReply, IsResponse};
+
+use crate::meaning::{Judgement, judge};
+use cal_model::call::{Call, MethodError, Reply};
+use cal_model::desk::{Desk, DeskError, Front};
+use cal_model::lists::{Pairs, Texts};
+use cal_model::request::{Invocation, Invocations};
+use cal_model::response::Response;
+use cal_model::text::Text;
+use cal_model::tree::{Member, Tree, TreeObject};
+use cal_model::user::User;
+use std::alloc::{AllocError, Global};
+
+fn error_name(error: MethodError) -> &'static str
+    ensures { result.now ≡ error_type error }
+{
+    match error {
+        MethodError::UnknownMethod => "unknownMethod",
+        MethodError::InvalidArguments => "invalidArguments",
+        MethodError::InvalidResultReference => "invalidResultReference",
+        MethodError::AccountNotFound => "accountNotFound",
+        MethodError::AccountReadOnly => "accountReadOnly",
+        MethodError::RequestTooLarge => "requestTooLarge",
+        MethodError::NotBuilt => "notBuilt",
+    }
+}
+
+/// The response to an invocation that was refused (RFC 8620 section 3.6.2).
+fn refusal(alloc: Global, call_id: Text, error: MethodError) -> Result<Response, AllocError>
+    ensures { IfOk result (λ r. r ≡ error_response call_id error) }
+{
+    let kind = Tree::Text(Text::from_str(alloc, error_name(error))?);
+    let arguments = Tree::object(alloc, vec![in alloc; ("type", kind)]?)?;
+    let name = Text::from_str(alloc, "error")?;
+    Ok(Response {
+        name,
+        arguments,
+        call_id,
+    })
+}
+
+/// The response to an invocation that an account replied to.
+fn reply_of(
+    alloc: Global,
+    name: Text,
+    call_id: Text,
+    arguments: Tree,
+    error: Option<MethodError>,
+) -> Result<Response, AllocError>
+    ensures { IfOk result (λ r. r ≡ reply_response name call_id arguments error) }
+{
+    match error {
+        Some(error) => refusal(alloc, call_id, error),
+        None => Ok(Response {
+            name,
+            arguments,
+            call_id,
+        }),
+    }
+}
+
+/// Asks for a call on an account, at a moment in seconds of UTC from 1970, and notes where it was answered.
+///
+/// The memory for the note is taken before the desk is asked.
+fn ask<D: Desk>(
+    desk: &mut D,
+    account: u32,
+    call: &Call,
+    moment: &i64,
+    fronts: &mut Vec<Front>,
+) -> Result<Reply, DeskError>
+    requires { account < (D.shown desk.old).accounts }
+    ensures { IsReply fronts.old.items fronts.new.items (D.shown desk.old) (D.shown desk.new) account call.now moment.now result }
+{
+    if fronts.reserve(1).is_err() {
+        return Err(DeskError::NoMemory);
+    }
+    match desk.call(account, call, *moment) {
+        Ok(reply) => {
+            let place = reply.place;
+            fronts.push_reserved(Front { account, place });
+            Ok(reply)
+        }
+        Err(error) => Err(error),
+    }
+}
+
+/// Adds the pairs of a reply to the created ids of the request.
+fn with_added(created: Pairs, added: Pairs) -> Result<Pairs, AllocError>
+    ensures { IfOk result (λ c. c ≡ created ++ added) }
+{
+    let mut pairs = created.into_pairs();
+    pairs.append(&mut added.into_pairs())?;
+    Ok(Pairs::new(pairs))
+}
+
+/// The response to a call on an account, whose created ids go to those of the request.
+fn respond_from_account<D: Desk>(
+    alloc: Global,
+    desk: &mut D,
+    account: u32,
+    call: Call,
+    moment: &i64,
+    fronts: &mut Vec<Front>,
+    created: &mut Pairs,
+    name: Text,
+    call_id: Text,
+) -> Result<Response, DeskError>
+    requires { account < (D.shown desk.old).accounts }
+    ensures { IsCallResponse fronts.old.items fronts.new.items (D.shown desk.old) (D.shown desk.new) account call moment.now name call_id created.new result }
+{
+    let reply = match ask(desk, account, &call, moment, fronts) {
+        Ok(reply) => reply,
+        Err(error) => return Err(error),
+    };
+    match with_added(call.into_created(), reply.created) {
+        Ok(pairs) => *created = pairs,
+        Err(_) => return Err(DeskError::NoMemory),
+    }
+    match reply_of(alloc, name, call_id, reply.arguments, reply.error) {
+        Ok(response) => Ok(response),
+        Err(_) => Err(DeskError::NoMemory),
+    }
+}
+
+/// The response to an invocation, by the responses and the created ids before it.
+fn respond<D: Desk>(
+    alloc: Global,
+    user: &User,
+    capabilities: &[Text],
+    responses: &[Response],
+    created: &mut Pairs,
+    desk: &mut D,
+    invocation: Invocation,
+    moment: &i64,
+    fronts: &mut Vec<Front>,
+) -> Result<Response, DeskError>
+    requires { All (λ g. g.account < (D.shown desk.old).accounts) user.now.grants }
+    ensures { IsResponse fronts.old.items fronts.new.items (D.shown desk.old) (D.shown desk.new) user.now.grants capabilities.now moment.now responses.now created.old created.new invocation result }
+{
+    let Invocation {
+        name,
+        arguments,
+        call_id,
+    } = invocation;
+    match judge(alloc, user, capabilities, responses, created, &name, arguments) {
+        Ok(Judgement::Refused(error)) => match refusal(alloc, call_id, error) {
+            Ok(response) => Ok(response),
+            Err(_) => Err(DeskError::NoMemory),
+        },
+        Ok(Judgement::Echo(arguments)) => Ok(Response {
+            name,
+            arguments: Tree::Object(arguments),
+            call_id,
+        }),
+        Ok(Judgement::Call { account, call }) => respond_from_account(
+            alloc, desk, account, call, moment, fronts, created, name, call_id,
+        ),
+        Err(_) => Err(DeskError::NoMemory),
+    }
+}
+
+/// The created ids that a request gives.
+fn given_ids(alloc: Global, given: &Option<TreeObject>) -> Result<Pairs, AllocError>
+    ensures { IfOk result (λ c. c ≡ map id_pair_of (unwrap_or given.now [])) }
+{
+    match given {
+        None => Ok(Pairs::new(Vec::new(alloc))),
+        Some(object) => id_pairs(alloc, object.members()),
+    }
+}
+
+fn id_pairs(alloc: Global, members: &[Member]) -> Result<Pairs, AllocError>
+    ensures { IfOk result (λ c. c ≡ map id_pair_of (map pair_of members.now)) }
+{
+    let mut pairs = Vec::with_capacity(alloc, members.len())?;
+    for member in members {
+        pairs.push((member.key.copy()?, id_text(alloc, &member.value)?))?;
+    }
+    Ok(Pairs::new(pairs))
+}
+
+fn id_text(alloc: Global, value: &Tree) -> Result<Text, AllocError>
+    ensures { IfOk result (λ t. t ≡ unwrap_or (as_text (data_of value.now)) []) }
+{
+    match value {
+        Tree::Text(text) => text.copy(),
+        _ => Text::from_str(alloc, ""),
+    }
+}
+
+/// What the invocations of a request came to.
+#[derive(Drop)]
+pub(crate) struct Answers {
+    /// The responses, in order.
+    pub(crate) responses: Vec<Response>,
+    /// The created ids: those that the request gives, and those that its calls added.
+    pub(crate) created: Pairs,
+}
+
+/// Answers the invocations of a request, one after the other, until one isn't answered.
+///
+/// `given` are the created ids that the request gives.
+pub(crate) fn answer_all<D: Desk>(
+    alloc: Global,
+    capabilities: &Texts,
+    calls: Invocations,
+    given: &Option<TreeObject>,
+    user: &User,
+    desk: &mut D,
+    moment: &i64,
+    fronts: &mut Vec<Front>,
+) -> Result<Answers, DeskError>
+    requires { All (λ g. g.account < (D.shown desk.old).accounts) user.now.grants }
+    ensures { HasAnswered user.now (record { using = capabilities.now; calls = calls; created_ids = given.now }) moment.now fronts.old.items fronts.new.items (D.shown desk.old) (D.shown desk.new) result }
+{
+    let Ok(mut created) = given_ids(alloc, given) else {
+        return Err(DeskError::NoMemory);
+    };
+    let mut responses = Vec::new(alloc);
+    for invocation in calls.into_items() {
+        let response = match respond(
+            alloc,
+            user,
+            capabilities.items(),
+            &responses,
+            &mut created,
+            desk,
+            invocation,
+            moment,
+            fronts,
+        ) {
+            Ok(response) => response,
+            Err(error) => return Err(error),
+        };
+        if responses.push(response).is_err() {
+            return Err(DeskError::NoMemory);
+        }
+    }
+    Ok(Answers { responses, created })
+}

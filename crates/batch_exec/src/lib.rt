@@ -1,0 +1,13 @@
+//! Requests: what they ask for, what each invocation means, and the responses, over any desk.
+#![tactic(auto)]
+
+pub mod arguments;
+mod batch;
+pub mod call;
+mod meaning;
+mod parts;
+pub mod problem;
+pub mod request;
+mod response;
+pub mod run;
+pub mod stub;
