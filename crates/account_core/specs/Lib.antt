@@ -1,1 +1,4 @@
+pub mod IdsByKey
+pub mod Outcome
+pub mod Tally
 pub mod Signatures

@@ -1,6 +1,6 @@
 -- What a call adds carries its author and its turn.
 use Rattle.std.proofs.Common.{ℕ, List, [], ◌∷◌, refl, suc}
-use Rattle.cal_model.specs.Answer.{Form, get_all, create_plain, not_built, form_of, added, added_by, entries_from}
+use Rattle.cal_model.specs.Answer.{Form, get_calendars, create_plain, not_built, form_of, added, added_by_form, entries_from}
 use Rattle.cal_model.specs.Base.{Base}
 use Rattle.cal_model.specs.Signed.{AreSigned}
 use Rattle.cal_model.specs.declared.call.Call.{Call}
@@ -12,10 +12,10 @@ signed_from : (s : Stamp) (cs : List Change) (n : ℕ) → AreSigned s.author s.
 signed_from s [] n = tt
 signed_from s (c ∷ cs) n = (refl, refl, signed_from s cs (suc n))
 
-signed_by : (s : Stamp) (h : List Entry) (f : Form) → AreSigned s.author s.turn (added_by s h f)
-signed_by s h get_all = tt
-signed_by s h (create_plain creates) = signed_from s _ 0
-signed_by s h not_built = tt
+signed_by_form : (s : Stamp) (h : List Entry) (f : Form) → AreSigned s.author s.turn (added_by_form s h f)
+signed_by_form s h (get_calendars ids properties created) = tt
+signed_by_form s h (create_plain creates) = signed_from s _ 0
+signed_by_form s h not_built = tt
 
 pub added_signed : (b : Base) (h : List Entry) (c : Call) (s : Stamp) → AreSigned s.author s.turn (added b h c s)
-added_signed b h c s = signed_by s h (form_of c)
+added_signed b h c s = signed_by_form s h (form_of c)
