@@ -1,3 +1,5 @@
 pub mod Asking
+pub mod Finishing
+pub mod Granting
 pub mod Responding
 pub mod Progressing

@@ -210,7 +210,7 @@ pub(crate) struct Answers {
 /// `given` are the created ids that the request gives.
 pub(crate) fn answer_all<D: Desk>(
     alloc: Global,
-    using: &Texts,
+    capabilities: &Texts,
     calls: Invocations,
     given: &Option<TreeObject>,
     user: &User,
@@ -219,7 +219,7 @@ pub(crate) fn answer_all<D: Desk>(
     fronts: &mut Vec<Front>,
 ) -> Result<Answers, DeskError>
     requires { All (λ g. g.account < (D.shown desk.old).accounts) user.now.grants }
-    ensures { HasAnswered user.now (record { using = using.now; calls = calls; created_ids = given.now }) moment.now fronts.old.items fronts.new.items (D.shown desk.old) (D.shown desk.new) result }
+    ensures { HasAnswered user.now (record { using = capabilities.now; calls = calls; created_ids = given.now }) moment.now fronts.old.items fronts.new.items (D.shown desk.old) (D.shown desk.new) result }
 {
     let Ok(mut created) = given_ids(alloc, given) else {
         return Err(DeskError::NoMemory);
@@ -229,7 +229,7 @@ pub(crate) fn answer_all<D: Desk>(
         let response = match respond(
             alloc,
             user,
-            using.items(),
+            capabilities.items(),
             &responses,
             &mut created,
             desk,

@@ -1,11 +1,9 @@
 //! The calls on accounts that methods make of their arguments.
-ghost use Rattle.std.specs.Prelude.{◌≡◌, ◌≢◌, ℕ, List, Bool, IfOk, Some, codes, false, option_map};
-ghost use Rattle.std.specs.Str.{bytes_eq};
+ghost use Rattle.std.specs.Prelude.{◌≡◌, ◌≢◌, IfOk, Some, codes, option_map};
 ghost use Rattle.cal_model.specs.Calls.{argument, availability_call, call_of, changes_call, get_call, list_tree, number_argument, object_tree, query_call, query_changes_call, set_call, text_argument, truth_argument, zone_argument};
-ghost use Rattle.cal_model.specs.Data.{lookup};
+ghost use Rattle.cal_model.specs.Edit.{ChangesOnlyAt};
 ghost use Rattle.cal_model.specs.Meaning.{grant_of};
-ghost use Rattle.cal_model.specs.Parts.{as_list, as_object, as_text, as_texts, as_truth, as_whole};
-ghost use Rattle.cal_model.specs.TreeData.{data_of};
+ghost use Rattle.cal_model.specs.Parts.{as_object, as_text, as_texts, as_truth, as_whole};
 
 use crate::parts::{into_list, into_object, into_text, into_texts};
 use cal_model::call::Call;
@@ -46,8 +44,8 @@ fn grant_with_id<'a>(grants: &'a [Grant], id: &str) -> Option<&'a Grant>
 /// The call on an account that a method makes of its arguments, with the defaults of those that are absent
 /// (RFC 8620 section 5).
 ///
-/// `Core/echo` makes none. `created` are the created ids of the request so far. Texts and objects are moved out of the
-/// arguments; memory is taken for lists of texts and for defaults.
+/// `Core/echo` makes none. An argument of another kind of JSON counts as absent. `created` are the created ids of the
+/// request so far. Texts and objects are moved out of the arguments; memory is taken for lists of texts and for defaults.
 pub fn call_from(
     alloc: Global,
     method: Method,
@@ -126,11 +124,7 @@ fn set_call(
     })
 }
 
-fn query_call(
-    alloc: Global,
-    mut arguments: TreeObject,
-    created: Pairs,
-) -> Result<Call, AllocError>
+fn query_call(alloc: Global, mut arguments: TreeObject, created: Pairs) -> Result<Call, AllocError>
     ensures { IfOk result (λ call. call ≡ query_call arguments created) }
 {
     Ok(Call::Query {
@@ -215,14 +209,14 @@ fn is_true_at(arguments: &TreeObject, key: &str) -> bool
 
 fn take_text(arguments: &mut TreeObject, key: &str) -> Option<Text>
     ensures value { result ≡ argument arguments.old as_text key.now }
-    ensures others { (k : List ℕ) → bytes_eq key.now k ≡ false → lookup k arguments.new ≡ lookup k arguments.old }
+    ensures others { ChangesOnlyAt key.now arguments.old arguments.new }
 {
     arguments.take(key).and_then(into_text)
 }
 
 fn take_text_or_empty(alloc: Global, arguments: &mut TreeObject, key: &str) -> Text
     ensures value { result ≡ text_argument arguments.old key.now }
-    ensures others { (k : List ℕ) → bytes_eq key.now k ≡ false → lookup k arguments.new ≡ lookup k arguments.old }
+    ensures others { ChangesOnlyAt key.now arguments.old arguments.new }
 {
     match take_text(arguments, key) {
         Some(text) => text,
@@ -245,7 +239,7 @@ fn take_texts(
     key: &str,
 ) -> Result<Option<Texts>, AllocError>
     ensures value { IfOk result (λ texts. texts ≡ argument arguments.old as_texts key.now) }
-    ensures others { (k : List ℕ) → bytes_eq key.now k ≡ false → lookup k arguments.new ≡ lookup k arguments.old }
+    ensures others { ChangesOnlyAt key.now arguments.old arguments.new }
 {
     match arguments.take(key).and_then(into_list) {
         Some(list) => into_texts(alloc, list),
@@ -255,21 +249,21 @@ fn take_texts(
 
 fn take_object(arguments: &mut TreeObject, key: &str) -> Option<TreeObject>
     ensures value { result ≡ argument arguments.old as_object key.now }
-    ensures others { (k : List ℕ) → bytes_eq key.now k ≡ false → lookup k arguments.new ≡ lookup k arguments.old }
+    ensures others { ChangesOnlyAt key.now arguments.old arguments.new }
 {
     arguments.take(key).and_then(into_object)
 }
 
 fn take_filter(arguments: &mut TreeObject) -> Option<Tree>
     ensures value { result ≡ argument arguments.old object_tree (codes "filter") }
-    ensures others { (k : List ℕ) → bytes_eq (codes "filter") k ≡ false → lookup k arguments.new ≡ lookup k arguments.old }
+    ensures others { ChangesOnlyAt (codes "filter") arguments.old arguments.new }
 {
     take_object(arguments, "filter").map(Tree::Object)
 }
 
 fn take_sort(arguments: &mut TreeObject) -> Option<Tree>
     ensures value { result ≡ argument arguments.old list_tree (codes "sort") }
-    ensures others { (k : List ℕ) → bytes_eq (codes "sort") k ≡ false → lookup k arguments.new ≡ lookup k arguments.old }
+    ensures others { ChangesOnlyAt (codes "sort") arguments.old arguments.new }
 {
     arguments.take("sort").and_then(into_list).map(Tree::List)
 }

@@ -4,7 +4,6 @@
 pub mod arguments;
 mod batch;
 pub mod call;
-mod id;
 mod meaning;
 mod parts;
 pub mod problem;

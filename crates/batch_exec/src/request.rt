@@ -8,7 +8,6 @@ ghost use Rattle.cal_model.specs.Parts.{all_some, as_list, as_text};
 ghost use Rattle.cal_model.specs.Requests.{created_ids_of, invocation_of, invocation_with, is_id_pair, request_of, request_with};
 ghost use Rattle.cal_model.specs.TreeData.{data_of, pair_of};
 
-use crate::id::read_id;
 use crate::parts::{into_list, into_object, into_text, into_texts};
 use cal_model::lists::Texts;
 use cal_model::method::{AVAILABILITY, CALENDARS, CORE};
@@ -16,6 +15,7 @@ use cal_model::request::{BatchError, Invocation, Invocations, Limit, Request, Re
 use cal_model::text::Text;
 use cal_model::tree::{Member, Tree, TreeObject};
 use std::alloc::{AllocError, Global};
+use time_text::read_id;
 
 /// The most calls of a request (RFC 8620 section 2, `maxCallsInRequest`).
 const MAX_CALLS_IN_REQUEST: usize = 16;
@@ -37,9 +37,7 @@ pub fn request_from(alloc: Global, tree: Tree) -> Result<Request, BatchError>
         return Err(BatchError::Refused(RequestError::UnknownCapability));
     }
     if request.calls.items().len() > MAX_CALLS_IN_REQUEST {
-        return Err(BatchError::Refused(RequestError::Limit(
-            Limit::CallsInRequest,
-        )));
+        return Err(BatchError::Refused(RequestError::Limit(Limit::CallsInRequest)));
     }
     Ok(request)
 }
@@ -91,7 +89,7 @@ fn calls_from(alloc: Global, member: Option<Tree>) -> Result<Option<Invocations>
         return Ok(None);
     };
     let items = list.into_items();
-    let mut calls = Vec::with_capacity(alloc, items.len())?;
+    let mut calls = Vec::new(alloc);
     for item in items {
         match invocation_from(item) {
             Some(call) => calls.push(call)?,

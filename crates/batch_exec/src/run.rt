@@ -1,16 +1,17 @@
 //! A request, from its JSON to its response.
-ghost use Rattle.std.specs.Prelude.{◌<◌, All};
-ghost use Rattle.cal_model.specs.Batch.{IsBatch};
+ghost use Rattle.std.specs.Prelude.{◌≡◌, ◌<◌, ◌≤◌, [], All, IfOk, drop, length, unwrap_or};
+ghost use Rattle.batch_exec.specs.Answering.{IsRequestAnswered};
+ghost use Rattle.cal_model.specs.Batch.{IsBatch, response_with_ids};
 ghost use Rattle.cal_model.specs.TreeData.{data_of};
 
-use crate::batch::answer_all;
+use crate::batch::{Answers, answer_all};
 use crate::request::request_from;
 use crate::response::response_tree;
 use cal_model::desk::{Desk, DeskError, Front};
 use cal_model::request::{BatchError, Request};
-use cal_model::tree::Tree;
+use cal_model::tree::{Tree, TreeObject};
 use cal_model::user::User;
-use std::alloc::Global;
+use std::alloc::{AllocError, Global};
 
 /// Answers a request, given as JSON, for a user, on the accounts of a desk, at a moment in seconds of UTC from 1970
 /// (RFC 8620 section 3).
@@ -60,4 +61,22 @@ fn answer_request<D: Desk>(
         Ok(response) => Ok(response),
         Err(_) => Err(BatchError::NoMemory),
     }
+}
+
+/// The response to a request that gives these created ids and came to these answers.
+fn response_from(
+    alloc: Global,
+    given: Option<TreeObject>,
+    answers: Answers,
+) -> Result<Tree, AllocError>
+    requires { length (unwrap_or given []) ≤ length answers.created }
+    ensures { IfOk result (λ t. data_of t ≡ response_with_ids given (drop (length (unwrap_or given [])) answers.created) answers.responses.items) }
+{
+    let count = match &given {
+        None => 0,
+        Some(object) => object.members().len(),
+    };
+    let mut created = answers.created.into_pairs();
+    let added = created.split_off(count)?;
+    response_tree(alloc, given, added, answers.responses)
 }

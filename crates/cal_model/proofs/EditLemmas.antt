@@ -1,4 +1,4 @@
--- Objects with a member put in or taken out: their keys stay in order, and what was taken out may be put in again.
+-- Objects with a member put in or taken out: their keys stay in order, other keys keep their values, and what was taken out may be put in again.
 use Rattle.std.proofs.Common.{◌≡◌, ℕ, List, [], ◌∷◌, Bool, true, false, if◌then◌else◌, refl, sym, ap, ◌∙◌, Ordering, Less, Equal, Greater}
 use Rattle.std.proofs.lemmas.Bool.{and_from}
 use Rattle.std.proofs.lemmas.Cmp.{nat_list_cmp_total}

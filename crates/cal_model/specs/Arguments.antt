@@ -22,7 +22,7 @@ needs name = record { name = name; shape = Text; is_required = true }
 abbrev pub takes : List ℕ → Shape → Argument
 takes name shape = record { name = name; shape = shape; is_required = false }
 
--- an argument of the code's table
+-- what an argument in the code's table stands for
 abbrev pub argument_of : Listed → Argument
 argument_of (Needs name) = needs name.now
 argument_of (Takes name shape) = takes name.now shape

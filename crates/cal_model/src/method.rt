@@ -43,7 +43,7 @@ pub enum Shape {
 }
 
 /// An argument of a method.
-#[derive(Clone, Copy, Drop)]
+#[derive(Clone, Copy, Debug, PartialEq, Eq, Drop)]
 pub enum Argument {
     /// A text of this name, which a call has to give.
     Needs(&'static str),

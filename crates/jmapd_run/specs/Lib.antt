@@ -1,3 +1,3 @@
-pub mod Inputs
+pub mod LoneDesk
 pub mod Texts
 pub mod Words

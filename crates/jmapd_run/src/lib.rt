@@ -1,8 +1,5 @@
 //! What the program `jmapd` runs: the commands, over any input, output and clock.
 #![tactic(auto)]
 
-pub mod batch;
-pub mod built;
-pub mod problem;
-pub mod request;
+mod desk;
 pub mod run;

@@ -1,21 +1,22 @@
 //! The commands, over any input, output and clock.
-ghost use Rattle.std.specs.Prelude.{◌≡◌, ◌↔◌, ◌++◌, ◌∷◌, [], IfOk, false};
-ghost use Rattle.cal_model.specs.Headline.{Answers, IsAnswer, Runs, asked, asked_by_reading, asked_by_request, asked_in, clamped, is_refused, refused};
+ghost use Rattle.std.specs.Prelude.{◌≡◌, ◌↔◌, ◌++◌, ◌∷◌, [], IfOk, true, false};
+ghost use Rattle.cal_model.specs.Asked.{asked_by, is_refused};
+ghost use Rattle.cal_model.specs.Headline.{IsAnswer, Runs, asked_in, clamped, local_user};
 ghost use Rattle.cal_model.specs.Json.{text_of};
 ghost use Rattle.cal_model.specs.Outside.{Rose};
-ghost use Rattle.cal_model.specs.Requests.{request_of};
+ghost use Rattle.cal_model.specs.Problem.{problem};
 ghost use Rattle.cal_model.specs.TreeData.{data_of};
-ghost use Rattle.jmapd_run.specs.Inputs.{asked_as};
 ghost use Rattle.jmapd_run.specs.Texts.{IsText};
 ghost use Rattle.jmapd_run.specs.Words.{is_batch};
 
-use crate::batch::response_to;
-use crate::built::has_unbuilt_form;
-use crate::problem::problem_tree;
-use crate::request::request_from;
-use cal_model::request::{Request, RequestError};
+use crate::desk::LoneDesk;
+use batch_exec::problem::problem_tree;
+use batch_exec::run::run_batch;
+use cal_model::request::{BatchError, Limit, RequestError};
 use cal_model::status::Status;
+use cal_model::text::Text;
 use cal_model::tree::Tree;
+use cal_model::user::{Grant, Grants, User};
 use io_edge::clock::Clock;
 use io_edge::opener::Opener;
 use io_edge::sink::{Sink, put_all};
@@ -24,62 +25,77 @@ use json_edge::read::{ReadError as JsonError, read_tree};
 use json_edge::write::tree_text;
 use std::alloc::{AllocError, Global};
 
-/// The most bytes of a request.
+/// The id of the only account.
+const ONLY_ACCOUNT: &str = "A1";
+/// The most bytes of a request (RFC 8620 section 2, `maxSizeRequest`).
 const MAX_SIZE_REQUEST: usize = 10_000_000;
 /// The last moment of the year 9998, in seconds of UTC from 1970.
 const LAST_MOMENT: i64 = 253_370_764_799;
 
-/// What bytes ask for.
+/// What bytes came to: a response, or the problem of a refused request.
 #[derive(Drop)]
-enum Input {
-    Request(Request),
-    Refused(RequestError),
+struct Outcome {
+    reply: Tree,
+    is_refusal: bool,
 }
 
-fn input_from_tree(alloc: Global, tree: Tree) -> Result<Input, AllocError>
-    ensures { IfOk result (λ i. asked_as i ≡ asked_by_request (request_of (data_of tree))) }
+/// The only user, with the only account.
+fn local_user(alloc: Global) -> Result<User, AllocError>
+    ensures { IfOk result (λ u. u ≡ local_user) }
 {
-    match request_from(alloc, tree)? {
-        None => Ok(Input::Refused(RequestError::NotRequest)),
-        Some(request) => {
-            if has_unbuilt_form(&request) {
-                Ok(Input::Refused(RequestError::NotBuilt))
-            } else {
-                Ok(Input::Request(request))
-            }
-        }
+    let grant = Grant {
+        account: 0,
+        id: Text::from_str(alloc, ONLY_ACCOUNT)?,
+        read_only: false,
+    };
+    Ok(User {
+        name: Text::from_str(alloc, "local")?,
+        grants: Grants::new(vec![in alloc; grant]?),
+    })
+}
+
+fn refused(alloc: Global, error: RequestError) -> Result<Outcome, AllocError>
+    ensures reply { IfOk result (λ o. data_of o.reply ≡ problem error) }
+    ensures refusal { IfOk result (λ o. o.is_refusal ≡ true) }
+{
+    Ok(Outcome {
+        reply: problem_tree(alloc, error)?,
+        is_refusal: true,
+    })
+}
+
+/// Answers a request, given as JSON, on a fresh account, at a moment in seconds of UTC from 1970.
+fn answer_request(alloc: Global, request: Tree, moment: &i64) -> Result<Outcome, AllocError>
+    ensures reply { IfOk result (λ o. IsAnswer moment.now (asked_by (data_of request)) (data_of o.reply)) }
+    ensures refusal { IfOk result (λ o. is_refused (asked_by (data_of request)) ≡ o.is_refusal) }
+{
+    let user = local_user(alloc)?;
+    let mut desk = LoneDesk::open(alloc, Text::from_str(alloc, ONLY_ACCOUNT)?)?;
+    let mut fronts = Vec::new(alloc);
+    match run_batch(alloc, request, &user, &mut desk, *moment, &mut fronts) {
+        Ok(reply) => Ok(Outcome {
+            reply,
+            is_refusal: false,
+        }),
+        Err(BatchError::Refused(error)) => refused(alloc, error),
+        // A desk that begins here makes at most 16 calls.
+        Err(BatchError::PassSpent | BatchError::NoMemory) => Err(AllocError),
     }
 }
 
-fn input_from(alloc: Global, bytes: &[u8]) -> Result<Input, AllocError>
-    ensures { IfOk result (λ i. asked_as i ≡ asked_in bytes.now) }
+/// Answers bytes on a fresh account, at a moment in seconds of UTC from 1970.
+fn answer_bytes(alloc: Global, bytes: &[u8], moment: &i64) -> Result<Outcome, AllocError>
+    ensures reply { IfOk result (λ o. IsAnswer moment.now (asked_in bytes.now) (data_of o.reply)) }
+    ensures refusal { IfOk result (λ o. is_refused (asked_in bytes.now) ≡ o.is_refusal) }
 {
     if bytes.len() > MAX_SIZE_REQUEST {
-        return Ok(Input::Refused(RequestError::NotBuilt));
+        return refused(alloc, RequestError::Limit(Limit::SizeRequest));
     }
     match read_tree(alloc, bytes) {
-        Ok(tree) => input_from_tree(alloc, tree),
-        Err(JsonError::NotJson) => Ok(Input::Refused(RequestError::NotJson)),
-        Err(JsonError::NotWhole) => Ok(Input::Refused(RequestError::NotRequest)),
+        Ok(request) => answer_request(alloc, request, moment),
+        Err(JsonError::NotJson) => refused(alloc, RequestError::NotJson),
+        Err(JsonError::NotWhole) => refused(alloc, RequestError::NotRequest),
         Err(JsonError::NoMemory) => Err(AllocError),
-    }
-}
-
-fn is_refusal(input: &Input) -> bool
-    ensures { result ≡ is_refused (asked_as input.now) }
-{
-    match input {
-        Input::Request(_) => false,
-        Input::Refused(_) => true,
-    }
-}
-
-fn reply_tree(alloc: Global, input: Input, moment: &i64) -> Result<Tree, AllocError>
-    ensures { IfOk result (λ t. IsAnswer moment.now (asked_as input) (data_of t)) }
-{
-    match input {
-        Input::Request(request) => response_to(alloc, request, moment),
-        Input::Refused(error) => problem_tree(alloc, error),
     }
 }
 
@@ -95,12 +111,13 @@ fn answer_to(alloc: Global, bytes: &[u8], moment: &i64) -> Result<Answer, AllocE
     ensures reply { IfOk result (λ a. IsText moment.now bytes.now a.text.items) }
     ensures refusal { IfOk result (λ a. is_refused (asked_in bytes.now) ≡ a.is_refusal) }
 {
-    let input = input_from(alloc, bytes)?;
-    let is_refusal = is_refusal(&input);
-    let tree = reply_tree(alloc, input, moment)?;
-    let mut text = tree_text(alloc, &tree)?;
+    let outcome = answer_bytes(alloc, bytes, moment)?;
+    let mut text = tree_text(alloc, &outcome.reply)?;
     text.push(b'\n')?;
-    Ok(Answer { text, is_refusal })
+    Ok(Answer {
+        text,
+        is_refusal: outcome.is_refusal,
+    })
 }
 
 /// The moment nearest to this one that lies from 1970 to the end of the year 9998.

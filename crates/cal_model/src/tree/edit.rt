@@ -1,10 +1,9 @@
 //! Members put into an object and taken out of it.
-ghost use Rattle.std.specs.Prelude.{◌≡◌, ◌≤◌, ◌<◌, ◌++◌, ℕ, List, OnOk, OnErr, drop, false, length, map, option_map, take, true};
+ghost use Rattle.std.specs.Prelude.{◌≡◌, ◌≤◌, ◌<◌, ◌++◌, OnOk, OnErr, drop, length, map, option_map, take, true};
 ghost use Rattle.std.specs.Cmp.Lexicographic.{slice_cmp};
 ghost use Rattle.std.specs.Ordering.{nat_cmp, is_lt};
-ghost use Rattle.std.specs.Str.{bytes_eq};
 ghost use Rattle.cal_model.specs.Data.{lookup};
-ghost use Rattle.cal_model.specs.Edit.{with_pair, without};
+ghost use Rattle.cal_model.specs.Edit.{ChangesOnlyAt, with_pair, without};
 ghost use Rattle.cal_model.specs.KeyAt.{is_key_at};
 ghost use Rattle.cal_model.specs.ObjectKeys.{HasOrderedKeys};
 ghost use Rattle.cal_model.specs.TreeData.{data_of, pair_of};
@@ -31,7 +30,7 @@ impl TreeObject {
     pub fn take(&mut self, key: &str) -> Option<Tree>
         ensures value { option_map data_of result ≡ lookup key.now self.old }
         ensures rest { self.new ≡ without key.now self.old }
-        ensures others { (k : List ℕ) → bytes_eq key.now k ≡ false → lookup k self.new ≡ lookup k self.old }
+        ensures others { ChangesOnlyAt key.now self.old self.new }
         ensures was_ordered { HasOrderedKeys self.old }
     {
         take_member(&mut self.members, key)

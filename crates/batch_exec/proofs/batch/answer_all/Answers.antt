@@ -1,4 +1,4 @@
-use Rattle.std.proofs.Common.{◌≡◌, ◌∷◌, ◌++◌, [], ◌∙◌, List, Ok, Err, sym, subst, ap, arith, rules}
+use Rattle.std.proofs.Common.{◌≡◌, ◌∷◌, ◌++◌, [], ◌<◌, All, List, Ok, Err, sym, subst, arith, rules}
 use Rattle.std.proofs.lemmas.Grind.{common_steps}
 use Rattle.std.specs.Vec.Iter.{into_iter_items}
 use Rattle.cal_model.specs.declared.request.Invocation.{Invocation}
@@ -11,16 +11,19 @@ use Rattle.batch_exec.proofs.batch.answer_all.Goals as goal
 pub loop-invocation-init : goal.loop-invocation-init
 loop-invocation-init g c =
     let a = c.args in
-    let r : Request = record { using = a.using.now; calls = a.calls; created_ids = a.given.now } in (
+    let r : Request = record { using = a.capabilities.now; calls = a.calls; created_ids = a.given.now } in (
       [],
       going_first a.user.now r a.moment.now a.fronts.now.items (g.D.Desk.shown a.desk.now) (into_iter_items c.into_iter-invocation-iterator.result) c.new-responses.result.items c.in-Ok.created
       (grind (arith, common_steps)) (search rules) (search rules),
     )
 
+pub respond-requires : goal.respond-requires
+respond-requires g c = subst (λ n. All (λ h. h.account < n) c.args.user.now.grants) (sym c.loop-invocation.invariant.1.progress.session.accounts) c.requires
+
 pub returns-in-Err : goal.returns-in-Err
 returns-in-Err g c =
     let a = c.args in
-    let r : Request = record { using = a.using.now; calls = a.calls; created_ids = a.given.now } in
+    let r : Request = record { using = a.capabilities.now; calls = a.calls; created_ids = a.given.now } in
     let l = c.loop-invocation in
     let next : into_iter_items l.invocation-iterator ≡ c.in-Some.invocation ∷ into_iter_items c.next.new.self = grind (arith, common_steps) in
     let going = subst (λ (cs : List Invocation). Going a.user.now r a.moment.now a.fronts.now.items l.fronts.items (g.D.Desk.shown a.desk.now) (g.D.Desk.shown l.desk) l.invariant.0 cs l.responses.items l.created) next l.invariant.1 in
@@ -31,7 +34,7 @@ returns-in-Err g c =
 pub returns-then-is_err : goal.returns-then-is_err
 returns-then-is_err g c =
     let a = c.args in
-    let r : Request = record { using = a.using.now; calls = a.calls; created_ids = a.given.now } in
+    let r : Request = record { using = a.capabilities.now; calls = a.calls; created_ids = a.given.now } in
     let l = c.loop-invocation in
     let next : into_iter_items l.invocation-iterator ≡ c.in-Some.invocation ∷ into_iter_items c.next.new.self = grind (arith, common_steps) in
     let going = subst (λ (cs : List Invocation). Going a.user.now r a.moment.now a.fronts.now.items l.fronts.items (g.D.Desk.shown a.desk.now) (g.D.Desk.shown l.desk) l.invariant.0 cs l.responses.items l.created) next l.invariant.1 in
@@ -43,7 +46,7 @@ returns-then-is_err g c =
 pub loop-invocation-preserved : goal.loop-invocation-preserved
 loop-invocation-preserved g c =
     let a = c.args in
-    let r : Request = record { using = a.using.now; calls = a.calls; created_ids = a.given.now } in
+    let r : Request = record { using = a.capabilities.now; calls = a.calls; created_ids = a.given.now } in
     let l = c.loop-invocation in
     let next : into_iter_items l.invocation-iterator ≡ c.in-Some.invocation ∷ into_iter_items c.next.new.self = grind (arith, common_steps) in
     let going = subst (λ (cs : List Invocation). Going a.user.now r a.moment.now a.fronts.now.items l.fronts.items (g.D.Desk.shown a.desk.now) (g.D.Desk.shown l.desk) l.invariant.0 cs l.responses.items l.created) next l.invariant.1 in
@@ -56,7 +59,7 @@ loop-invocation-preserved g c =
 pub returns : goal.returns
 returns g c =
     let a = c.args in
-    let r : Request = record { using = a.using.now; calls = a.calls; created_ids = a.given.now } in
+    let r : Request = record { using = a.capabilities.now; calls = a.calls; created_ids = a.given.now } in
     let l = c.loop-invocation in
     let none : into_iter_items l.invocation-iterator ≡ [] = grind (arith, common_steps) in
     let going = subst (λ (cs : List Invocation). Going a.user.now r a.moment.now a.fronts.now.items l.fronts.items (g.D.Desk.shown a.desk.now) (g.D.Desk.shown l.desk) l.invariant.0 cs l.responses.items l.created) none l.invariant.1 in

@@ -6,5 +6,5 @@ use Rattle.batch_exec.proofs.batch.answer_all.Given as goal
 
 abbrev pub invariant-loop-invocation : goal.invariant-loop-invocation
 invariant-loop-invocation g l =
-    (steps : List Step) × Going l.user (record { using = l.using; calls = l.fn.calls; created_ids = l.fn.given }) l.moment l.fn.fronts.items l.fronts.items (g.D.Desk.shown l.fn.desk) (g.D.Desk.shown l.desk)
+    (steps : List Step) × Going l.user (record { using = l.capabilities; calls = l.fn.calls; created_ids = l.fn.given }) l.moment l.fn.fronts.items l.fronts.items (g.D.Desk.shown l.fn.desk) (g.D.Desk.shown l.desk)
     steps (into_iter_items l.invocation-iterator) l.responses.items l.created

@@ -1,6 +1,0 @@
-use Rattle.std.proofs.Common.{◌≡◌, drop}
-use Rattle.cal_model.specs.Methods.{uses}
-use Rattle.jmapd_run.proofs.built.is_used.Given as goal
-
-abbrev pub invariant-loop-name : goal.invariant-loop-name
-invariant-loop-name l = uses (drop l.name-index l.capabilities) l.capability ≡ uses l.capabilities l.capability
