@@ -8,12 +8,12 @@ ghost use Rattle.cal_model.specs.ObjectKeys.{HasOrderedKeys};
 ghost use Rattle.cal_model.specs.Sets.{changes_in, outcomes};
 ghost use Rattle.cal_model.specs.TreeData.{pair_of};
 
-use crate::asked::are_properties;
 use crate::entries::entries_of;
 use crate::found::{find_all, find_ids};
 use crate::get_reply::get_reply;
 use crate::plain::all_plain;
 use crate::plan::plan;
+use crate::properties::are_properties;
 use crate::replay::live;
 use crate::reply::refusal;
 use crate::set_reply::set_reply;
@@ -113,7 +113,12 @@ impl Account {
         requires { are_calendar_properties properties.now ≡ true }
         ensures { IfOk result (λ r. r ≡ answer_to self.now.0 self.now.1 (get_calendars None properties.now [])) }
     {
-        let calendars = live(self.alloc, &self.entries, Kind::Calendar, self.tally.calendars)?;
+        let calendars = live(
+            self.alloc,
+            &self.entries,
+            Kind::Calendar,
+            self.tally.calendars,
+        )?;
         if calendars.len() > MAX_OBJECTS_IN_GET {
             return Ok(self.refusal(MethodError::RequestTooLarge));
         }

@@ -1,5 +1,6 @@
 //! How much an account holds.
 ghost use Rattle.std.specs.Prelude.{◌≡◌, ◌+◌, ◌≤◌, ◌&&◌, ◌<◌, nat_lt, not};
+ghost use Rattle.cal_model.specs.Sets.{max_entries, max_size};
 
 /// The most entries of an account.
 pub const MAX_ENTRIES: usize = 50_000;
@@ -16,8 +17,8 @@ pub struct Tally {
     pub size: usize,
     /// How many calendars were created. They have the numbers from 1 on, in order.
     pub calendars: u64,
-    ghost few: { entries ≤ 50000 },
-    ghost small: { size ≤ 16777216 },
+    ghost few: { entries ≤ max_entries },
+    ghost small: { size ≤ max_size },
     ghost numbered: { calendars ≤ entries },
 }
 
