@@ -1,2 +1,5 @@
+pub mod Differences
+pub mod Numbers
 pub mod Orders
 pub mod Planning
+pub mod Table

@@ -1,1 +1,3 @@
-pub mod Signatures
+pub mod IdsByKey
+pub mod Outcome
+pub mod Tally

@@ -1,27 +1,35 @@
 //! An account.
-ghost use Rattle.std.specs.Prelude.{◌≡◌, ◌++◌, ◌≤◌, [], IfOk, OnOk, OnErr, length, map};
-ghost use Rattle.cal_model.specs.Answer.{entries_from, planned, set_answer};
+ghost use Rattle.std.specs.Prelude.{◌≡◌, ◌++◌, ◌≤◌, [], ℕ, List, Some, None, true, IfOk, OnOk, OnErr, flat_map, length, map};
+ghost use Rattle.cal_model.specs.Answer.{answer_to, entries_from, get_calendars, refused, set_answer};
 ghost use Rattle.cal_model.specs.Base.{Base};
+ghost use Rattle.cal_model.specs.Gets.{are_calendar_properties};
 ghost use Rattle.cal_model.specs.History.{changes_of};
 ghost use Rattle.cal_model.specs.ObjectKeys.{HasOrderedKeys};
+ghost use Rattle.cal_model.specs.Sets.{changes_in, outcomes};
 ghost use Rattle.cal_model.specs.TreeData.{pair_of};
 
+use crate::asked::are_properties;
 use crate::entries::entries_of;
+use crate::found::{find_all, find_ids};
+use crate::get_reply::get_reply;
 use crate::plain::all_plain;
 use crate::plan::plan;
-use crate::reply::{get_reply, refusal, set_reply};
+use crate::replay::live;
+use crate::reply::refusal;
+use crate::set_reply::set_reply;
+use crate::tally::Tally;
 use cal_model::book::Book;
 use cal_model::call::{Call, MethodError, Reply};
 use cal_model::entry::{Entry, Kind};
-use cal_model::lists::Pairs;
+use cal_model::lists::{Pairs, Texts};
 use cal_model::stamp::Stamp;
 use cal_model::text::Text;
 use cal_model::tree::Member;
 use std::alloc::{AllocError, Global};
 use std::marker::Model;
 
-/// The most entries of an account. One that has them finds no memory for more.
-const MOST_ENTRIES: usize = 1 << 40;
+/// The most ids of a get, and the most objects where all are asked for (RFC 8620 section 2, `maxObjectsInGet`).
+const MAX_OBJECTS_IN_GET: usize = 500;
 
 /// An account. Contracts see its base and its entries.
 #[derive(Drop)]
@@ -30,13 +38,16 @@ pub struct Account {
     id: Text,
     zones: Pairs,
     entries: Vec<Entry>,
+    tally: Tally,
 }
 
 impl Model for Account {
-    ghost use Rattle.std.specs.Prelude.{List, ◌≤◌, ◌^◌, length};
+    ghost use Rattle.std.specs.Prelude.{List};
     ghost use Rattle.std.specs.Coded.{codes};
+    ghost use Rattle.account_core.specs.Tally.{Tallies};
     ghost use Rattle.cal_model.specs.Base.{Base};
     ghost use Rattle.cal_model.specs.DataCode.{data_code};
+    ghost use Rattle.cal_model.specs.History.{changes_of};
     ghost use Rattle.cal_model.specs.declared.entry.Entry.{Entry};
 
     ghost Value = { Base × List Entry };
@@ -45,11 +56,11 @@ impl Model for Account {
 
     ghost view = { λ a. (record { account_id = a.id; zones = a.zones }, a.entries.items) };
 
-    ghost invariant = { λ a. length a.entries.items ≤ 2 ^ 40 };
+    ghost invariant = { λ a. Tallies a.tally (changes_of a.entries.items) };
 }
 
 impl Account {
-    /// An account of this id, with no zones and no entries.
+    /// An account of this id, with no zones and no entries. Takes no memory.
     pub fn open(alloc: Global, id: Text) -> Result<Account, AllocError>
         ensures { IfOk result (λ a. a ≡ (record { account_id = id; zones = [] }, [])) }
     {
@@ -58,34 +69,90 @@ impl Account {
             id,
             zones: Pairs::new(Vec::new(alloc)),
             entries: Vec::new(alloc),
+            tally: Tally::new(),
         })
     }
 
-    /// Carries out plain creates: the reply is built and memory is reserved before an entry is added.
+    /// Answers a get of calendars.
+    fn get(
+        &self,
+        ids: &Option<Texts>,
+        properties: &Option<Texts>,
+        created: &Pairs,
+    ) -> Result<Reply, AllocError>
+        ensures { IfOk result (λ r. r ≡ answer_to self.now.0 self.now.1 (get_calendars ids.now properties.now created.now)) }
+    {
+        if !are_properties(properties) {
+            return Ok(self.refusal(MethodError::InvalidArguments));
+        }
+        match ids {
+            Some(ids) => self.get_ids(ids.items(), properties, created.pairs()),
+            None => self.get_all(properties),
+        }
+    }
+
+    /// Answers a get of these ids.
+    fn get_ids(
+        &self,
+        ids: &[Text],
+        properties: &Option<Texts>,
+        created: &[(Text, Text)],
+    ) -> Result<Reply, AllocError>
+        requires { are_calendar_properties properties.now ≡ true }
+        ensures { IfOk result (λ r. r ≡ answer_to self.now.0 self.now.1 (get_calendars (Some ids.now) properties.now created.now)) }
+    {
+        if ids.len() > MAX_OBJECTS_IN_GET {
+            return Ok(self.refusal(MethodError::RequestTooLarge));
+        }
+        let found = find_ids(self.alloc, &self.entries, ids, properties, created)?;
+        get_reply(self.alloc, &self.id, &self.entries, found)
+    }
+
+    /// Answers a get of all calendars.
+    fn get_all(&self, properties: &Option<Texts>) -> Result<Reply, AllocError>
+        requires { are_calendar_properties properties.now ≡ true }
+        ensures { IfOk result (λ r. r ≡ answer_to self.now.0 self.now.1 (get_calendars None properties.now [])) }
+    {
+        let calendars = live(self.alloc, &self.entries, Kind::Calendar, self.tally.calendars)?;
+        if calendars.len() > MAX_OBJECTS_IN_GET {
+            return Ok(self.refusal(MethodError::RequestTooLarge));
+        }
+        let found = find_all(self.alloc, &calendars, properties)?;
+        get_reply(self.alloc, &self.id, &self.entries, found)
+    }
+
+    /// The reply to a call that is refused. Takes no memory.
+    fn refusal(&self, error: MethodError) -> Reply
+        ensures { result ≡ refused self.now.1 error }
+    {
+        refusal(self.alloc, &self.entries, error)
+    }
+
+    /// Carries out plain creates: what comes of each is found, the reply is built and memory is reserved before an entry
+    /// is added.
     fn create(&mut self, stamp: &Stamp, creates: &[Member]) -> Result<Reply, AllocError>
         requires few { length creates.now ≤ 500 }
         requires ordered { HasOrderedKeys (map pair_of creates.now) }
         ensures reply { IfOk result (λ r. r ≡ set_answer self.old.0.account_id self.old.1 (map pair_of creates.now)
-            (planned (changes_of self.old.1) (map pair_of creates.now))) }
+            (outcomes (changes_of self.old.1) (map pair_of creates.now))) }
         ensures grown { OnOk result (self.new.1 ≡ self.old.1 ++ entries_from stamp.now 0
-            (planned (changes_of self.old.1) (map pair_of creates.now))) }
+            (flat_map changes_in (outcomes (changes_of self.old.1) (map pair_of creates.now)))) }
         ensures unchanged { OnErr result (self.new.1 ≡ self.old.1) }
         ensures base { self.new.0 ≡ self.old.0 }
     {
-        if self.entries.len() + creates.len() > MOST_ENTRIES {
-            return Err(AllocError);
-        }
-        let changes = plan(self.alloc, &self.entries, creates)?;
-        let reply = set_reply(self.alloc, &self.id, &self.entries, creates, &changes)?;
-        let mut added = entries_of(self.alloc, stamp, changes)?;
+        let mut tally = self.tally;
+        let outcomes = plan(self.alloc, &mut tally, creates)?;
+        let reply = set_reply(self.alloc, &self.id, &self.entries, creates, &outcomes)?;
+        let mut added = entries_of(self.alloc, stamp, outcomes)?;
         self.entries.append(&mut added)?;
+        self.tally = tally;
         Ok(reply)
     }
 }
 
 impl Book for Account {
     ghost use Rattle.cal_model.specs.Answer.{answer, added};
-    ghost use Rattle.account_core.specs.Signatures.{added_signed};
+    ghost use Rattle.cal_model.specs.AddedEntries.{added_signed};
 
     type Call = Call;
 
@@ -114,10 +181,10 @@ impl Book for Account {
         match call {
             Call::Get {
                 kind: Kind::Calendar,
-                ids: None,
-                properties: None,
-                ..
-            } => get_reply(self.alloc, &self.id, &self.entries),
+                ids,
+                properties,
+                created,
+            } => self.get(ids, properties, created),
             Call::Set {
                 kind: Kind::Calendar,
                 if_in_state: None,
@@ -139,10 +206,10 @@ impl Book for Account {
                 if all_plain(creates.members()) {
                     self.create(&stamp, creates.members())
                 } else {
-                    Ok(refusal(self.alloc, &self.entries, MethodError::NotBuilt))
+                    Ok(self.refusal(MethodError::NotBuilt))
                 }
             }
-            _ => Ok(refusal(self.alloc, &self.entries, MethodError::NotBuilt)),
+            _ => Ok(self.refusal(MethodError::NotBuilt)),
         }
     }
 

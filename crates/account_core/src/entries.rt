@@ -1,33 +1,40 @@
-//! The entries that changes become.
-ghost use Rattle.std.specs.Prelude.{◌≡◌, ◌≤◌, IfOk, length, vec_len};
+//! The entries that the accepted creates of a call become.
+ghost use Rattle.std.specs.Prelude.{◌≡◌, ◌≤◌, IfOk, flat_map, length, map};
+ghost use Rattle.account_core.specs.Outcome.{outcome_in};
 ghost use Rattle.cal_model.specs.Answer.{entries_from};
+ghost use Rattle.cal_model.specs.Sets.{changes_in};
 
-use cal_model::entry::{Change, Entry};
+use crate::outcome::Outcome;
+use cal_model::entry::Entry;
 use cal_model::stamp::Stamp;
 use std::alloc::{AllocError, Global};
 
+/// The entries of the changes of those that were accepted, in order.
 #[tactic(auto, using(crate::proofs::Planning::entries_push))]
-/// The entries of a call's changes, in order.
 pub fn entries_of(
     alloc: Global,
     stamp: &Stamp,
-    changes: Vec<Change>,
+    outcomes: Vec<Outcome>,
 ) -> Result<Vec<Entry>, AllocError>
-    requires { length changes.items ≤ 500 }
-    ensures value { IfOk result (λ v. v.items ≡ entries_from stamp.now 0 changes.items) }
-    ensures length { IfOk result (λ v. vec_len v ≡ length changes.items) }
+    requires { length outcomes.items ≤ 500 }
+    ensures { IfOk result (λ v. v.items ≡ entries_from stamp.now 0 (flat_map changes_in (map outcome_in outcomes.items))) }
 {
-    let mut entries = Vec::with_capacity(alloc, changes.len())?;
+    let mut entries = Vec::with_capacity(alloc, outcomes.len())?;
     let mut part: u32 = 0;
-    for change in changes {
-        entries.push(Entry {
-            author: stamp.author,
-            turn: stamp.turn,
-            part,
-            moment: stamp.moment,
-            change,
-        })?;
-        part += 1;
+    for outcome in outcomes {
+        match outcome {
+            Outcome::Accepted(change) => {
+                entries.push(Entry {
+                    author: stamp.author,
+                    turn: stamp.turn,
+                    part,
+                    moment: stamp.moment,
+                    change,
+                })?;
+                part += 1;
+            }
+            Outcome::Refused(_) => {}
+        }
     }
     Ok(entries)
 }

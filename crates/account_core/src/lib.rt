@@ -2,9 +2,15 @@
 #![tactic(auto)]
 
 pub mod account;
+pub mod asked;
 pub mod calendar;
 pub mod entries;
+pub mod found;
+pub mod get_reply;
+pub mod outcome;
 pub mod plain;
 pub mod plan;
 pub mod replay;
 pub mod reply;
+pub mod set_reply;
+pub mod tally;

@@ -3,35 +3,15 @@ ghost use Rattle.std.specs.Prelude.{◌≡◌, map};
 ghost use Rattle.std.specs.List.{list_all};
 ghost use Rattle.cal_model.specs.Answer.{are_plain};
 ghost use Rattle.cal_model.specs.Calendar.{has_name_alone, is_name, is_plain_create};
-ghost use Rattle.cal_model.specs.Id.{is_id, is_id_byte};
 ghost use Rattle.cal_model.specs.ObjectKeys.{HasOrderedKeys};
 ghost use Rattle.cal_model.specs.Parts.{members_in};
 ghost use Rattle.cal_model.specs.TreeData.{data_of, pair_of};
 
 use cal_model::tree::{Member, Tree};
+use time_text::read_id;
 
 /// The most creates of a call.
 const MOST_CREATES: usize = 500;
-
-fn is_id_character(byte: u8) -> bool
-    ensures { result ≡ is_id_byte byte }
-{
-    byte.is_ascii_alphanumeric() || byte == b'-' || byte == b'_'
-}
-
-fn are_id_characters(bytes: &[u8]) -> bool
-    ensures { result ≡ list_all is_id_byte bytes.now }
-{
-    bytes.iter().all(|byte| is_id_character(*byte))
-}
-
-/// Whether a text is an Id (RFC 8620 section 1.2). Takes no memory.
-pub fn is_id_text(text: &str) -> bool
-    ensures { result ≡ is_id text.now }
-{
-    let bytes = text.as_bytes();
-    !bytes.is_empty() && bytes.len() < 256 && are_id_characters(bytes)
-}
 
 fn is_calendar_name(value: &Tree) -> bool
     ensures { result ≡ is_name (data_of value.now) }
@@ -66,7 +46,7 @@ pub fn members_of(value: &Tree) -> &[Member]
 fn is_plain(create: &Member) -> bool
     ensures { result ≡ is_plain_create (pair_of create.now) }
 {
-    is_id_text(create.key.as_str()) && is_name_alone(members_of(&create.value))
+    read_id(create.key.as_str().as_bytes()) && is_name_alone(members_of(&create.value))
 }
 
 /// Whether these are at most 500 creates, each an Id with an object that has a name and nothing else.

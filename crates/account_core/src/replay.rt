@@ -1,21 +1,11 @@
 //! What a history says of the account's objects, by going over it.
-ghost use Rattle.std.specs.Prelude.{◌≡◌, IfOk, OnOk, map, option_map};
-ghost use Rattle.cal_model.specs.History.{changes_of, ids_at, is_kind, live_at, object_at, state_at, with_id};
-ghost use Rattle.cal_model.specs.TreeData.{data_of};
+ghost use Rattle.std.specs.Prelude.{◌≡◌, ◌<◌, ◌+◌, ◌^◌, IfOk, map, option_map};
+ghost use Rattle.std.specs.List.{range_with_len};
+ghost use Rattle.cal_model.specs.History.{changes_of, ids_at, live_at, object_at, state_at};
 
-use cal_model::entry::{Change, Entry, Kind};
+use cal_model::entry::{Entry, Kind};
 use cal_model::tree::Tree;
 use std::alloc::{AllocError, Global};
-
-fn same_kind(one: Kind, two: Kind) -> bool
-    ensures { result ≡ is_kind one two }
-{
-    match (one, two) {
-        (Kind::Calendar, Kind::Calendar) => true,
-        (Kind::Event, Kind::Event) => true,
-        _ => false,
-    }
-}
 
 /// The object of a kind and number, where it is live. Takes no memory.
 pub fn object(history: &[Entry], kind: Kind, id: u64) -> Option<&Tree>
@@ -23,7 +13,7 @@ pub fn object(history: &[Entry], kind: Kind, id: u64) -> Option<&Tree>
 {
     let mut found: Option<&Tree> = None;
     for entry in history {
-        if same_kind(kind, entry.change.kind) && id == entry.change.id {
+        if kind.is(entry.change.kind) && id == entry.change.id {
             found = entry.change.object.as_ref();
         }
     }
@@ -36,59 +26,51 @@ pub fn state(history: &[Entry], kind: Kind) -> usize
 {
     let mut count = 0;
     for entry in history {
-        if same_kind(kind, entry.change.kind) {
+        if kind.is(entry.change.kind) {
             count += 1;
         }
     }
     count
 }
 
-/// How many of these changes are of a kind. Takes no memory.
-pub fn count(changes: &[Change], kind: Kind) -> usize
-    ensures { result ≡ state_at changes.now kind }
+/// The objects of a kind by number, from 0 to `most`, where they are live.
+fn objects_by_number(
+    alloc: Global,
+    history: &[Entry],
+    kind: Kind,
+    most: u64,
+) -> Result<Vec<Option<&Tree>>, AllocError>
+    requires { most < 2 ^ 32 }
+    ensures { IfOk result (λ v. map (option_map (λ t. t.now)) v.items
+        ≡ map (object_at (changes_of history.now) kind) (range_with_len 0 (most + 1))) }
 {
-    let mut count = 0;
-    for change in changes {
-        if same_kind(kind, change.kind) {
-            count += 1;
-        }
-    }
-    count
-}
-
-/// Puts a number at the end of a list of different numbers, where it isn't in it.
-pub fn note(ids: &mut Vec<u64>, id: u64) -> Result<(), AllocError>
-    ensures ok { OnOk result (ids.new.items ≡ with_id ids.old.items id) }
-{
-    if ids.contains(&id) {
-        return Ok(());
-    }
-    ids.push(id)?;
-    Ok(())
-}
-
-/// The different numbers of a kind, in order of creation.
-pub fn ids(alloc: Global, history: &[Entry], kind: Kind) -> Result<Vec<u64>, AllocError>
-    ensures { IfOk result (λ v. v.items ≡ ids_at (changes_of history.now) kind) }
-{
-    let mut ids = Vec::new(alloc);
+    let mut objects = vec![in alloc; None; most as usize + 1]?;
     for entry in history {
-        if same_kind(kind, entry.change.kind) {
-            note(&mut ids, entry.change.id)?;
+        let change = &entry.change;
+        if kind.is(change.kind) && change.id <= most {
+            objects[change.id as usize] = change.object.as_ref();
         }
     }
-    Ok(ids)
+    Ok(objects)
 }
 
-/// Copies of the live objects of a kind, in order of creation.
-pub fn live(alloc: Global, history: &[Entry], kind: Kind) -> Result<Vec<Tree>, AllocError>
-    ensures { IfOk result (λ v. v.items ≡ live_at (changes_of history.now) kind) }
+/// The live objects of a kind in order of creation, of which `most` were created, with the numbers from 1 on in order.
+pub fn live(
+    alloc: Global,
+    history: &[Entry],
+    kind: Kind,
+    most: u64,
+) -> Result<Vec<&Tree>, AllocError>
+    requires few { most < 2 ^ 32 }
+    requires numbers { ids_at (changes_of history.now) kind ≡ range_with_len 1 most }
+    ensures { IfOk result (λ v. map (λ t. t.now) v.items ≡ live_at (changes_of history.now) kind) }
 {
-    let ids = ids(alloc, history, kind)?;
+    let objects = objects_by_number(alloc, history, kind, most)?;
     let mut live = Vec::new(alloc);
-    for id in &ids {
-        if let Some(tree) = object(history, kind, *id) {
-            live.push(tree.copy()?)?;
+    for object in &objects[1..] {
+        match object {
+            Some(tree) => live.push(*tree)?,
+            None => {}
         }
     }
     Ok(live)

@@ -15,7 +15,7 @@ use cal_model::response::Response;
 use cal_model::text::Text;
 use cal_model::tree::TreeObject;
 use cal_model::user::User;
-use crate::stub::{ReferenceError, resolve};
+use result_refs::{ReferenceError, resolve};
 use std::alloc::{AllocError, Global};
 
 /// What an invocation means. Its arguments have the values of the references.

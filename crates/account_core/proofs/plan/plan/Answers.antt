@@ -1,23 +1,24 @@
-use Rattle.std.proofs.Common.{◌≡◌, ◌++◌, ◌+◌, ◌∷◌, arith, sym, drop, map, ap, ◌∙◌}
+use Rattle.std.proofs.Common.{◌≡◌, ◌++◌, ◌+◌, ◌∷◌, [], arith, sym, drop, flat_map, map, ap, ◌∙◌}
 use Rattle.std.proofs.lemmas.Grind.{common_steps}
-use Rattle.cal_model.specs.Answer.{planned}
-use Rattle.cal_model.specs.History.{changes_of, with_id, next_number}
+use Rattle.account_core.specs.Outcome.{outcome_in}
+use Rattle.cal_model.specs.Sets.{changes_in, outcomes}
 use Rattle.cal_model.specs.TreeData.{pair_of}
-use Rattle.cal_model.specs.declared.entry.Kind.TheVariants.{Calendar}
-use Rattle.std.proofs.Common.{length}
-use Rattle.account_core.proofs.Planning.{ids_more, planned_more}
+use Rattle.account_core.proofs.Planning.{outcomes_push, tally_push}
 use Rattle.account_core.proofs.plan.plan.Goals as goal
 
 pub loop-create-preserved : goal.loop-create-preserved
 loop-create-preserved c =
     let l = c.loop-create in
+    let done = map outcome_in l.outcomes.items in
+    let o = outcome_in c.in_ok-outcome_of_create.field-0 in
     let step : drop l.create-index c.args.creates.now ≡ c.create-item.result ∷ drop (l.create-index + 1) c.args.creates.now = grind (arith, common_steps) in
-    let number : c.len.result + 1 ≡ next_number (changes_of c.args.history.now ++ l.changes.items) Calendar = grind (arith, common_steps, ap length l.invariant.ids) in
+    let pushed : map outcome_in c.push.new.self.items ≡ done ++ o ∷ [] = grind (arith, common_steps, c.in_ok-push.ensures.items) in
     record {
       count = grind (arith, common_steps);
-      ids = rw (c.in_ok-push.ensures.items, c.in_ok-creation.ensures, ids_more) (c.in_ok-note.ensures.ok ∙ ap (λ ids. with_id ids (c.len.result + 1)) l.invariant.ids);
-      rest =
-          rw (c.in_ok-push.ensures.items, c.in_ok-creation.ensures)
-          (planned_more (changes_of c.args.history.now) l.changes.items (pair_of c.create-item.result) (map pair_of (drop (l.create-index + 1) c.args.creates.now)) (c.len.result + 1) number
-          ∙ ap (λ ms. l.changes.items ++ planned (changes_of c.args.history.now ++ l.changes.items) (map pair_of ms)) (sym step) ∙ l.invariant.rest);
+      made = λ cs h.
+          let made = l.invariant.made cs h in
+          let here = c.in_ok-outcome_of_create.ensures (cs ++ flat_map changes_in done) made.1 in
+          (rw pushed (outcomes_push cs done o (pair_of c.create-item.result) (map pair_of (drop (l.create-index + 1) c.args.creates.now)) here.0
+              ∙ ap (λ ms. done ++ outcomes (cs ++ flat_map changes_in done) (map pair_of ms)) (sym step) ∙ made.0)
+          , rw pushed (tally_push c.outcome_of_create.new.tally cs done o here.1));
     }

@@ -1,13 +1,13 @@
-use Rattle.std.proofs.Common.{◌≡◌, ◌++◌, drop, map, vec_len}
-use Rattle.cal_model.specs.Answer.{planned}
-use Rattle.cal_model.specs.History.{changes_of, ids_at}
+use Rattle.std.proofs.Common.{◌≡◌, ◌++◌, List, drop, flat_map, map, vec_len}
+use Rattle.account_core.specs.Outcome.{outcome_in}
+use Rattle.account_core.specs.Tally.{Tallies}
+use Rattle.cal_model.specs.Sets.{changes_in, outcomes}
 use Rattle.cal_model.specs.TreeData.{pair_of}
-use Rattle.cal_model.specs.declared.entry.Kind.TheVariants.{Calendar}
+use Rattle.cal_model.specs.declared.entry.Change.{Change}
 use Rattle.account_core.proofs.plan.plan.Given as goal
 
 abbrev pub invariant-loop-create : goal.invariant-loop-create
 invariant-loop-create l = record {
-  count : vec_len l.changes ≡ l.create-index;
-  ids : l.ids.items ≡ ids_at (changes_of l.history ++ l.changes.items) Calendar;
-  rest : l.changes.items ++ planned (changes_of l.history ++ l.changes.items) (map pair_of (drop l.create-index l.creates)) ≡ planned (changes_of l.history) (map pair_of l.creates);
+  count : vec_len l.outcomes ≡ l.create-index;
+  made : (cs : List Change) → Tallies l.fn.tally cs → (map outcome_in l.outcomes.items ++ outcomes (cs ++ flat_map changes_in (map outcome_in l.outcomes.items)) (map pair_of (drop l.create-index l.creates)) ≡ outcomes cs (map pair_of l.creates)) × Tallies l.tally (cs ++ flat_map changes_in (map outcome_in l.outcomes.items));
 }

@@ -1,7 +1,6 @@
-use Rattle.std.proofs.Common.{◌≡◌, ◌++◌, drop}
-use Rattle.std.specs.List.{flat_map}
-use Rattle.cal_model.specs.History.{changes_of, object_at, some_object, live_at}
+use Rattle.std.proofs.Common.{◌≡◌, ◌++◌, drop, flat_map, map, option_map}
+use Rattle.cal_model.specs.History.{changes_of, live_at, some_object}
 use Rattle.account_core.proofs.replay.live.Given as goal
 
-abbrev pub invariant-loop-id : goal.invariant-loop-id
-invariant-loop-id l = l.live.items ++ flat_map (λ id. some_object (object_at (changes_of l.history) l.kind id)) (drop l.id-index l.id-items) ≡ live_at (changes_of l.history) l.kind
+abbrev pub invariant-loop-object : goal.invariant-loop-object
+invariant-loop-object l = map (λ t. t.now) l.live.items ++ flat_map some_object (map (option_map (λ t. t.now)) (drop l.object-index l.object-items)) ≡ live_at (changes_of l.history) l.fn.kind

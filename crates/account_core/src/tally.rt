@@ -1,0 +1,58 @@
+//! How much an account holds.
+ghost use Rattle.std.specs.Prelude.{◌≡◌, ◌+◌, ◌≤◌, ◌&&◌, ◌<◌, nat_lt, not};
+
+/// The most entries of an account.
+pub const MAX_ENTRIES: usize = 50_000;
+
+/// The most bytes of the compact texts of all objects that an account's entries put.
+pub const MAX_SIZE: usize = 16_777_216;
+
+/// How much an account holds, and how many calendars it has had.
+#[derive(Clone, Copy, Drop)]
+pub struct Tally {
+    /// The number of entries.
+    pub entries: usize,
+    /// The bytes of the compact texts of all objects that the entries put.
+    pub size: usize,
+    /// How many calendars were created. They have the numbers from 1 on, in order.
+    pub calendars: u64,
+    ghost few: { entries ≤ 50000 },
+    ghost small: { size ≤ 16777216 },
+    ghost numbered: { calendars ≤ entries },
+}
+
+impl Tally {
+    ghost use Rattle.account_core.specs.Tally.{Tallies};
+    ghost use Rattle.std.specs.Prelude.{[]};
+
+    /// The tally of no entries. Takes no memory.
+    pub fn new() -> Tally
+        ensures { Tallies result [] }
+    {
+        Tally {
+            entries: 0,
+            size: 0,
+            calendars: 0,
+        }
+    }
+
+    /// Whether one more entry is within the quota, whose object has a text of this many bytes. Takes no memory.
+    pub fn has_room(&self, size: usize) -> bool
+        ensures { result ≡ (nat_lt self.now.entries MAX_ENTRIES && not (nat_lt MAX_SIZE (self.now.size + size))) }
+    {
+        self.entries < MAX_ENTRIES && size <= MAX_SIZE - self.size
+    }
+
+    /// Counts one more entry, which creates a calendar with a text of this many bytes. Takes no memory.
+    pub fn count_calendar(&mut self, size: usize)
+        requires entries { self.old.entries < MAX_ENTRIES }
+        requires size { self.old.size + size ≤ MAX_SIZE }
+        ensures entries { self.new.entries ≡ self.old.entries + 1 }
+        ensures size { self.new.size ≡ self.old.size + size }
+        ensures calendars { self.new.calendars ≡ self.old.calendars + 1 }
+    {
+        self.entries += 1;
+        self.size += size;
+        self.calendars += 1;
+    }
+}

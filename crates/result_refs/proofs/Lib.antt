@@ -1,0 +1,3 @@
+mod BehindLemmas
+mod FormLemmas
+mod PartedLemmas
