@@ -111,5 +111,8 @@ fn main(rt: HostRuntime) -> io::Result<()> {
             wrong = wrong.saturating_add(1);
         }
     }
-    println!(rt; "{} requests, {wrong} of them with another answer than the table's", rows.len())
+    println!(rt;
+        "{} requests, {wrong} of them with another answer than the table's",
+        rows.len()
+    )
 }
