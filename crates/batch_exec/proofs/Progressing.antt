@@ -1,10 +1,9 @@
 -- One more step of a request.
-use Rattle.std.proofs.Common.{◌≡◌, ℕ, ℤ, suc, ◌+◌, ◌≤◌, ◌⊎◌, inl, inr, List, [], ◌∷◌, ◌++◌, length, map, flat_map, Result, Ok, Err, refl, sym, ap, ◌∙◌, subst, arith, append-nil, append_assoc, length-append}
+use Rattle.std.proofs.Common.{◌≡◌, ℕ, ℤ, suc, ◌+◌, ◌≤◌, inl, inr, List, [], ◌∷◌, ◌++◌, length, map, flat_map, Result, Ok, Err, refl, sym, ap, ◌∙◌, subst, arith, append-nil, append_assoc, length-append}
 use Rattle.std.proofs.lemmas.Grind.{flat_map-append}
 use Rattle.std.proofs.lemmas.List.{map-append, length-map}
 use Rattle.cal_model.proofs.Sessions.{join, still}
 use Rattle.cal_model.specs.Batch.{Step, Fit, FollowsFrom, Progress, created_after, created_in, given_ids, made_in, meaning_after, responses_in}
-use Rattle.cal_model.specs.Lock.{most_turns}
 use Rattle.cal_model.specs.Meaning.{meaning_of_method}
 use Rattle.cal_model.specs.Methods.{method_used}
 use Rattle.cal_model.specs.Parts.{some_of}
@@ -18,7 +17,6 @@ use Rattle.cal_model.specs.declared.response.Response.{Response}
 use Rattle.cal_model.specs.declared.user.User.{User}
 use Rattle.batch_exec.specs.Answering.{Going, Took, HasStopped, HasAnswered}
 use Rattle.batch_exec.specs.Stepping.{IsResponse, Makes, Takes}
-use Rattle.batch_exec.specs.declared.batch.Answers.{Answers}
 
 module _ (user : User) (request : Request) (moment : ℤ) where
   abbrev follows_after : List Step → Step → Type 0

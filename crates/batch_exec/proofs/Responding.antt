@@ -1,6 +1,6 @@
 -- What an invocation means, and what came of it, are a step.
-use Rattle.std.proofs.Common.{◌≡◌, ℕ, ℤ, ◌⊎◌, inl, inr, List, [], ◌∷◌, ◌++◌, Option, Some, None, Result, Ok, Err, refl, sym, ap, ◌∙◌, subst, append-nil}
-use Rattle.cal_model.specs.Batch.{Step, FollowsFrom, created_in, reply_response}
+use Rattle.std.proofs.Common.{◌≡◌, ℕ, ℤ, inl, inr, List, ◌++◌, Some, None, Result, Ok, Err, refl, sym, ◌∙◌, subst, append-nil}
+use Rattle.cal_model.specs.Batch.{Step, FollowsFrom, reply_response}
 use Rattle.cal_model.specs.Calls.{created_in as created_with_call}
 use Rattle.cal_model.specs.Meaning.{Meaning, calls, meaning_of_method}
 use Rattle.cal_model.specs.Methods.{method_used}

@@ -1,6 +1,6 @@
 -- What a lone desk made of a request is the answer to it.
 use Rattle.std.proofs.Common.{◌≡◌, ℕ, ℤ, ◌==◌, Bool, true, false, List, [], Ok, refl, sym, ◌∙◌, ap, subst, codes, if◌then◌else◌}
-use Rattle.cal_model.specs.Asked.{Asked, asked, asked_by}
+use Rattle.cal_model.specs.Asked.{Asked, asked_by}
 use Rattle.cal_model.specs.Base.{Base}
 use Rattle.cal_model.specs.Batch.{IsBatch}
 use Rattle.cal_model.specs.Data.{Data}

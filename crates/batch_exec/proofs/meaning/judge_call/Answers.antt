@@ -1,4 +1,4 @@
-use Rattle.std.proofs.Common.{◌≡◌, codes}
+use Rattle.std.proofs.Common.{codes}
 use Rattle.cal_model.specs.Calls.{text_argument}
 use Rattle.batch_exec.proofs.Granting.{grant_is_below}
 use Rattle.batch_exec.proofs.meaning.judge_call.Goals as goal

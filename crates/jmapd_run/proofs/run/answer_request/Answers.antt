@@ -1,4 +1,4 @@
-use Rattle.std.proofs.Common.{◌≡◌, ℤ, [], rules, subst, w64, to_z, of_z}
+use Rattle.std.proofs.Common.{◌≡◌, rules, w64, to_z, of_z}
 use Rattle.cal_model.specs.TreeData.{data_of}
 use Rattle.jmapd_run.proofs.Responding.{answer_of}
 use Rattle.jmapd_run.proofs.run.answer_request.Goals as goal
