@@ -15,5 +15,7 @@ mod lock;
 mod outside;
 #[cfg(test)]
 mod patches;
+#[cfg(test)]
+mod quotas;
 pub mod reporting_book;
 pub mod words;
