@@ -150,7 +150,15 @@ fn respond<D: Desk>(
         arguments,
         call_id,
     } = invocation;
-    match judge(alloc, user, capabilities, responses, created, &name, arguments) {
+    match judge(
+        alloc,
+        user,
+        capabilities,
+        responses,
+        created,
+        &name,
+        arguments,
+    ) {
         Ok(Judgement::Refused(error)) => match refusal(alloc, call_id, error) {
             Ok(response) => Ok(response),
             Err(_) => Err(DeskError::NoMemory),

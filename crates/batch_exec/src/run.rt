@@ -52,7 +52,16 @@ fn answer_request<D: Desk>(
         calls,
         created_ids,
     } = request;
-    let answers = match answer_all(alloc, &using, calls, &created_ids, user, desk, moment, fronts) {
+    let answers = match answer_all(
+        alloc,
+        &using,
+        calls,
+        &created_ids,
+        user,
+        desk,
+        moment,
+        fronts,
+    ) {
         Ok(answers) => answers,
         Err(DeskError::PassSpent) => return Err(BatchError::PassSpent),
         Err(DeskError::NoMemory) => return Err(BatchError::NoMemory),

@@ -61,7 +61,7 @@ module _ (base : Base) (author : ℕ) where
         follows = (
           f.0 ++ more,
           drop-append-le m.reply.place h more within
-          ∙ (ap (λ (l : List Entry). l ++ more) f.1 ∙ (append_assoc (added_by base author h m) f.0 more ∙ ap (λ (l : List Entry). l ++ (f.0 ++ more)) (sym (added_longer h more m within)))),
+              ∙ (ap (λ (l : List Entry). l ++ more) f.1 ∙ (append_assoc (added_by base author h m) f.0 more ∙ ap (λ (l : List Entry). l ++ (f.0 ++ more)) (sym (added_longer h more m within)))),
         );
         later = s.later;
       }
@@ -89,7 +89,7 @@ module _ (base : Base) (author : ℕ) where
       let e = added_longer h more x s.0.within in
       let rest = all_added_join h more (x.reply.place + length (added_by base author h x)) x.turn mid xs ys s.1 in
       let both : added_by base author (h ++ more) x ++ flat_map (added_by base author (h ++ more)) (xs ++ ys)
-          ≡ added_by base author h x ++ (flat_map (added_by base author h) xs ++ flat_map (added_by base author (h ++ more)) ys) = λ k. e k ++ rest k in
+      ≡ added_by base author h x ++ (flat_map (added_by base author h) xs ++ flat_map (added_by base author (h ++ more)) ys) = λ k. e k ++ rest k in
       both ∙ sym (append_assoc (added_by base author h x) (flat_map (added_by base author h) xs) (flat_map (added_by base author (h ++ more)) ys))
 
   join_on : (b m a : List Entry) (late mid upto : ℕ) (xs ys : List Made) → SessionOn base author b m late mid xs → SessionOn base author m a mid upto ys → SessionOn base author b a late upto (xs ++ ys)
@@ -101,10 +101,10 @@ module _ (base : Base) (author : ℕ) where
       let short : length b ≤ length m = (let e = ap length m_is ∙ length-append b u in omega arith) in
       let stand : Stand base author (m ++ r) (length m) mid upto ys = subst (λ (h : List Entry). Stand base author h (length m) mid upto ys) is t.stand in
       let own2 : written_by author r ≡ flat_map (added_by base author (m ++ r)) ys =
-          ap (written_by author) (sym (ap (drop (length m)) is ∙ drop-append_seam m r)) ∙ (t.own ∙ ap (λ (h : List Entry). flat_map (added_by base author h) ys) is) in
+      ap (written_by author) (sym (ap (drop (length m)) is ∙ drop-append_seam m r)) ∙ (t.own ∙ ap (λ (h : List Entry). flat_map (added_by base author h) ys) is) in
       let own : written_by author (drop (length b) (m ++ r)) ≡ flat_map (added_by base author (m ++ r)) (xs ++ ys) =
-          ap (written_by author) (drop-append-le (length b) m r short)
-          ∙ (filter-append (λ (e : Entry). e.author == author) (drop (length b) m) r ∙ ((λ k. s.own k ++ own2 k) ∙ sym (all_added_join m r (length b) late mid xs ys s.stand))) in
+      ap (written_by author) (drop-append-le (length b) m r short)
+      ∙ (filter-append (λ (e : Entry). e.author == author) (drop (length b) m) r ∙ ((λ k. s.own k ++ own2 k) ∙ sym (all_added_join m r (length b) late mid xs ys s.stand))) in
       subst (λ (h : List Entry). SessionOn base author b h late upto (xs ++ ys)) (sym is) (record {
         grows = (u ++ r, ap (λ (h : List Entry). h ++ r) m_is ∙ append_assoc b u r);
         stand = stand_join m r (length b) late mid upto xs ys short s.stand stand;
@@ -143,8 +143,8 @@ module _ (base : Base) (author : ℕ) where
           omega arith,
         );
         own = ap (λ (l : List Entry). written_by author (drop (length b) l)) (append_assoc b between xs)
-        ∙ (ap (written_by author) (drop-append_seam b (between ++ xs)) ∙ (filter-append (λ (e : Entry). e.author == author) between xs
-        ∙ (ap (λ (l : List Entry). l ++ written_by author xs) others ∙ (all_written_by author m.turn xs (added_signed base h m.call s) ∙ (sym adds ∙ sym (append-nil (added_by base author a m)))))));
+            ∙ (ap (written_by author) (drop-append_seam b (between ++ xs)) ∙ (filter-append (λ (e : Entry). e.author == author) between xs
+            ∙ (ap (λ (l : List Entry). l ++ written_by author xs) others ∙ (all_written_by author m.turn xs (added_signed base h m.call s) ∙ (sym adds ∙ sym (append-nil (added_by base author a m)))))));
       }
 
 -- a session and then another are a session
