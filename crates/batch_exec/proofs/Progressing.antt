@@ -3,11 +3,11 @@ use Rattle.std.proofs.Common.{◌≡◌, ℕ, ℤ, suc, ◌+◌, ◌≤◌, inl,
 use Rattle.std.proofs.lemmas.Grind.{flat_map-append}
 use Rattle.std.proofs.lemmas.List.{map-append, length-map}
 use Rattle.cal_model.proofs.Sessions.{join, still}
-use Rattle.cal_model.specs.Batch.{Step, Fit, FollowsFrom, Progress, created_after, created_in, given_ids, made_in, meaning_after, responses_in}
-use Rattle.cal_model.specs.Meaning.{meaning_of_method}
-use Rattle.cal_model.specs.Methods.{method_used}
+use Rattle.cal_model.specs.Batches.Batch.{Step, Fit, FollowsFrom, Progress, created_after, created_in, given_ids, made_in, meaning_after, responses_in}
+use Rattle.cal_model.specs.Batches.Meaning.{meaning_of_method}
+use Rattle.cal_model.specs.Batches.Methods.{method_used}
 use Rattle.cal_model.specs.Parts.{some_of}
-use Rattle.cal_model.specs.Session.{Made, Session, Shown, front_of}
+use Rattle.cal_model.specs.Batches.Session.{Made, Session, Shown, front_of}
 use Rattle.cal_model.specs.declared.desk.DeskError.{DeskError}
 use Rattle.cal_model.specs.declared.desk.DeskError.TheVariants.{NoMemory, PassSpent}
 use Rattle.cal_model.specs.declared.desk.Front.{Front}

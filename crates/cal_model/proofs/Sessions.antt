@@ -1,21 +1,18 @@
 -- Sessions follow one another.
-use Rattle.std.proofs.Common.{◌≡◌, ◌≢◌, ℕ, ℤ, zero, suc, ◌+◌, ◌<◌, ◌≤◌, ◌==◌, Bool, true, false, List, [], ◌∷◌, ◌++◌, Option, Some, None, length, take, drop, filter, flat_map, sym, refl, ap, ◌∙◌, subst, arith, length-append, length-drop, append_assoc, append-nil, eqb, eq-eqb, ne_eqb, ◌^◌, Result, Ok, Err}
-use Rattle.std.proofs.lemmas.Grind.{flat_map-append}
+use Rattle.std.proofs.Common.{◌≡◌, ℕ, ℤ, ◌+◌, ◌<◌, ◌≤◌, ◌==◌, List, [], ◌∷◌, ◌++◌, Option, Some, None, length, take, drop, flat_map, sym, refl, ap, ◌∙◌, subst, arith, length-append, length-drop, append_assoc, append-nil, eq-eqb, ne_eqb}
 use Rattle.std.proofs.lemmas.List.{take-append-le, drop-append-le}
 use Rattle.std.proofs.lemmas.List.Elements.{filter-append}
 use Rattle.std.proofs.Math.Seq.{drop-append_seam, take-append_seam}
 use mathlib.Core.Logic.{dite}
 use native.Mathlib.Decide.{ℕ_discrete}
 use Rattle.cal_model.specs.AddedEntries.{added_signed}
-use Rattle.cal_model.specs.Answer.{Form, get_calendars, create_plain, not_built, form_of, answer, answer_to, added, unless_error, get_found, answered, refused}
+use Rattle.cal_model.specs.Answer.{Form, get_calendars, create_plain, not_built, form_of, answer, answer_to, added, unless_error, get_found}
 use Rattle.cal_model.specs.Base.{Base}
-use Rattle.cal_model.specs.Session.{Shown, Made, on, stamp_of, added_by, Stands, Stand, SessionOn, Session, StaysBeside, Answered, Missed, Called}
-use Rattle.cal_model.specs.Signed.{AreSigned, written_by, Begins, Extends}
+use Rattle.cal_model.specs.Batches.Session.{Shown, Made, on, stamp_of, added_by, Stands, Stand, SessionOn, Session, Answered, Missed}
+use Rattle.cal_model.specs.Signed.{AreSigned, written_by}
 use Rattle.cal_model.specs.declared.call.Call.{Call}
 use Rattle.cal_model.specs.declared.call.MethodError.{MethodError}
 use Rattle.cal_model.specs.declared.call.Reply.{Reply}
-use Rattle.cal_model.specs.declared.desk.DeskError.{DeskError}
-use Rattle.cal_model.specs.declared.desk.DeskError.TheVariants.{NoMemory, PassSpent}
 use Rattle.cal_model.specs.declared.entry.Entry.{Entry}
 use Rattle.cal_model.specs.declared.stamp.Stamp.{Stamp}
 

@@ -2,7 +2,7 @@
 ghost use Rattle.std.specs.Prelude.{◌≡◌, IfOk, option_map};
 ghost use Rattle.std.specs.List.{find};
 ghost use Rattle.std.specs.Str.{bytes_eq};
-ghost use Rattle.cal_model.specs.References.{text_field, value_in_response, value_of_reference};
+ghost use Rattle.cal_model.specs.Batches.References.{text_field, value_in_response, value_of_reference};
 ghost use Rattle.cal_model.specs.TreeData.{data_of};
 
 use crate::path::value_at_path;

@@ -4,7 +4,7 @@ use Rattle.cal_model.specs.declared.call.Reply.{Reply}
 use Rattle.cal_model.specs.declared.desk.DeskError.{DeskError}
 use Rattle.cal_model.specs.declared.entry.Entry.{Entry}
 use Rattle.cal_model.specs.Lock.{most_turns}
-use Rattle.cal_model.specs.Session.{Called}
+use Rattle.cal_model.specs.Batches.Session.{Called}
 use Rattle.jmapd_run.specs.LoneDesk.{of_desk, shown_of}
 use Rattle.jmapd_run.proofs.Lone.{lone_called, still_sole}
 use Rattle.jmapd_run.proofs.desk.LoneDeskDesk.call.Goals as goal
