@@ -10,7 +10,8 @@ use cal_model::text::Text;
 use std::alloc::{AllocError, Global};
 use std::collections::BTreeMap;
 
-/// The ids of created objects by their creation ids.
+/// The ids of created objects by their creation ids. In order, since clients choose the keys and could make the hashes
+/// of many equal.
 type IdsByKey<'a> = BTreeMap<&'a [u8], &'a Text>;
 
 /// Puts an id at a creation id, in the place of one that stands there.
