@@ -1,5 +1,5 @@
 -- One more outcome of a plan, and its entry.
-use Rattle.std.proofs.Common.{◌≡◌, ℕ, suc, length, add-zero, zero-add, arith, Bool, true, false, not, ◌&&◌, ◌||◌, cond, if◌then◌else◌, nat_lt, List, [], ◌∷◌, ◌++◌, ◌+◌, flat_map, map, length-append, refl, sym, ap, ◌∙◌, append_assoc, append-nil}
+use Rattle.std.proofs.Common.{◌≡◌, ℕ, suc, length, add-zero, zero-add, arith, Bool, true, false, not, ◌&&◌, ◌||◌, if◌then◌else◌, nat_lt, List, [], ◌∷◌, ◌++◌, ◌+◌, flat_map, map, length-append, refl, sym, ap, ◌∙◌, append_assoc, append-nil}
 use Rattle.std.proofs.lemmas.List.{map-append}
 use Rattle.std.proofs.lemmas.List.Concat.{flat_map-append}
 use Rattle.std.proofs.lemmas.List.Sums.{sum_by-append}
@@ -11,9 +11,9 @@ use Rattle.account_core.specs.declared.outcome.Outcome.TheVariants.{Accepted}
 use Rattle.account_core.specs.declared.tally.Tally.{Tally}
 use Rattle.cal_model.specs.Answer.{entry_of, entries_from}
 use Rattle.cal_model.specs.Calendar.{new_calendar}
-use Rattle.cal_model.specs.Data.{Data, Pair}
+use Rattle.cal_model.specs.Data.{Pair}
 use Rattle.cal_model.specs.History.{changes_of, next_number, state_at}
-use Rattle.cal_model.specs.Sets.{Outcome, accepted, refused, changes_in, exceeds_quota, max_entries, max_size, outcome_of, outcomes, size_of, size_of_object, within_quota}
+use Rattle.cal_model.specs.Sets.{Outcome, accepted, refused, changes_in, max_entries, max_size, outcome_of, outcomes, size_of, size_of_object, within_quota}
 use Rattle.cal_model.specs.declared.call.SetError.TheVariants.{OverQuota}
 use Rattle.cal_model.specs.declared.entry.Change.{Change}
 use Rattle.cal_model.specs.declared.entry.Entry.{Entry}

@@ -7,7 +7,7 @@ use Rattle.cal_model.specs.declared.entry.Change.{Change}
 use Rattle.cal_model.specs.declared.entry.Kind.TheVariants.{Calendar}
 use Rattle.account_core.specs.declared.tally.Tally.{Tally}
 
--- a tally is that of these changes, whose calendars got the numbers 1, 2, 3 and so on
+-- the tally is that of these changes, whose calendars got the numbers from 1 on, in order
 pub record Tallies (t : Tally) (cs : List Change) : Type 0 where
   pub entries : t.entries ≡ length cs
   pub size : t.size ≡ size_of cs

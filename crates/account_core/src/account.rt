@@ -8,12 +8,12 @@ ghost use Rattle.cal_model.specs.ObjectKeys.{HasOrderedKeys};
 ghost use Rattle.cal_model.specs.Sets.{changes_in, outcomes};
 ghost use Rattle.cal_model.specs.TreeData.{pair_of};
 
-use crate::asked::are_properties;
 use crate::entries::entries_of;
 use crate::found::{find_all, find_ids};
 use crate::get_reply::get_reply;
 use crate::plain::all_plain;
 use crate::plan::plan;
+use crate::properties::are_properties;
 use crate::replay::live;
 use crate::reply::refusal;
 use crate::set_reply::set_reply;
@@ -73,7 +73,7 @@ impl Account {
         })
     }
 
-    /// Answers a get of calendars.
+    /// Answers a get of calendars (RFC 8620 section 5.1). A property that calendars don't have is told before too many objects.
     fn get(
         &self,
         ids: &Option<Texts>,
@@ -91,7 +91,7 @@ impl Account {
         }
     }
 
-    /// Answers a get of these ids.
+    /// Answers a get of these ids. Goes over the history once for each.
     fn get_ids(
         &self,
         ids: &[Text],
@@ -108,12 +108,17 @@ impl Account {
         get_reply(self.alloc, &self.id, &self.entries, found)
     }
 
-    /// Answers a get of all calendars.
+    /// Answers a get of all calendars. Goes over the history once.
     fn get_all(&self, properties: &Option<Texts>) -> Result<Reply, AllocError>
         requires { are_calendar_properties properties.now ≡ true }
         ensures { IfOk result (λ r. r ≡ answer_to self.now.0 self.now.1 (get_calendars None properties.now [])) }
     {
-        let calendars = live(self.alloc, &self.entries, Kind::Calendar, self.tally.calendars)?;
+        let calendars = live(
+            self.alloc,
+            &self.entries,
+            Kind::Calendar,
+            self.tally.calendars,
+        )?;
         if calendars.len() > MAX_OBJECTS_IN_GET {
             return Ok(self.refusal(MethodError::RequestTooLarge));
         }

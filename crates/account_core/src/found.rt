@@ -1,19 +1,19 @@
 //! What a get of calendars finds (RFC 8620 section 5.1).
 ghost use Rattle.std.specs.Prelude.{◌≡◌, [], Some, IfOk, filter, flat_map, is_some, map, not, option_and_then, option_map};
-ghost use Rattle.cal_model.specs.Gets.{ids_not_found, is_asked_for, object_with_id, objects_asked, selected};
+ghost use Rattle.cal_model.specs.Gets.{ids_not_found, object_with_id, objects_asked, selected};
 ghost use Rattle.cal_model.specs.History.{changes_of};
 ghost use Rattle.cal_model.specs.Id.{letter, object_number};
 ghost use Rattle.cal_model.specs.Parts.{some_of};
-ghost use Rattle.cal_model.specs.TreeData.{data_of, pair_of};
+ghost use Rattle.cal_model.specs.TreeData.{data_of};
 ghost use Rattle.cal_model.specs.declared.entry.Kind.TheVariants.{Calendar};
 
-use crate::asked::{asked_ids, asked_properties, is_among};
-use crate::plain::members_of;
+use crate::asked_ids::asked_ids;
+use crate::properties::{asked_properties, select};
 use crate::replay::object;
 use cal_model::entry::{Entry, Kind};
 use cal_model::lists::Texts;
 use cal_model::text::Text;
-use cal_model::tree::{Member, Tree, TreeObject};
+use cal_model::tree::Tree;
 use std::alloc::{AllocError, Global};
 use time_text::read_number;
 
@@ -52,54 +52,13 @@ fn object_of_id<'a>(history: &'a [Entry], kind: Kind, id: &Text) -> Option<&'a T
     object(history, kind, number_of(kind, id.as_str().as_bytes())?)
 }
 
-fn is_asked(properties: &Option<Vec<Text>>, member: &Member) -> bool
-    ensures { result ≡ is_asked_for (option_map (λ v. v.items) properties.now) (pair_of member.now) }
-{
-    match properties {
-        Some(names) => member.key.as_str() == "id" || is_among(names, &member.key),
-        None => true,
-    }
-}
-
-// Copies of those of the members that are asked for, and of `id`.
-fn chosen(
-    alloc: Global,
-    properties: &Option<Vec<Text>>,
-    members: &[Member],
-) -> Result<Vec<Member>, AllocError>
-    ensures { IfOk result (λ v. map pair_of v.items ≡ filter (is_asked_for (option_map (λ v. v.items) properties.now)) (map pair_of members.now)) }
-{
-    let mut chosen = Vec::new(alloc);
-    for member in members {
-        if is_asked(properties, member) {
-            let key = member.key.copy()?;
-            let value = member.value.copy()?;
-            chosen.push(Member { key, value })?;
-        }
-    }
-    Ok(chosen)
-}
-
-/// A copy of an object with those of its members alone that are asked for, and `id`.
-#[tactic(auto, using(crate::proofs::Orders::rises_filter))]
-fn select(
-    alloc: Global,
-    properties: &Option<Vec<Text>>,
-    object: &Tree,
-) -> Result<Tree, AllocError>
-    ensures { IfOk result (λ t. data_of t ≡ selected (option_map (λ v. v.items) properties.now) object.now) }
-{
-    let members = chosen(alloc, properties, members_of(object))?;
-    Ok(Tree::Object(TreeObject::new(members)))
-}
-
 /// Copies of objects with those of their members alone that are asked for, and `id`.
 fn select_all(
     alloc: Global,
-    properties: &Option<Vec<Text>>,
+    properties: &Option<Texts>,
     objects: &[&Tree],
 ) -> Result<Vec<Tree>, AllocError>
-    ensures { IfOk result (λ v. map data_of v.items ≡ map (selected (option_map (λ v. v.items) properties.now)) (map (λ t. t.now) objects.now)) }
+    ensures { IfOk result (λ v. map data_of v.items ≡ map (selected properties.now) (map (λ t. t.now) objects.now)) }
 {
     let mut list = Vec::with_capacity(alloc, objects.len())?;
     for object in objects {
@@ -112,10 +71,10 @@ fn select_all(
 fn find_each(
     alloc: Global,
     history: &[Entry],
-    properties: &Option<Vec<Text>>,
+    properties: &Option<Texts>,
     ids: Vec<Text>,
 ) -> Result<Found, AllocError>
-    ensures list { IfOk result (λ found. map data_of found.list.items ≡ map (selected (option_map (λ v. v.items) properties.now))
+    ensures list { IfOk result (λ found. map data_of found.list.items ≡ map (selected properties.now)
         (flat_map (λ id. some_of (object_with_id (changes_of history.now) Calendar id)) ids.items)) }
     ensures missing { IfOk result (λ found. found.missing.items
         ≡ filter (λ id. not (is_some (object_with_id (changes_of history.now) Calendar id))) ids.items) }

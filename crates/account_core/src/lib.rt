@@ -2,7 +2,7 @@
 #![tactic(auto)]
 
 pub mod account;
-pub mod asked;
+pub mod asked_ids;
 pub mod calendar;
 pub mod entries;
 pub mod found;
@@ -10,7 +10,9 @@ pub mod get_reply;
 pub mod outcome;
 pub mod plain;
 pub mod plan;
+pub mod properties;
 pub mod replay;
 pub mod reply;
 pub mod set_reply;
 pub mod tally;
+pub mod texts;

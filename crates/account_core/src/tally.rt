@@ -1,5 +1,6 @@
 //! How much an account holds.
 ghost use Rattle.std.specs.Prelude.{◌≡◌, ◌+◌, ◌≤◌, ◌&&◌, ◌<◌, nat_lt, not};
+ghost use Rattle.cal_model.specs.Sets.{max_entries, max_size};
 
 /// The most entries of an account.
 pub const MAX_ENTRIES: usize = 50_000;
@@ -7,17 +8,18 @@ pub const MAX_ENTRIES: usize = 50_000;
 /// The most bytes of the compact texts of all objects that an account's entries put.
 pub const MAX_SIZE: usize = 16_777_216;
 
-/// How much an account holds, and how many calendars it has had.
+/// How much an account holds, and how many calendars it has had. It tells whether a change is within the quota, and the
+/// number of the next calendar, without going over the history.
 #[derive(Clone, Copy, Drop)]
 pub struct Tally {
     /// The number of entries.
     pub entries: usize,
     /// The bytes of the compact texts of all objects that the entries put.
     pub size: usize,
-    /// How many calendars were created. They have the numbers from 1 on, in order.
+    /// How many calendars were created, with the numbers from 1 on, in order.
     pub calendars: u64,
-    ghost few: { entries ≤ 50000 },
-    ghost small: { size ≤ 16777216 },
+    ghost few: { entries ≤ max_entries },
+    ghost small: { size ≤ max_size },
     ghost numbered: { calendars ≤ entries },
 }
 
@@ -45,8 +47,8 @@ impl Tally {
 
     /// Counts one more entry, which creates a calendar with a text of this many bytes. Takes no memory.
     pub fn count_calendar(&mut self, size: usize)
-        requires entries { self.old.entries < MAX_ENTRIES }
-        requires size { self.old.size + size ≤ MAX_SIZE }
+        requires few { self.old.entries < MAX_ENTRIES }
+        requires small { self.old.size + size ≤ MAX_SIZE }
         ensures entries { self.new.entries ≡ self.old.entries + 1 }
         ensures size { self.new.size ≡ self.old.size + size }
         ensures calendars { self.new.calendars ≡ self.old.calendars + 1 }

@@ -1,7 +1,7 @@
 -- A call on an account is one more call of a session.
 use Rattle.std.proofs.Common.{◌≡◌, ℕ, ◌+◌, ◌≤◌, ℤ, List, [], ◌∷◌, ◌++◌, Ok, Err, refl, sym, ap, ◌∙◌, subst, arith, append-nil}
 use Rattle.cal_model.proofs.Sessions.{answers_once, made_of, missed, still}
-use Rattle.cal_model.specs.Session.{Called, Shown, Session}
+use Rattle.cal_model.specs.Batches.Session.{Called, Shown, Session}
 use Rattle.cal_model.specs.declared.call.Call.{Call}
 use Rattle.cal_model.specs.declared.call.Reply.{Reply}
 use Rattle.cal_model.specs.declared.desk.DeskError.{DeskError}

@@ -2,11 +2,11 @@
 use Rattle.std.proofs.Common.{◌≡◌, ℕ, ℤ, ◌≤◌, inr, List, [], length, drop, unwrap_or, Result, Ok, Err, sym, ap, ◌∙◌, arith, length-append}
 use Rattle.std.proofs.lemmas.List.{length-map}
 use Rattle.std.proofs.Math.Seq.{drop-append_seam}
-use Rattle.cal_model.specs.Asked.{asked, asked_by}
-use Rattle.cal_model.specs.Batch.{Step, IsBatch, IsBegun, created_after, created_in, given_ids, response_with_ids, response_object, responses_in}
+use Rattle.cal_model.specs.Batches.Asked.{asked, asked_by}
+use Rattle.cal_model.specs.Batches.Batch.{Step, IsBatch, IsBegun, created_after, created_in, given_ids, response_with_ids, response_object, responses_in}
 use Rattle.cal_model.specs.Data.{Data}
-use Rattle.cal_model.specs.Requests.{id_pair_of}
-use Rattle.cal_model.specs.Session.{Shown}
+use Rattle.cal_model.specs.Batches.Requests.{id_pair_of}
+use Rattle.cal_model.specs.Batches.Session.{Shown}
 use Rattle.cal_model.specs.declared.desk.Front.{Front}
 use Rattle.cal_model.specs.declared.request.BatchError.{BatchError}
 use Rattle.cal_model.specs.declared.request.BatchError.TheVariants.{Refused, PassSpent, NoMemory}

@@ -7,7 +7,7 @@ use Rattle.cal_model.specs.Answer.{answer, added}
 use Rattle.cal_model.specs.Base.{Base}
 use Rattle.cal_model.specs.Headline.{IsSole}
 use Rattle.cal_model.specs.Lock.{most_turns}
-use Rattle.cal_model.specs.Session.{Called, StaysBeside}
+use Rattle.cal_model.specs.Batches.Session.{Called, StaysBeside}
 use Rattle.cal_model.specs.Signed.{written_by}
 use Rattle.cal_model.specs.declared.call.Call.{Call}
 use Rattle.cal_model.specs.declared.call.Reply.{Reply}

@@ -1,11 +1,11 @@
 -- What a lone desk made of a request is the answer to it.
 use Rattle.std.proofs.Common.{◌≡◌, ℕ, ℤ, ◌==◌, Bool, true, false, List, [], Ok, refl, sym, ◌∙◌, ap, subst, codes, if◌then◌else◌}
-use Rattle.cal_model.specs.Asked.{Asked, asked_by}
+use Rattle.cal_model.specs.Batches.Asked.{Asked, asked_by}
 use Rattle.cal_model.specs.Base.{Base}
-use Rattle.cal_model.specs.Batch.{IsBatch}
+use Rattle.cal_model.specs.Batches.Batch.{IsBatch}
 use Rattle.cal_model.specs.Data.{Data}
 use Rattle.cal_model.specs.Headline.{IsAnswer, fresh_desk, local_user}
-use Rattle.cal_model.specs.Session.{Shown}
+use Rattle.cal_model.specs.Batches.Session.{Shown}
 use Rattle.cal_model.specs.Signed.{written_by}
 use Rattle.cal_model.specs.TreeData.{data_of}
 use Rattle.cal_model.specs.declared.desk.Front.{Front}

@@ -1,7 +1,7 @@
 -- What contracts see of a desk over one account.
 use Rattle.std.specs.Prelude.{ℕ, List, [], ◌==◌, Result, Ok, Err, if◌then◌else◌}
 use Rattle.cal_model.specs.Base.{Base}
-use Rattle.cal_model.specs.Session.{Shown}
+use Rattle.cal_model.specs.Batches.Session.{Shown}
 use Rattle.cal_model.specs.declared.call.Reply.{Reply}
 use Rattle.cal_model.specs.declared.desk.DeskError.{DeskError}
 use Rattle.cal_model.specs.declared.desk.DeskError.TheVariants.{NoMemory}

@@ -11,7 +11,7 @@ use Rattle.cal_model.proofs.KeyOrder.{above_later, both, less_of}
 use Rattle.cal_model.specs.Data.{Pair, lookup}
 use Rattle.cal_model.specs.ObjectKeys.{is_above, keys_rise}
 use Rattle.cal_model.specs.Parts.{behind_hash}
-use Rattle.cal_model.specs.References.{has_both_forms}
+use Rattle.cal_model.specs.Batches.References.{has_both_forms}
 use Rattle.result_refs.specs.Behind.{behind}
 use Rattle.result_refs.specs.Walk.{begins_with, from_key}
 

@@ -9,7 +9,7 @@ use Rattle.cal_model.specs.Data.{Data, Pair}
 use Rattle.cal_model.specs.Edit.{put_all}
 use Rattle.cal_model.specs.ObjectKeys.{is_above, keys_rise}
 use Rattle.cal_model.specs.Parts.{all_some}
-use Rattle.cal_model.specs.References.{resolved, has_both_forms, is_reference, referred_member, resolution, value_of_reference, with_referred}
+use Rattle.cal_model.specs.Batches.References.{resolved, has_both_forms, is_reference, referred_member, resolution, value_of_reference, with_referred}
 use Rattle.cal_model.specs.declared.response.Response.{Response}
 use Rattle.result_refs.specs.Parted.{plain_in, references_in, with_value}
 use Rattle.result_refs.specs.Reports.{Reports, ReportsNone}

@@ -1,7 +1,7 @@
 -- Arguments, taken apart.
 use Rattle.std.specs.Prelude.{List, not, Option, option_map, filter, map, drop}
 use Rattle.cal_model.specs.Data.{Pair}
-use Rattle.cal_model.specs.References.{is_reference, value_of_reference}
+use Rattle.cal_model.specs.Batches.References.{is_reference, value_of_reference}
 use Rattle.cal_model.specs.declared.response.Response.{Response}
 
 abbrev pub plain_in : List Pair → List Pair

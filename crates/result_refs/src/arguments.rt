@@ -1,7 +1,7 @@
 //! Arguments with the values of their references.
 ghost use Rattle.std.specs.Prelude.{◌≡◌, IfErr, IfOk, Some};
 ghost use Rattle.cal_model.specs.Parts.{all_some};
-ghost use Rattle.cal_model.specs.References.{resolution, resolved, value_of_reference};
+ghost use Rattle.cal_model.specs.Batches.References.{resolution, resolved, value_of_reference};
 ghost use Rattle.cal_model.specs.TreeData.{data_of};
 ghost use Rattle.result_refs.specs.Parted.{plain_in, references_in, with_value};
 ghost use Rattle.result_refs.specs.Reports.{Reports, ReportsNone};

@@ -2,7 +2,7 @@
 ghost use Rattle.std.specs.Prelude.{◌≡◌, is_some, map};
 ghost use Rattle.std.specs.List.{list_any};
 ghost use Rattle.cal_model.specs.Parts.{behind_hash};
-ghost use Rattle.cal_model.specs.References.{has_both_forms};
+ghost use Rattle.cal_model.specs.Batches.References.{has_both_forms};
 ghost use Rattle.cal_model.specs.TreeData.{pair_of};
 ghost use Rattle.result_refs.specs.Walk.{begins_with, from_key};
 

@@ -1,7 +1,7 @@
 //! The values that paths lead to.
 ghost use Rattle.std.specs.Prelude.{◌≡◌, ◌≤◌, ◌++◌, IfOk, OnOk, drop, length, map, option_and_then, option_map};
 ghost use Rattle.cal_model.specs.Parts.{all_some};
-ghost use Rattle.cal_model.specs.References.{item_at, items_or_self, joined, path_parts, value_by};
+ghost use Rattle.cal_model.specs.Batches.References.{item_at, items_or_self, joined, path_parts, value_by};
 ghost use Rattle.cal_model.specs.TreeData.{data_of};
 ghost use Rattle.result_refs.specs.Steps.{all_items, named_by};
 

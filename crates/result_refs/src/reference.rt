@@ -1,7 +1,8 @@
 //! The values of references.
-ghost use Rattle.std.specs.Prelude.{◌≡◌, IfOk, option_and_then, option_map};
-ghost use Rattle.cal_model.specs.Parts.{as_text};
-ghost use Rattle.cal_model.specs.References.{response_with_id, text_field, value_in_response, value_of_reference};
+ghost use Rattle.std.specs.Prelude.{◌≡◌, IfOk, option_map};
+ghost use Rattle.std.specs.List.{find};
+ghost use Rattle.std.specs.Str.{bytes_eq};
+ghost use Rattle.cal_model.specs.Batches.References.{text_field, value_in_response, value_of_reference};
 ghost use Rattle.cal_model.specs.TreeData.{data_of};
 
 use crate::path::value_at_path;
@@ -12,6 +13,7 @@ use std::alloc::{AllocError, Global};
 /// The value of a reference, which is an object with the texts `resultOf`, `name` and `path` (RFC 8620 section 3.7).
 ///
 /// It comes from the first response whose call id is `resultOf`, where that has this name. Takes memory for the value.
+#[tactic(auto, using(crate::proofs::ResponseLemmas::found_by_id))]
 pub(crate) fn value_of_reference(
     alloc: Global,
     reference: &Tree,
@@ -59,12 +61,9 @@ fn text_at<'a>(value: &'a Tree, key: &str) -> Option<&'a str>
 
 // The first response to a call of this id.
 fn response_with_id<'a>(responses: &'a [Response], call_id: &str) -> Option<&'a Response>
-    ensures { option_map (λ r. r.now) result ≡ response_with_id call_id.now responses.now }
+    ensures { option_map (λ r. r.now) result ≡ find (λ r. bytes_eq r.call_id call_id.now) responses.now }
 {
-    for response in responses {
-        if response.call_id.as_str() == call_id {
-            return Some(response);
-        }
-    }
-    None
+    responses
+        .iter()
+        .find(|response| response.call_id.as_str() == call_id)
 }

@@ -17,8 +17,9 @@ loop-create-preserved c =
       count = grind (arith, common_steps);
       made = λ cs h.
           let made = l.invariant.made cs h in
-          let here = c.in_ok-outcome_of_create.ensures (cs ++ flat_map changes_in done) made.1 in
-          (rw pushed (outcomes_push cs done o (pair_of c.create-item.result) (map pair_of (drop (l.create-index + 1) c.args.creates.now)) here.0
-              ∙ ap (λ ms. done ++ outcomes (cs ++ flat_map changes_in done) (map pair_of ms)) (sym step) ∙ made.0)
-          , rw pushed (tally_push c.outcome_of_create.new.tally cs done o here.1));
+          let here = c.in_ok-outcome_of_create.ensures (cs ++ flat_map changes_in done) made.1 in (
+            rw pushed (outcomes_push cs done o (pair_of c.create-item.result) (map pair_of (drop (l.create-index + 1) c.args.creates.now)) here.0
+                ∙ ap (λ ms. done ++ outcomes (cs ++ flat_map changes_in done) (map pair_of ms)) (sym step) ∙ made.0),
+            rw pushed (tally_push c.outcome_of_create.new.tally cs done o here.1),
+          );
     }

@@ -12,4 +12,4 @@ returns c =
     fill_by_all (object_at (changes_of c.args.history.now) c.args.kind) (map (option_map (λ t. t.now)) l.objects.items) (c.args.most + 1) None
     (grind (arith, common_steps))
     (λ n h. get_or-map (option_map (λ t. t.now)) l.objects.items n None None (omega (arith, l.invariant.length))
-        ∙ ap (λ es. object_from (option_map (λ t. t.now) (get_or l.objects.items n None)) (changes_of es) c.args.kind n) (sym done) ∙ l.invariant.objects n h)
+    ∙ ap (λ es. object_from (option_map (λ t. t.now) (get_or l.objects.items n None)) (changes_of es) c.args.kind n) (sym done) ∙ l.invariant.objects n h)

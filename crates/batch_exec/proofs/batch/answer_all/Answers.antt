@@ -14,7 +14,7 @@ loop-invocation-init g c =
     let r : Request = record { using = a.capabilities.now; calls = a.calls; created_ids = a.given.now } in (
       [],
       going_first a.user.now r a.moment.now a.fronts.now.items (g.D.Desk.shown a.desk.now) (into_iter_items c.into_iter-invocation-iterator.result) c.new-responses.result.items c.in-Ok.created
-      (grind (arith, common_steps)) (search rules) (search rules),
+          (grind (arith, common_steps)) (search rules) (search rules),
     )
 
 pub respond-requires : goal.respond-requires

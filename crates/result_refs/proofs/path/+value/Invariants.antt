@@ -1,6 +1,6 @@
 use Rattle.std.proofs.Common.{◌≡◌, ◌+◌, ◌-◌, ◌*◌, ◌++◌, length, drop, map, option_map, flat_map}
 use Rattle.cal_model.specs.Parts.{all_some}
-use Rattle.cal_model.specs.References.{items_or_self, value_by}
+use Rattle.cal_model.specs.Batches.References.{items_or_self, value_by}
 use Rattle.cal_model.specs.TreeData.{data_of}
 use Rattle.result_refs.proofs.path.+value.Given as goal
 

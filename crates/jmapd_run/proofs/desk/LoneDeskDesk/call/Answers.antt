@@ -4,7 +4,7 @@ use Rattle.cal_model.specs.declared.call.Reply.{Reply}
 use Rattle.cal_model.specs.declared.desk.DeskError.{DeskError}
 use Rattle.cal_model.specs.declared.entry.Entry.{Entry}
 use Rattle.cal_model.specs.Lock.{most_turns}
-use Rattle.cal_model.specs.Session.{Called}
+use Rattle.cal_model.specs.Batches.Session.{Called}
 use Rattle.jmapd_run.specs.LoneDesk.{of_desk, shown_of}
 use Rattle.jmapd_run.proofs.Lone.{lone_called, still_sole}
 use Rattle.jmapd_run.proofs.desk.LoneDeskDesk.call.Goals as goal
@@ -27,7 +27,7 @@ returns c =
     let after = shown_of (c.act-reply.new.self, d.turns + 1) in
     let e = c.act-reply.ensures in
     let called : Called (shown_of (d.account, d.turns)) after c.args._account c.args.call.now (to_z w64 (of_z w64 moment)) (of_desk c.act-reply.result) =
-        lone_called d.account.0 d.account.1 c.act-reply.new.self.1 d.turns c.args.call.now (to_z w64 (of_z w64 moment)) c.act-reply.new.self.0 c.args._account c.act-reply.result e.base first e.reply e.grown e.unchanged few in
+    lone_called d.account.0 d.account.1 c.act-reply.new.self.1 d.turns c.args.call.now (to_z w64 (of_z w64 moment)) c.act-reply.new.self.0 c.args._account c.act-reply.result e.base first e.reply e.grown e.unchanged few in
     record {
       called =
           subst (λ (y : (Base × List Entry) × ℕ). Called (shown_of y) after c.args._account c.args.call.now moment c.as_of_desk.result) c.self.view_is

@@ -1,8 +1,8 @@
-use Rattle.std.proofs.Common.{◌≡◌, ℕ, List, Bool, false, codes, refl, sym}
+use Rattle.std.proofs.Common.{◌≡◌, ℕ, List, false, codes, refl, sym}
 use Rattle.std.proofs.lemmas.Bool.{false_from_ne_true}
 use Rattle.std.proofs.lemmas.Slice.Eq.{bytes_eq-Decides}
 use Rattle.std.specs.Str.{bytes_eq}
-use Rattle.account_core.proofs.asked.is_property.Goals as goal
+use Rattle.account_core.proofs.properties.is_property.Goals as goal
 
 unlike : (a b : List ℕ) → (b ≡ a → ⊥) → bytes_eq a b ≡ false
 unlike a b h = false_from_ne_true _ (λ e. h (sym ((bytes_eq-Decides a b).0 e)))

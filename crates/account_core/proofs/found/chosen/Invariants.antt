@@ -1,7 +1,0 @@
-use Rattle.std.proofs.Common.{◌≡◌, ◌++◌, drop, filter, map, option_map}
-use Rattle.cal_model.specs.Gets.{is_asked_for}
-use Rattle.cal_model.specs.TreeData.{pair_of}
-use Rattle.account_core.proofs.found.chosen.Given as goal
-
-abbrev pub invariant-loop-member : goal.invariant-loop-member
-invariant-loop-member l = map pair_of l.chosen.items ++ filter (is_asked_for (option_map (λ v. v.items) l.properties)) (map pair_of (drop l.member-index l.members)) ≡ filter (is_asked_for (option_map (λ v. v.items) l.properties)) (map pair_of l.members)
