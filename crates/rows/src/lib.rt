@@ -10,6 +10,8 @@ mod civil_dates;
 #[cfg(test)]
 mod congruences;
 #[cfg(test)]
+mod desks;
+#[cfg(test)]
 mod lock;
 #[cfg(test)]
 mod outside;
@@ -17,5 +19,6 @@ mod outside;
 mod patches;
 #[cfg(test)]
 mod quotas;
+pub mod pair_desk;
 pub mod reporting_book;
 pub mod words;
