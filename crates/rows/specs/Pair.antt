@@ -2,7 +2,7 @@
 use Rattle.std.specs.Prelude.{ℕ, ◌-◌, List, [], ◌==◌, if◌then◌else◌}
 use Rattle.cal_model.specs.Base.{Base}
 use Rattle.cal_model.specs.Lock.{most_turns}
-use Rattle.cal_model.specs.Session.{Shown}
+use Rattle.cal_model.specs.Batches.Session.{Shown}
 use Rattle.cal_model.specs.declared.entry.Entry.{Entry}
 
 -- the accounts have the numbers 0 and 1, and the desk makes so many calls more
