@@ -1,15 +1,13 @@
 #!/usr/bin/env python3
 """Times `jmapd batch` on echoes of two sizes beside Python's json module; README.md tells what it prints."""
 
-import argparse
 import json
-import os
 import random
-import sys
 import tempfile
 
+from measure import CAPABILITY, Table, apart, compact, contents, length_of, measured, options, run_program, run_python
+
 SIZES = (900_000, 9_000_000)
-CAPABILITY = "urn:ietf:params:jmap:core"
 WORDS = (
     "agenda budget café call contract customer design draft Frühling garden invoice journey kitchen lecture "
     "meeting naïve notes office orchestra plan quarter report review school station team travel week Zürich"
@@ -60,10 +58,6 @@ def event(rng):
     }
 
 
-def compact(value):
-    return json.dumps(value, ensure_ascii=False, separators=(",", ":")).encode()
-
-
 def write_request(size, out):
     """Writes an echo of events, at least `size` bytes long."""
     rng = random.Random(2026)
@@ -75,86 +69,26 @@ def write_request(size, out):
     out.write(compact({"using": [CAPABILITY], "methodCalls": [call]}))
 
 
-def contents(file):
-    file.seek(0)
-    return file.read()
-
-
-def run_program(binary, request, answer):
-    os.dup2(request.fileno(), 0)
-    os.dup2(answer.fileno(), 1)
-    os.execv(binary, [binary, "batch"])
-
-
-def run_python(request, answer):
-    answer.write(compact(json.loads(contents(request))))
-
-
 def compare(request, answer):
     calls = json.loads(contents(request))["methodCalls"]
     if json.loads(contents(answer)) != {"methodResponses": calls, "sessionState": "1"}:
         raise ValueError("the answer isn't what was sent")
 
 
-def apart(work, *arguments):
-    """Does the work in a process of its own, and gives what that process used.
-
-    A new process's peak counts what its parent held when it began, so this one never holds a request.
-    """
-    child = os.fork()
-    if child == 0:
-        status = 1
-        try:
-            work(*arguments)
-            arguments[-1].flush()
-            status = 0
-        except Exception as error:
-            print(f"{work.__name__}: {error}", file=sys.stderr)
-        os._exit(status)
-    _, status, usage = os.wait4(child, 0)
-    if status != 0:
-        sys.exit(f"{work.__name__} failed")
-    return usage
-
-
-def measured(work, rounds, request, check):
-    """The least seconds of processor and the greatest peak memory in bytes of some rounds."""
-    unit = 1 if sys.platform == "darwin" else 1024
-    seconds, peaks = [], []
-    for _ in range(rounds):
-        with tempfile.TemporaryFile() as answer:
-            os.lseek(request.fileno(), 0, os.SEEK_SET)
-            usage = apart(work, request, answer)
-            if check:
-                apart(compare, request, answer)
-        seconds.append(usage.ru_utime + usage.ru_stime)
-        peaks.append(usage.ru_maxrss * unit)
-    return min(seconds), max(peaks)
-
-
 def main():
-    parser = argparse.ArgumentParser(description=__doc__)
-    parser.add_argument("binary", nargs="?", default="crates/jmapd/out/jmapd")
-    parser.add_argument("--rounds", type=int, default=5)
-    options = parser.parse_args()
+    chosen = options(__doc__)
 
     def program(request, answer):
-        run_program(options.binary, request, answer)
+        run_program(chosen.binary, request, answer)
 
-    times = {"jmapd": [], "Python": []}
-    print("who          bytes  seconds   MB/s  peak MB  bytes a byte")
+    table = Table("bytes")
     for size in SIZES:
         with tempfile.TemporaryFile() as request:
             apart(write_request, size, request)
-            length = os.fstat(request.fileno()).st_size
-            for who, work in (("jmapd", program), ("Python", run_python)):
-                seconds, peak = measured(work, options.rounds, request, who == "jmapd")
-                times[who].append(seconds)
-                rate = length / seconds / 1e6
-                print(f"{who:7} {length:10} {seconds:8.3f} {rate:6.1f} {peak / 1e6:8.1f} {peak / length:13.1f}")
-    for who, (small, large) in times.items():
-        print(f"{who}: {large / small:.1f} times the time for ten times the bytes")
-    print(f"jmapd takes {times['jmapd'][1] / times['Python'][1]:.2f} of Python's time on the larger")
+            length = length_of(request)
+            table.add("jmapd", length, *measured(program, chosen.rounds, request, compare))
+            table.add("Python", length, *measured(run_python, chosen.rounds, request))
+    table.compare("ten times the bytes")
 
 
 if __name__ == "__main__":

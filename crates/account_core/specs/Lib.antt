@@ -1,4 +1,3 @@
 pub mod IdsByKey
 pub mod Outcome
 pub mod Tally
-pub mod Signatures

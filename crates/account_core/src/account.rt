@@ -158,7 +158,7 @@ impl Account {
 
 impl Book for Account {
     ghost use Rattle.cal_model.specs.Answer.{answer, added};
-    ghost use Rattle.account_core.specs.Signatures.{added_signed};
+    ghost use Rattle.cal_model.specs.AddedEntries.{added_signed};
 
     type Call = Call;
 

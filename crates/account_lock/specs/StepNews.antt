@@ -6,7 +6,7 @@ use Rattle.cal_model.specs.Base.{Base}
 use Rattle.cal_model.specs.Lock.{PassView}
 use Rattle.cal_model.specs.LockSteps.{with_ticket, with_turn, having_read, having_added, out_of_line}
 use Rattle.cal_model.specs.declared.entry.Entry.{Entry}
-use Rattle.account_lock.specs.HistoryRule.{Extends}
+use Rattle.cal_model.specs.Signed.{Extends}
 
 -- the seat is at this table, which has the three words of a lock
 abbrev pub IsSeatOf : TableId → TableId → Type 0

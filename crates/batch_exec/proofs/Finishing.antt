@@ -1,13 +1,12 @@
 -- What came of a request's invocations is what came of the request.
-use Rattle.std.proofs.Common.{◌≡◌, ℕ, ℤ, ◌+◌, ◌≤◌, inl, inr, List, [], ◌∷◌, ◌++◌, Option, length, map, drop, unwrap_or, Result, Ok, Err, refl, sym, ap, ◌∙◌, subst, arith, length-append}
+use Rattle.std.proofs.Common.{◌≡◌, ℕ, ℤ, ◌≤◌, inr, List, [], length, drop, unwrap_or, Result, Ok, Err, sym, ap, ◌∙◌, arith, length-append}
 use Rattle.std.proofs.lemmas.List.{length-map}
 use Rattle.std.proofs.Math.Seq.{drop-append_seam}
-use Rattle.cal_model.specs.Asked.{asked, refused, asked_by}
-use Rattle.cal_model.specs.Batch.{Step, IsBatch, IsBegun, created_after, created_in, given_ids, response_with_ids, response_object, responses_in}
-use Rattle.cal_model.specs.Data.{Data, Pair}
-use Rattle.cal_model.specs.Requests.{id_pair_of}
-use Rattle.cal_model.specs.Session.{Shown}
-use Rattle.cal_model.specs.TreeData.{data_of}
+use Rattle.cal_model.specs.Batches.Asked.{asked, asked_by}
+use Rattle.cal_model.specs.Batches.Batch.{Step, IsBatch, IsBegun, created_after, created_in, given_ids, response_with_ids, response_object, responses_in}
+use Rattle.cal_model.specs.Data.{Data}
+use Rattle.cal_model.specs.Batches.Requests.{id_pair_of}
+use Rattle.cal_model.specs.Batches.Session.{Shown}
 use Rattle.cal_model.specs.declared.desk.Front.{Front}
 use Rattle.cal_model.specs.declared.request.BatchError.{BatchError}
 use Rattle.cal_model.specs.declared.request.BatchError.TheVariants.{Refused, PassSpent, NoMemory}
@@ -16,7 +15,7 @@ use Rattle.cal_model.specs.declared.request.Request.{Request}
 use Rattle.cal_model.specs.declared.response.Response.{Response}
 use Rattle.cal_model.specs.declared.tree.Tree.{Tree}
 use Rattle.cal_model.specs.declared.user.User.{User}
-use Rattle.batch_exec.specs.Answering.{IsRequestAnswered, HasStopped, Took}
+use Rattle.batch_exec.specs.Answering.{IsRequestAnswered, Took}
 
 -- the created ids behind those that the request gives are the ones that the calls added
 pub added_behind : (request : Request) (steps : List Step) (created : List (List ℕ × List ℕ)) → created ≡ created_after request steps

@@ -1,7 +1,7 @@
 -- A grant of a user is one of the user's grants.
-use Rattle.std.proofs.Common.{◌≡◌, ℕ, zero, suc, ◌<◌, List, [], ◌∷◌, Bool, true, false, Option, Some, None, All, arith, sym, subst, option_map, length, cond}
+use Rattle.std.proofs.Common.{◌≡◌, ℕ, suc, ◌<◌, List, [], ◌∷◌, Bool, true, false, Option, Some, None, All, arith, sym, subst, cond}
 use Rattle.std.specs.Str.{bytes_eq}
-use Rattle.cal_model.specs.Meaning.{grant_of}
+use Rattle.cal_model.specs.Batches.Meaning.{grant_of}
 use Rattle.cal_model.specs.declared.user.Grant.{Grant}
 
 module _ (accounts : ℕ) where

@@ -1,14 +1,13 @@
 -- One more step of a request.
-use Rattle.std.proofs.Common.{◌≡◌, ℕ, ℤ, suc, ◌+◌, ◌≤◌, ◌⊎◌, inl, inr, List, [], ◌∷◌, ◌++◌, length, map, flat_map, Result, Ok, Err, refl, sym, ap, ◌∙◌, subst, arith, append-nil, append_assoc, length-append}
+use Rattle.std.proofs.Common.{◌≡◌, ℕ, ℤ, suc, ◌+◌, ◌≤◌, inl, inr, List, [], ◌∷◌, ◌++◌, length, map, flat_map, Result, Ok, Err, refl, sym, ap, ◌∙◌, subst, arith, append-nil, append_assoc, length-append}
 use Rattle.std.proofs.lemmas.Grind.{flat_map-append}
 use Rattle.std.proofs.lemmas.List.{map-append, length-map}
 use Rattle.cal_model.proofs.Sessions.{join, still}
-use Rattle.cal_model.specs.Batch.{Step, Fit, FollowsFrom, Progress, created_after, created_in, given_ids, made_in, meaning_after, responses_in}
-use Rattle.cal_model.specs.Lock.{most_turns}
-use Rattle.cal_model.specs.Meaning.{meaning_of_method}
-use Rattle.cal_model.specs.Methods.{method_used}
+use Rattle.cal_model.specs.Batches.Batch.{Step, Fit, FollowsFrom, Progress, created_after, created_in, given_ids, made_in, meaning_after, responses_in}
+use Rattle.cal_model.specs.Batches.Meaning.{meaning_of_method}
+use Rattle.cal_model.specs.Batches.Methods.{method_used}
 use Rattle.cal_model.specs.Parts.{some_of}
-use Rattle.cal_model.specs.Session.{Made, Session, Shown, front_of}
+use Rattle.cal_model.specs.Batches.Session.{Made, Session, Shown, front_of}
 use Rattle.cal_model.specs.declared.desk.DeskError.{DeskError}
 use Rattle.cal_model.specs.declared.desk.DeskError.TheVariants.{NoMemory, PassSpent}
 use Rattle.cal_model.specs.declared.desk.Front.{Front}
@@ -18,7 +17,6 @@ use Rattle.cal_model.specs.declared.response.Response.{Response}
 use Rattle.cal_model.specs.declared.user.User.{User}
 use Rattle.batch_exec.specs.Answering.{Going, Took, HasStopped, HasAnswered}
 use Rattle.batch_exec.specs.Stepping.{IsResponse, Makes, Takes}
-use Rattle.batch_exec.specs.declared.batch.Answers.{Answers}
 
 module _ (user : User) (request : Request) (moment : ℤ) where
   abbrev follows_after : List Step → Step → Type 0
@@ -60,16 +58,16 @@ module _ (user : User) (request : Request) (moment : ℤ) where
         let p = g.progress in
         let made = made_more steps step in
         let follows : follows_after steps step =
-            subst (λ (d : Invocation). FollowsFrom moment (meaning_of_method user.grants (created_after request steps) (responses_in steps) d.arguments (method_used request.using d.name)) step) (sym k.invocation)
-            (subst (λ (y : List Response × List (List ℕ × List ℕ)). FollowsFrom moment (meaning_of_method user.grants y.1 y.0 c.arguments (method_used request.using c.name)) step) (λ i. (g.responses_are i, g.created_are i)) k.follows) in
+        subst (λ (d : Invocation). FollowsFrom moment (meaning_of_method user.grants (created_after request steps) (responses_in steps) d.arguments (method_used request.using d.name)) step) (sym k.invocation)
+        (subst (λ (y : List Response × List (List ℕ × List ℕ)). FollowsFrom moment (meaning_of_method user.grants y.1 y.0 c.arguments (method_used request.using c.name)) step) (λ i. (g.responses_are i, g.created_are i)) k.follows) in
         record {
           invoked = p.invoked ∙ (ap (λ (d : Invocation). map (λ (x : Step). x.invocation) steps ++ d ∷ rest) (sym k.invocation)
-          ∙ (sym (append_assoc (map (λ (x : Step). x.invocation) steps) (step.invocation ∷ []) rest) ∙ ap (λ (is : List Invocation). is ++ rest) (sym (map-append (λ (x : Step). x.invocation) steps (step ∷ [])))));
+              ∙ (sym (append_assoc (map (λ (x : Step). x.invocation) steps) (step.invocation ∷ []) rest) ∙ ap (λ (is : List Invocation). is ++ rest) (sym (map-append (λ (x : Step). x.invocation) steps (step ∷ [])))));
           fit = fit_more [] steps step p.fit follows;
           session = subst (Session s u) (sym made) (join s t u (made_in steps) (some_of step.made) p.session k.makes.session);
           fronts_grew = k.makes.fronts_grew ∙ (ap (λ (fs : List Front). fs ++ map front_of (some_of step.made)) p.fronts_grew
-          ∙ (append_assoc fronts (map front_of (made_in steps)) (map front_of (some_of step.made))
-          ∙ ap (λ (fs : List Front). fronts ++ fs) (sym (ap (map front_of) made ∙ map-append front_of (made_in steps) (some_of step.made)))));
+              ∙ (append_assoc fronts (map front_of (made_in steps)) (map front_of (some_of step.made))
+              ∙ ap (λ (fs : List Front). fronts ++ fs) (sym (ap (map front_of) made ∙ map-append front_of (made_in steps) (some_of step.made)))));
         }
 
     -- nothing came of the first of the invocations that are left
@@ -98,7 +96,7 @@ module _ (user : User) (request : Request) (moment : ℤ) where
           turns = omega (arith, count);
           responses_are = (λ k. g.responses_are k ++ sym x.3 k ∷ []) ∙ sym (map-append (λ (y : Step). y.response) steps (step ∷ []));
           created_are = x.2 ∙ (ap (λ (ps : List (List ℕ × List ℕ)). ps ++ created_in (step ∷ [])) g.created_are
-          ∙ (append_assoc (given_ids request) (created_in steps) (created_in (step ∷ [])) ∙ ap (λ (ps : List (List ℕ × List ℕ)). given_ids request ++ ps) (sym (created_more steps step))));
+              ∙ (append_assoc (given_ids request) (created_in steps) (created_in (step ∷ [])) ∙ ap (λ (ps : List (List ℕ × List ℕ)). given_ids request ++ ps) (sym (created_more steps step))));
         }
 
     count_left : length request.calls ≡ length steps + suc (length rest) → length steps + 1 ≤ length request.calls

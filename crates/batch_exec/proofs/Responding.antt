@@ -1,10 +1,10 @@
 -- What an invocation means, and what came of it, are a step.
-use Rattle.std.proofs.Common.{◌≡◌, ℕ, ℤ, ◌⊎◌, inl, inr, List, [], ◌∷◌, ◌++◌, Option, Some, None, Result, Ok, Err, refl, sym, ap, ◌∙◌, subst, append-nil}
-use Rattle.cal_model.specs.Batch.{Step, FollowsFrom, created_in, reply_response}
-use Rattle.cal_model.specs.Calls.{created_in as created_with_call}
-use Rattle.cal_model.specs.Meaning.{Meaning, calls, meaning_of_method}
-use Rattle.cal_model.specs.Methods.{method_used}
-use Rattle.cal_model.specs.Session.{Made, Shown}
+use Rattle.std.proofs.Common.{◌≡◌, ℕ, ℤ, inl, inr, List, ◌++◌, Some, None, Result, Ok, Err, refl, sym, ◌∙◌, subst, append-nil}
+use Rattle.cal_model.specs.Batches.Batch.{Step, FollowsFrom, reply_response}
+use Rattle.cal_model.specs.Batches.Calls.{created_in as created_with_call}
+use Rattle.cal_model.specs.Batches.Meaning.{Meaning, calls, meaning_of_method}
+use Rattle.cal_model.specs.Batches.Methods.{method_used}
+use Rattle.cal_model.specs.Batches.Session.{Made, Shown}
 use Rattle.cal_model.specs.declared.call.Call.{Call}
 use Rattle.cal_model.specs.declared.desk.DeskError.{DeskError}
 use Rattle.cal_model.specs.declared.desk.DeskError.TheVariants.{NoMemory, PassSpent}

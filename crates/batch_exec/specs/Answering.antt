@@ -1,8 +1,8 @@
 -- What the invocations of a request lead to, one after the other.
 use Rattle.std.specs.Prelude.{◌≡◌, ℕ, ◌+◌, ◌≤◌, ℤ, List, [], length, Result, Ok, Err}
-use Rattle.cal_model.specs.Batch.{Step, Progress, created_after, response_object, responses_in}
+use Rattle.cal_model.specs.Batches.Batch.{Step, Progress, created_after, response_object, responses_in}
 use Rattle.cal_model.specs.Lock.{most_turns}
-use Rattle.cal_model.specs.Session.{Shown}
+use Rattle.cal_model.specs.Batches.Session.{Shown}
 use Rattle.cal_model.specs.TreeData.{data_of}
 use Rattle.cal_model.specs.declared.desk.DeskError.{DeskError}
 use Rattle.cal_model.specs.declared.desk.DeskError.TheVariants.{PassSpent, NoMemory}

@@ -1,6 +1,6 @@
 -- Why a JSON value is answered no request.
 use Rattle.std.specs.Prelude.{◌≡◌}
-use Rattle.cal_model.specs.Asked.{Asked, refused}
+use Rattle.cal_model.specs.Batches.Asked.{Asked, refused}
 use Rattle.cal_model.specs.declared.request.BatchError.{BatchError}
 use Rattle.cal_model.specs.declared.request.BatchError.TheVariants.{Refused, PassSpent, NoMemory}
 

@@ -1,12 +1,12 @@
 -- What one invocation of a request leads to.
 use Rattle.std.specs.Prelude.{◌≡◌, ℕ, ◌+◌, ◌≤◌, ◌⊎◌, ℤ, List, [], ◌∷◌, ◌++◌, map, Result, Ok, Err}
-use Rattle.cal_model.specs.Batch.{Step, FollowsFrom, created_in, reply_response}
-use Rattle.cal_model.specs.Calls.{created_in as created_with_call}
+use Rattle.cal_model.specs.Batches.Batch.{Step, FollowsFrom, created_in, reply_response}
+use Rattle.cal_model.specs.Batches.Calls.{created_in as created_with_call}
 use Rattle.cal_model.specs.Lock.{most_turns}
-use Rattle.cal_model.specs.Meaning.{meaning_of_method}
-use Rattle.cal_model.specs.Methods.{method_used}
+use Rattle.cal_model.specs.Batches.Meaning.{meaning_of_method}
+use Rattle.cal_model.specs.Batches.Methods.{method_used}
 use Rattle.cal_model.specs.Parts.{some_of}
-use Rattle.cal_model.specs.Session.{Made, Shown, Session, front_of}
+use Rattle.cal_model.specs.Batches.Session.{Made, Shown, Session, front_of}
 use Rattle.cal_model.specs.declared.call.Call.{Call}
 use Rattle.cal_model.specs.declared.call.Reply.{Reply}
 use Rattle.cal_model.specs.declared.desk.DeskError.{DeskError}

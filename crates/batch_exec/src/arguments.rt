@@ -1,6 +1,6 @@
 //! The arguments that calls give to methods.
 ghost use Rattle.std.specs.Prelude.{◌≡◌, is_some, map};
-ghost use Rattle.cal_model.specs.Arguments.{are_well_given, argument_of, has_shape, is_well_given};
+ghost use Rattle.cal_model.specs.Batches.Arguments.{are_well_given, argument_of, has_shape, is_well_given};
 ghost use Rattle.cal_model.specs.Data.{lookup};
 ghost use Rattle.cal_model.specs.Parts.{all_some, as_object, as_text};
 ghost use Rattle.cal_model.specs.TreeData.{data_of};

@@ -1,8 +1,8 @@
 //! The invocations of a request, one after the other, on the accounts of a desk.
 ghost use Rattle.std.specs.Prelude.{◌≡◌, ◌<◌, ◌++◌, [], All, IfOk, map, unwrap_or};
-ghost use Rattle.cal_model.specs.Batch.{error_response, error_type, reply_response};
+ghost use Rattle.cal_model.specs.Batches.Batch.{error_response, error_type, reply_response};
 ghost use Rattle.cal_model.specs.Parts.{as_text};
-ghost use Rattle.cal_model.specs.Requests.{id_pair_of};
+ghost use Rattle.cal_model.specs.Batches.Requests.{id_pair_of};
 ghost use Rattle.cal_model.specs.TreeData.{data_of, pair_of};
 ghost use Rattle.batch_exec.specs.Answering.{HasAnswered};
 ghost use Rattle.batch_exec.specs.Stepping.{IsCallResponse, IsReply, IsResponse};
@@ -150,7 +150,15 @@ fn respond<D: Desk>(
         arguments,
         call_id,
     } = invocation;
-    match judge(alloc, user, capabilities, responses, created, &name, arguments) {
+    match judge(
+        alloc,
+        user,
+        capabilities,
+        responses,
+        created,
+        &name,
+        arguments,
+    ) {
         Ok(Judgement::Refused(error)) => match refusal(alloc, call_id, error) {
             Ok(response) => Ok(response),
             Err(_) => Err(DeskError::NoMemory),

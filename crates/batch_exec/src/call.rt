@@ -1,8 +1,8 @@
 //! The calls on accounts that methods make of their arguments.
 ghost use Rattle.std.specs.Prelude.{◌≡◌, ◌≢◌, IfOk, Some, codes, option_map};
-ghost use Rattle.cal_model.specs.Calls.{argument, availability_call, call_of, changes_call, get_call, list_tree, number_argument, object_tree, query_call, query_changes_call, set_call, text_argument, truth_argument, zone_argument};
+ghost use Rattle.cal_model.specs.Batches.Calls.{argument, availability_call, call_of, changes_call, get_call, list_tree, number_argument, object_tree, query_call, query_changes_call, set_call, text_argument, truth_argument, zone_argument};
 ghost use Rattle.cal_model.specs.Edit.{ChangesOnlyAt};
-ghost use Rattle.cal_model.specs.Meaning.{grant_of};
+ghost use Rattle.cal_model.specs.Batches.Meaning.{grant_of};
 ghost use Rattle.cal_model.specs.Parts.{as_object, as_text, as_texts, as_truth, as_whole};
 
 use crate::parts::{into_list, into_object, into_text, into_texts};

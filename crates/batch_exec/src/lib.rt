@@ -10,4 +10,3 @@ pub mod problem;
 pub mod request;
 mod response;
 pub mod run;
-pub mod stub;

@@ -1,9 +1,9 @@
 //! What an invocation means: an error, an answer without an account, or a call on an account.
 ghost use Rattle.std.specs.Prelude.{◌≡◌, ◌≢◌, All, ◌<◌, IfOk, ℕ};
-ghost use Rattle.cal_model.specs.Calls.{call_of};
-ghost use Rattle.cal_model.specs.Meaning.{meaning_of_arguments, meaning_of_call, meaning_of_method};
-ghost use Rattle.cal_model.specs.Methods.{is_set, method_used, uses};
-ghost use Rattle.cal_model.specs.References.{resolved};
+ghost use Rattle.cal_model.specs.Batches.Calls.{call_of};
+ghost use Rattle.cal_model.specs.Batches.Meaning.{meaning_of_arguments, meaning_of_call, meaning_of_method};
+ghost use Rattle.cal_model.specs.Batches.Methods.{is_set, method_used, uses};
+ghost use Rattle.cal_model.specs.Batches.References.{resolved};
 ghost use Rattle.batch_exec.specs.Judgements.{account_is_below, created_with, meaning_in};
 
 use crate::arguments::are_well_given;
@@ -15,7 +15,7 @@ use cal_model::response::Response;
 use cal_model::text::Text;
 use cal_model::tree::TreeObject;
 use cal_model::user::User;
-use crate::stub::{ReferenceError, resolve};
+use result_refs::{ReferenceError, resolve};
 use std::alloc::{AllocError, Global};
 
 /// What an invocation means. Its arguments have the values of the references.

@@ -1,7 +1,7 @@
 //! Problems that tell why a whole request was refused.
 ghost use Rattle.std.specs.Prelude.{◌≡◌, IfOk};
 ghost use Rattle.cal_model.specs.Data.{text};
-ghost use Rattle.cal_model.specs.Problem.{limit_name, problem, problem_detail, problem_type};
+ghost use Rattle.cal_model.specs.Batches.Problem.{limit_name, problem, problem_detail, problem_type};
 ghost use Rattle.cal_model.specs.TreeData.{data_of};
 
 use cal_model::num::Num;

@@ -2,10 +2,10 @@
 ghost use Rattle.std.specs.Prelude.{◌≡◌, ◌≢◌, [], ◌∷◌, IfErr, IfNone, IfOk, IfSome, codes, length, map, option_and_then, option_map};
 ghost use Rattle.std.specs.List.{list_all};
 ghost use Rattle.batch_exec.specs.Refusal.{Refuses};
-ghost use Rattle.cal_model.specs.Asked.{asked, asked_by};
-ghost use Rattle.cal_model.specs.Methods.{is_capability};
+ghost use Rattle.cal_model.specs.Batches.Asked.{asked, asked_by};
+ghost use Rattle.cal_model.specs.Batches.Methods.{is_capability};
 ghost use Rattle.cal_model.specs.Parts.{all_some, as_list, as_text};
-ghost use Rattle.cal_model.specs.Requests.{created_ids_of, invocation_of, invocation_with, is_id_pair, request_of, request_with};
+ghost use Rattle.cal_model.specs.Batches.Requests.{created_ids_of, invocation_of, invocation_with, is_id_pair, request_of, request_with};
 ghost use Rattle.cal_model.specs.TreeData.{data_of, pair_of};
 
 use crate::parts::{into_list, into_object, into_text, into_texts};

@@ -1,6 +1,6 @@
 //! The response to a request, as JSON.
 ghost use Rattle.std.specs.Prelude.{◌≡◌, [], IfOk, map};
-ghost use Rattle.cal_model.specs.Batch.{created_object, id_member, response_data, response_with_ids};
+ghost use Rattle.cal_model.specs.Batches.Batch.{created_object, id_member, response_data, response_with_ids};
 ghost use Rattle.cal_model.specs.Edit.{put_all};
 ghost use Rattle.cal_model.specs.TreeData.{data_of};
 ghost use Rattle.cal_model.specs.declared.tree.Tree.TheVariants.{Object};

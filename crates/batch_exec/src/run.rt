@@ -1,7 +1,7 @@
 //! A request, from its JSON to its response.
 ghost use Rattle.std.specs.Prelude.{◌≡◌, ◌<◌, ◌≤◌, [], All, IfOk, drop, length, unwrap_or};
 ghost use Rattle.batch_exec.specs.Answering.{IsRequestAnswered};
-ghost use Rattle.cal_model.specs.Batch.{IsBatch, response_with_ids};
+ghost use Rattle.cal_model.specs.Batches.Batch.{IsBatch, response_with_ids};
 ghost use Rattle.cal_model.specs.TreeData.{data_of};
 
 use crate::batch::{Answers, answer_all};
@@ -52,7 +52,16 @@ fn answer_request<D: Desk>(
         calls,
         created_ids,
     } = request;
-    let answers = match answer_all(alloc, &using, calls, &created_ids, user, desk, moment, fronts) {
+    let answers = match answer_all(
+        alloc,
+        &using,
+        calls,
+        &created_ids,
+        user,
+        desk,
+        moment,
+        fronts,
+    ) {
         Ok(answers) => answers,
         Err(DeskError::PassSpent) => return Err(BatchError::PassSpent),
         Err(DeskError::NoMemory) => return Err(BatchError::NoMemory),

@@ -31,14 +31,14 @@ equal_not_less Equal h = refl
 equal_not_less Greater h = cc
 
 -- of two keys that differ, one is below the other
-below_else : (j k : List ℕ) → is_lt (key_cmp j k) ≡ false → bytes_eq j k ≡ false → is_lt (key_cmp k j) ≡ true
+pub below_else : (j k : List ℕ) → is_lt (key_cmp j k) ≡ false → bytes_eq j k ≡ false → is_lt (key_cmp k j) ≡ true
 below_else j k h e = ap is_lt (nat_list_cmp_total.antisymm k j) ∙ reverse_less (key_cmp j k) h (is_eq-slice_cmp j k ∙ e)
 
 -- and that one is neither above nor equal
 not_above : (k j : List ℕ) → is_lt (key_cmp k j) ≡ true → (is_lt (key_cmp j k) ≡ false) × (is_eq (key_cmp j k) ≡ false)
 not_above k j h = reverse_greater (key_cmp j k) (sym (ap is_lt (nat_list_cmp_total.antisymm k j)) ∙ h)
 
-not_equal : (k j : List ℕ) → is_lt (key_cmp k j) ≡ true → bytes_eq j k ≡ false
+pub not_equal : (k j : List ℕ) → is_lt (key_cmp k j) ≡ true → bytes_eq j k ≡ false
 not_equal k j h = sym (is_eq-slice_cmp j k) ∙ (not_above k j h).1
 
 pub equal_not_below : (j k : List ℕ) → bytes_eq j k ≡ true → is_lt (key_cmp j k) ≡ false

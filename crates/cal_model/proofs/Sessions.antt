@@ -1,21 +1,18 @@
 -- Sessions follow one another.
-use Rattle.std.proofs.Common.{◌≡◌, ◌≢◌, ℕ, ℤ, zero, suc, ◌+◌, ◌<◌, ◌≤◌, ◌==◌, Bool, true, false, List, [], ◌∷◌, ◌++◌, Option, Some, None, length, take, drop, filter, flat_map, sym, refl, ap, ◌∙◌, subst, arith, length-append, length-drop, append_assoc, append-nil, eqb, eq-eqb, ne_eqb, ◌^◌, Result, Ok, Err}
-use Rattle.std.proofs.lemmas.Grind.{flat_map-append}
+use Rattle.std.proofs.Common.{◌≡◌, ℕ, ℤ, ◌+◌, ◌<◌, ◌≤◌, ◌==◌, List, [], ◌∷◌, ◌++◌, Option, Some, None, length, take, drop, flat_map, sym, refl, ap, ◌∙◌, subst, arith, length-append, length-drop, append_assoc, append-nil, eq-eqb, ne_eqb}
 use Rattle.std.proofs.lemmas.List.{take-append-le, drop-append-le}
 use Rattle.std.proofs.lemmas.List.Elements.{filter-append}
 use Rattle.std.proofs.Math.Seq.{drop-append_seam, take-append_seam}
 use mathlib.Core.Logic.{dite}
 use native.Mathlib.Decide.{ℕ_discrete}
 use Rattle.cal_model.specs.AddedEntries.{added_signed}
-use Rattle.cal_model.specs.Answer.{Form, get_calendars, create_plain, not_built, form_of, answer, answer_to, added, unless_error, get_found, answered, refused}
+use Rattle.cal_model.specs.Answer.{Form, get_calendars, create_plain, not_built, form_of, answer, answer_to, added, unless_error, get_found}
 use Rattle.cal_model.specs.Base.{Base}
-use Rattle.cal_model.specs.Session.{Shown, Made, on, stamp_of, added_by, Stands, Stand, SessionOn, Session, StaysBeside, Answered, Missed, Called}
-use Rattle.cal_model.specs.Signed.{AreSigned, written_by, Begins, Extends}
+use Rattle.cal_model.specs.Batches.Session.{Shown, Made, on, stamp_of, added_by, Stands, Stand, SessionOn, Session, Answered, Missed}
+use Rattle.cal_model.specs.Signed.{AreSigned, written_by}
 use Rattle.cal_model.specs.declared.call.Call.{Call}
 use Rattle.cal_model.specs.declared.call.MethodError.{MethodError}
 use Rattle.cal_model.specs.declared.call.Reply.{Reply}
-use Rattle.cal_model.specs.declared.desk.DeskError.{DeskError}
-use Rattle.cal_model.specs.declared.desk.DeskError.TheVariants.{NoMemory, PassSpent}
 use Rattle.cal_model.specs.declared.entry.Entry.{Entry}
 use Rattle.cal_model.specs.declared.stamp.Stamp.{Stamp}
 
@@ -61,7 +58,7 @@ module _ (base : Base) (author : ℕ) where
         follows = (
           f.0 ++ more,
           drop-append-le m.reply.place h more within
-          ∙ (ap (λ (l : List Entry). l ++ more) f.1 ∙ (append_assoc (added_by base author h m) f.0 more ∙ ap (λ (l : List Entry). l ++ (f.0 ++ more)) (sym (added_longer h more m within)))),
+              ∙ (ap (λ (l : List Entry). l ++ more) f.1 ∙ (append_assoc (added_by base author h m) f.0 more ∙ ap (λ (l : List Entry). l ++ (f.0 ++ more)) (sym (added_longer h more m within)))),
         );
         later = s.later;
       }
@@ -89,7 +86,7 @@ module _ (base : Base) (author : ℕ) where
       let e = added_longer h more x s.0.within in
       let rest = all_added_join h more (x.reply.place + length (added_by base author h x)) x.turn mid xs ys s.1 in
       let both : added_by base author (h ++ more) x ++ flat_map (added_by base author (h ++ more)) (xs ++ ys)
-          ≡ added_by base author h x ++ (flat_map (added_by base author h) xs ++ flat_map (added_by base author (h ++ more)) ys) = λ k. e k ++ rest k in
+      ≡ added_by base author h x ++ (flat_map (added_by base author h) xs ++ flat_map (added_by base author (h ++ more)) ys) = λ k. e k ++ rest k in
       both ∙ sym (append_assoc (added_by base author h x) (flat_map (added_by base author h) xs) (flat_map (added_by base author (h ++ more)) ys))
 
   join_on : (b m a : List Entry) (late mid upto : ℕ) (xs ys : List Made) → SessionOn base author b m late mid xs → SessionOn base author m a mid upto ys → SessionOn base author b a late upto (xs ++ ys)
@@ -101,10 +98,10 @@ module _ (base : Base) (author : ℕ) where
       let short : length b ≤ length m = (let e = ap length m_is ∙ length-append b u in omega arith) in
       let stand : Stand base author (m ++ r) (length m) mid upto ys = subst (λ (h : List Entry). Stand base author h (length m) mid upto ys) is t.stand in
       let own2 : written_by author r ≡ flat_map (added_by base author (m ++ r)) ys =
-          ap (written_by author) (sym (ap (drop (length m)) is ∙ drop-append_seam m r)) ∙ (t.own ∙ ap (λ (h : List Entry). flat_map (added_by base author h) ys) is) in
+      ap (written_by author) (sym (ap (drop (length m)) is ∙ drop-append_seam m r)) ∙ (t.own ∙ ap (λ (h : List Entry). flat_map (added_by base author h) ys) is) in
       let own : written_by author (drop (length b) (m ++ r)) ≡ flat_map (added_by base author (m ++ r)) (xs ++ ys) =
-          ap (written_by author) (drop-append-le (length b) m r short)
-          ∙ (filter-append (λ (e : Entry). e.author == author) (drop (length b) m) r ∙ ((λ k. s.own k ++ own2 k) ∙ sym (all_added_join m r (length b) late mid xs ys s.stand))) in
+      ap (written_by author) (drop-append-le (length b) m r short)
+      ∙ (filter-append (λ (e : Entry). e.author == author) (drop (length b) m) r ∙ ((λ k. s.own k ++ own2 k) ∙ sym (all_added_join m r (length b) late mid xs ys s.stand))) in
       subst (λ (h : List Entry). SessionOn base author b h late upto (xs ++ ys)) (sym is) (record {
         grows = (u ++ r, ap (λ (h : List Entry). h ++ r) m_is ∙ append_assoc b u r);
         stand = stand_join m r (length b) late mid upto xs ys short s.stand stand;
@@ -143,8 +140,8 @@ module _ (base : Base) (author : ℕ) where
           omega arith,
         );
         own = ap (λ (l : List Entry). written_by author (drop (length b) l)) (append_assoc b between xs)
-        ∙ (ap (written_by author) (drop-append_seam b (between ++ xs)) ∙ (filter-append (λ (e : Entry). e.author == author) between xs
-        ∙ (ap (λ (l : List Entry). l ++ written_by author xs) others ∙ (all_written_by author m.turn xs (added_signed base h m.call s) ∙ (sym adds ∙ sym (append-nil (added_by base author a m)))))));
+            ∙ (ap (written_by author) (drop-append_seam b (between ++ xs)) ∙ (filter-append (λ (e : Entry). e.author == author) between xs
+            ∙ (ap (λ (l : List Entry). l ++ written_by author xs) others ∙ (all_written_by author m.turn xs (added_signed base h m.call s) ∙ (sym adds ∙ sym (append-nil (added_by base author a m)))))));
       }
 
 -- a session and then another are a session

@@ -1,5 +1,5 @@
 -- What a call adds carries its author and its turn.
-use Rattle.std.specs.Prelude.{ℕ, suc, List, [], ◌∷◌, flat_map}
+use Rattle.std.specs.Prelude.{ℕ, suc, List, [], ◌∷◌}
 use Rattle.std.proofs.Common.{refl}
 use Rattle.cal_model.specs.Answer.{Form, get_calendars, create_plain, not_built, form_of, added, added_by_form, entries_from}
 use Rattle.cal_model.specs.Base.{Base}

@@ -2,13 +2,13 @@
 use Rattle.std.specs.Prelude.{◌≡◌, ◌≤◌, ◌+◌, ℕ, ℤ, pos, List, [], ◌∷◌, ◌++◌, Bool, true, false, Option, codes, length, nat_lt, if◌then◌else◌}
 use Rattle.std.specs.Int.{int_min, int_max}
 use Rattle.std.specs.Io.KnownBytes.{Consumes, IsAtEnd}
-use Rattle.cal_model.specs.Asked.{Asked, asked, refused, asked_by, is_refused}
-use Rattle.cal_model.specs.Batch.{Step, Progress, response_object}
+use Rattle.cal_model.specs.Batches.Asked.{Asked, asked, refused, asked_by, is_refused}
+use Rattle.cal_model.specs.Batches.Batch.{Step, Progress, response_object}
 use Rattle.cal_model.specs.Data.{Data}
 use Rattle.cal_model.specs.Json.{Reading, not_json, not_whole, value, reading, text_of}
 use Rattle.cal_model.specs.Outside.{Grows, GrowsByFront, Ticks}
-use Rattle.cal_model.specs.Problem.{problem}
-use Rattle.cal_model.specs.Session.{Shown}
+use Rattle.cal_model.specs.Batches.Problem.{problem}
+use Rattle.cal_model.specs.Batches.Session.{Shown}
 use Rattle.cal_model.specs.Signed.{written_by}
 use Rattle.cal_model.specs.declared.desk.Front.{Front}
 use Rattle.cal_model.specs.declared.request.Limit.TheVariants.{SizeRequest}

@@ -1,6 +1,6 @@
 //! Calls of the methods of an account, and their replies.
 ghost use Rattle.std.specs.Prelude.{◌≡◌};
-ghost use Rattle.cal_model.specs.Calls.{created_in};
+ghost use Rattle.cal_model.specs.Batches.Calls.{created_in};
 
 use crate::entry::Kind;
 use crate::lists::{Pairs, Texts};

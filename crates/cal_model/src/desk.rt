@@ -1,6 +1,6 @@
 //! What answers calls on accounts.
 ghost use Rattle.std.specs.Prelude.{◌≡◌, ◌<◌, ◌^◌};
-ghost use Rattle.cal_model.specs.Session.{Shown, Called};
+ghost use Rattle.cal_model.specs.Batches.Session.{Shown, Called};
 
 use crate::call::{Call, Reply};
 

@@ -1,7 +1,7 @@
 //! The methods, each with its capability.
 ghost use Rattle.std.specs.Prelude.{◌≡◌, map};
-ghost use Rattle.cal_model.specs.Arguments.{argument_of, arguments_of};
-ghost use Rattle.cal_model.specs.Methods.{capability, method_named};
+ghost use Rattle.cal_model.specs.Batches.Arguments.{argument_of, arguments_of};
+ghost use Rattle.cal_model.specs.Batches.Methods.{capability, method_named};
 
 /// The capability of JMAP Core (RFC 8620 section 2).
 pub const CORE: &str = "urn:ietf:params:jmap:core";

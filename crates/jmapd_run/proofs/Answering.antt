@@ -1,7 +1,7 @@
 -- What was read, answered and put together is an answer.
 use Rattle.std.proofs.Common.{◌≡◌, ◌≤◌, ◌+◌, ℕ, ℤ, List, Option, Bool, length, subst}
 use Rattle.std.specs.Io.KnownBytes.{Consumes, IsAtEnd}
-use Rattle.cal_model.specs.Asked.{is_refused}
+use Rattle.cal_model.specs.Batches.Asked.{is_refused}
 use Rattle.cal_model.specs.Headline.{Answers, IsAnswer, asked_in, clamped, max_size_request}
 use Rattle.cal_model.specs.Outside.{Ticks}
 use Rattle.jmapd_run.specs.Texts.{IsText}

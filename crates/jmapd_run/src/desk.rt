@@ -1,6 +1,6 @@
 //! A desk over one account.
 ghost use Rattle.std.specs.Prelude.{◌≡◌, [], IfOk};
-ghost use Rattle.jmapd_run.specs.LoneDesk.{shown_of};
+ghost use Rattle.jmapd_run.specs.LoneDesk.{of_desk};
 
 use account_core::account::Account;
 use cal_model::book::Book;
@@ -66,9 +66,16 @@ impl Desk for LoneDesk {
             return Err(DeskError::PassSpent);
         }
         self.turns += 1;
-        match self.account.act(AUTHOR, self.turns, call, moment) {
-            Ok(reply) => Ok(reply),
-            Err(_) => Err(DeskError::NoMemory),
-        }
+        let reply = self.account.act(AUTHOR, self.turns, call, moment);
+        as_of_desk(reply)
+    }
+}
+
+fn as_of_desk(reply: Result<Reply, AllocError>) -> Result<Reply, DeskError>
+    ensures { result ≡ of_desk reply }
+{
+    match reply {
+        Ok(reply) => Ok(reply),
+        Err(_) => Err(DeskError::NoMemory),
     }
 }

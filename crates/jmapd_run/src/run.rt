@@ -1,10 +1,10 @@
 //! The commands, over any input, output and clock.
 ghost use Rattle.std.specs.Prelude.{◌≡◌, ◌↔◌, ◌++◌, ◌∷◌, [], IfOk, true, false};
-ghost use Rattle.cal_model.specs.Asked.{asked_by, is_refused};
+ghost use Rattle.cal_model.specs.Batches.Asked.{asked_by, is_refused};
 ghost use Rattle.cal_model.specs.Headline.{IsAnswer, Runs, asked_in, clamped, local_user};
 ghost use Rattle.cal_model.specs.Json.{text_of};
 ghost use Rattle.cal_model.specs.Outside.{Rose};
-ghost use Rattle.cal_model.specs.Problem.{problem};
+ghost use Rattle.cal_model.specs.Batches.Problem.{problem};
 ghost use Rattle.cal_model.specs.TreeData.{data_of};
 ghost use Rattle.jmapd_run.specs.Texts.{IsText};
 ghost use Rattle.jmapd_run.specs.Words.{is_batch};

@@ -10,10 +10,15 @@ mod civil_dates;
 #[cfg(test)]
 mod congruences;
 #[cfg(test)]
+mod desks;
+#[cfg(test)]
 mod lock;
 #[cfg(test)]
 mod outside;
 #[cfg(test)]
 mod patches;
+#[cfg(test)]
+mod quotas;
+pub mod pair_desk;
 pub mod reporting_book;
 pub mod words;

@@ -1,4 +1,4 @@
-use Rattle.std.proofs.Common.{◌≡◌, ◌∷◌, ◌++◌, [], ◌∙◌, ◌<◌, All, ℕ, List, Ok, Err, sym, subst, ap, arith, rules}
+use Rattle.std.proofs.Common.{◌≡◌, ◌∷◌, ◌++◌, [], ◌<◌, All, List, Ok, Err, sym, subst, arith, rules}
 use Rattle.std.proofs.lemmas.Grind.{common_steps}
 use Rattle.std.specs.Vec.Iter.{into_iter_items}
 use Rattle.cal_model.specs.declared.request.Invocation.{Invocation}
@@ -14,7 +14,7 @@ loop-invocation-init g c =
     let r : Request = record { using = a.capabilities.now; calls = a.calls; created_ids = a.given.now } in (
       [],
       going_first a.user.now r a.moment.now a.fronts.now.items (g.D.Desk.shown a.desk.now) (into_iter_items c.into_iter-invocation-iterator.result) c.new-responses.result.items c.in-Ok.created
-      (grind (arith, common_steps)) (search rules) (search rules),
+          (grind (arith, common_steps)) (search rules) (search rules),
     )
 
 pub respond-requires : goal.respond-requires

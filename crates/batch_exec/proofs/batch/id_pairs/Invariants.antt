@@ -1,5 +1,5 @@
 use Rattle.std.proofs.Common.{◌≡◌, ◌++◌, drop, map}
-use Rattle.cal_model.specs.Requests.{id_pair_of}
+use Rattle.cal_model.specs.Batches.Requests.{id_pair_of}
 use Rattle.cal_model.specs.TreeData.{pair_of}
 use Rattle.batch_exec.proofs.batch.id_pairs.Given as goal
 

@@ -1,6 +1,6 @@
 use Rattle.std.proofs.Common.{◌≡◌, drop, map}
 use Rattle.std.specs.List.{list_all}
-use Rattle.cal_model.specs.Requests.{is_id_pair}
+use Rattle.cal_model.specs.Batches.Requests.{is_id_pair}
 use Rattle.cal_model.specs.TreeData.{pair_of}
 use Rattle.batch_exec.proofs.request.are_ids.Given as goal
 

@@ -1,18 +1,17 @@
 -- The responses to a request, each determined by the steps before it (RFC 8620 sections 3.2 to 3.7).
 use Rattle.std.specs.Prelude.{◌≡◌, ℕ, ◌+◌, ◌≤◌, ◌⊎◌, ℤ, List, [], ◌∷◌, ◌++◌, Option, Some, None, codes, flat_map, length, map, unwrap_or, Result, Ok, Err}
-use Rattle.cal_model.specs.Asked.{asked, refused, asked_by}
+use Rattle.cal_model.specs.Batches.Asked.{asked, refused, asked_by}
 use Rattle.cal_model.specs.Data.{Data, text, list, object, Pair, items_of, members_of}
 use Rattle.cal_model.specs.Edit.{put_all}
 use Rattle.cal_model.specs.Lock.{most_turns}
-use Rattle.cal_model.specs.Meaning.{Meaning, refuses, echoes, calls, meaning_of_method}
-use Rattle.cal_model.specs.Methods.{method_used}
+use Rattle.cal_model.specs.Batches.Meaning.{Meaning, refuses, echoes, calls, meaning_of_method}
+use Rattle.cal_model.specs.Batches.Methods.{method_used}
 use Rattle.cal_model.specs.Parts.{some_of}
-use Rattle.cal_model.specs.Requests.{id_pair_of}
-use Rattle.cal_model.specs.Session.{Made, Shown, Session, front_of}
+use Rattle.cal_model.specs.Batches.Requests.{id_pair_of}
+use Rattle.cal_model.specs.Batches.Session.{Made, Shown, Session, front_of}
 use Rattle.cal_model.specs.TreeData.{data_of}
 use Rattle.cal_model.specs.declared.call.MethodError.{MethodError}
 use Rattle.cal_model.specs.declared.call.MethodError.TheVariants.{UnknownMethod, InvalidArguments, InvalidResultReference, AccountNotFound, AccountReadOnly, RequestTooLarge, NotBuilt}
-use Rattle.cal_model.specs.declared.call.Reply.{Reply}
 use Rattle.cal_model.specs.declared.desk.Front.{Front}
 use Rattle.cal_model.specs.declared.request.BatchError.{BatchError}
 use Rattle.cal_model.specs.declared.request.BatchError.TheVariants.{Refused, PassSpent, NoMemory}

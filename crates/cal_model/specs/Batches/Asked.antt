@@ -2,8 +2,8 @@
 use Rattle.std.specs.Prelude.{ℕ, Bool, true, false, Option, Some, None, length, nat_lt, not, if◌then◌else◌}
 use Rattle.std.specs.List.{list_all}
 use Rattle.cal_model.specs.Data.{Data}
-use Rattle.cal_model.specs.Methods.{is_capability}
-use Rattle.cal_model.specs.Requests.{request_of}
+use Rattle.cal_model.specs.Batches.Methods.{is_capability}
+use Rattle.cal_model.specs.Batches.Requests.{request_of}
 use Rattle.cal_model.specs.declared.request.Limit.TheVariants.{CallsInRequest}
 use Rattle.cal_model.specs.declared.request.Request.{Request}
 use Rattle.cal_model.specs.declared.request.RequestError.{RequestError}

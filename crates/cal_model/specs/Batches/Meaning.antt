@@ -1,11 +1,11 @@
 -- What an invocation of a request means: an error, an answer without an account, or a call on an account (RFC 8620 sections 3.6.2 and 3.7).
 use Rattle.std.specs.Prelude.{ℕ, List, [], ◌∷◌, ◌&&◌, Option, Some, None, codes, if◌then◌else◌}
 use Rattle.std.specs.Str.{bytes_eq}
-use Rattle.cal_model.specs.Arguments.{are_well_given}
-use Rattle.cal_model.specs.Calls.{call_of, text_argument}
+use Rattle.cal_model.specs.Batches.Arguments.{are_well_given}
+use Rattle.cal_model.specs.Batches.Calls.{call_of, text_argument}
 use Rattle.cal_model.specs.Data.{Pair}
-use Rattle.cal_model.specs.Methods.{is_set}
-use Rattle.cal_model.specs.References.{Resolution, both_forms, bad_reference, resolved, resolution}
+use Rattle.cal_model.specs.Batches.Methods.{is_set}
+use Rattle.cal_model.specs.Batches.References.{Resolution, both_forms, bad_reference, resolved, resolution}
 use Rattle.cal_model.specs.declared.call.Call.{Call}
 use Rattle.cal_model.specs.declared.call.MethodError.{MethodError}
 use Rattle.cal_model.specs.declared.call.MethodError.TheVariants.{UnknownMethod, InvalidArguments, InvalidResultReference, AccountNotFound, AccountReadOnly}

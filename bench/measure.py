@@ -1,0 +1,93 @@
+"""Runs the program and other work in processes of their own, and tells what time and memory they took."""
+
+import argparse
+import json
+import os
+import sys
+import tempfile
+
+CAPABILITY = "urn:ietf:params:jmap:core"
+
+
+def compact(value):
+    return json.dumps(value, ensure_ascii=False, separators=(",", ":")).encode()
+
+
+def contents(file):
+    file.seek(0)
+    return file.read()
+
+
+def run_program(binary, request, answer):
+    os.dup2(request.fileno(), 0)
+    os.dup2(answer.fileno(), 1)
+    os.execv(binary, [binary, "batch"])
+
+
+def run_python(text, copy):
+    copy.write(compact(json.loads(contents(text))))
+
+
+def apart(work, *arguments):
+    """Does the work in a process of its own, and gives what that process used.
+
+    A new process's peak counts what its parent held when it began, so this one never holds a request.
+    """
+    child = os.fork()
+    if child == 0:
+        status = 1
+        try:
+            work(*arguments)
+            arguments[-1].flush()
+            status = 0
+        except Exception as error:
+            print(f"{work.__name__}: {error}", file=sys.stderr)
+        os._exit(status)
+    _, status, usage = os.wait4(child, 0)
+    if status != 0:
+        sys.exit(f"{work.__name__} failed")
+    return usage
+
+
+def measured(work, rounds, given, check=None):
+    """The least seconds of processor and the greatest peak memory in bytes of some rounds."""
+    unit = 1 if sys.platform == "darwin" else 1024
+    seconds, peaks = [], []
+    for _ in range(rounds):
+        with tempfile.TemporaryFile() as made:
+            os.lseek(given.fileno(), 0, os.SEEK_SET)
+            usage = apart(work, given, made)
+            if check:
+                apart(check, given, made)
+        seconds.append(usage.ru_utime + usage.ru_stime)
+        peaks.append(usage.ru_maxrss * unit)
+    return min(seconds), max(peaks)
+
+
+def length_of(file):
+    return os.fstat(file.fileno()).st_size
+
+
+class Table:
+    """A line for each measurement, and the times beside each other."""
+
+    def __init__(self, what):
+        self.times = {}
+        print(f"who     {what:>10}  seconds   MB/s  peak MB  bytes a byte")
+
+    def add(self, who, length, seconds, peak):
+        self.times.setdefault(who, []).append(seconds)
+        rate = length / seconds / 1e6
+        print(f"{who:7} {length:10} {seconds:8.3f} {rate:6.1f} {peak / 1e6:8.1f} {peak / length:13.1f}")
+
+    def compare(self, growth):
+        for who, (small, large) in self.times.items():
+            print(f"{who}: {large / small:.1f} times the time for {growth}")
+        print(f"jmapd takes {self.times['jmapd'][1] / self.times['Python'][1]:.2f} of Python's time on the larger")
+
+
+def options(description):
+    parser = argparse.ArgumentParser(description=description)
+    parser.add_argument("binary", nargs="?", default="crates/jmapd/out/jmapd")
+    parser.add_argument("--rounds", type=int, default=5)
+    return parser.parse_args()

@@ -1,0 +1,4 @@
+mod BehindLemmas
+mod FormLemmas
+mod PartedLemmas
+mod ResponseLemmas

@@ -1,0 +1,5 @@
+pub mod Behind
+pub mod Parted
+pub mod Steps
+pub mod Walk
+pub mod Reports

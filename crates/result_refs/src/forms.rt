@@ -1,0 +1,48 @@
+//! Arguments that are given both as a value and as a reference.
+ghost use Rattle.std.specs.Prelude.{◌≡◌, is_some, map};
+ghost use Rattle.std.specs.List.{list_any};
+ghost use Rattle.cal_model.specs.Parts.{behind_hash};
+ghost use Rattle.cal_model.specs.Batches.References.{has_both_forms};
+ghost use Rattle.cal_model.specs.TreeData.{pair_of};
+ghost use Rattle.result_refs.specs.Walk.{begins_with, from_key};
+
+use crate::behind_sign::behind;
+use cal_model::tree::{Member, TreeObject};
+
+/// Whether an argument is given both as a value and as a reference. Takes no memory.
+///
+/// The keys behind the `#`s rise as the keys do, so both are gone over once.
+pub(crate) fn has_both_forms(arguments: &TreeObject) -> bool
+    ensures { result ≡ list_any (λ p. has_both_forms arguments.now p) arguments.now }
+{
+    let mut rest: &[Member] = arguments.members();
+    for member in arguments.members() {
+        if let Some(key) = behind(member.key.as_str(), '#') {
+            rest = from_key(rest, key);
+            if begins_with(rest, key) {
+                return true;
+            }
+        }
+    }
+    false
+}
+
+// The members from the first on whose key isn't below this one.
+fn from_key<'a>(members: &'a [Member], key: &str) -> &'a [Member]
+    ensures { map pair_of result.now ≡ from_key key.now (map pair_of members.now) }
+{
+    let mut i = 0;
+    while i < members.len() && members[i].key.as_str() < key {
+        i += 1;
+    }
+    &members[i..]
+}
+
+fn begins_with(members: &[Member], key: &str) -> bool
+    ensures { result ≡ begins_with key.now (map pair_of members.now) }
+{
+    match members.first() {
+        Some(member) => member.key.as_str() == key,
+        None => false,
+    }
+}

@@ -1,0 +1,10 @@
+//! Result references: arguments that take their value from an earlier response (RFC 8620 section 3.7).
+#![tactic(auto)]
+
+mod arguments;
+mod behind_sign;
+mod forms;
+mod path;
+mod reference;
+
+pub use arguments::{ReferenceError, resolve};

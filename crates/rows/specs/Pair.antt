@@ -1,0 +1,17 @@
+-- What contracts see of a desk over two accounts.
+use Rattle.std.specs.Prelude.{ℕ, ◌-◌, List, [], ◌==◌, if◌then◌else◌}
+use Rattle.cal_model.specs.Base.{Base}
+use Rattle.cal_model.specs.Lock.{most_turns}
+use Rattle.cal_model.specs.Batches.Session.{Shown}
+use Rattle.cal_model.specs.declared.entry.Entry.{Entry}
+
+-- the accounts have the numbers 0 and 1, and the desk makes so many calls more
+abbrev pub pair_shown : Base × List Entry → Base × List Entry → ℕ → Shown
+pair_shown first second left = record {
+  accounts = 2;
+  turns = most_turns - left;
+  base = λ k. if k == 0 then first.0 else second.0;
+  seen = λ k. if k == 0 then first.1 else if k == 1 then second.1 else [];
+  author = λ k. 0;
+  last = λ k. most_turns - left;
+}

@@ -1,0 +1,71 @@
+//! A desk over two accounts, so that tests see what a batch asks of a desk.
+ghost use Rattle.std.specs.Prelude.{◌≡◌, IfOk};
+ghost use Rattle.jmapd_run.specs.LoneDesk.{of_desk};
+
+use account_core::account::Account;
+use cal_model::book::Book;
+use cal_model::call::{Call, Reply};
+use cal_model::desk::{Desk, DeskError};
+use cal_model::text::Text;
+use std::alloc::{AllocError, Global};
+
+/// The most calls that a desk makes.
+const MOST_TURNS: u64 = 1 << 40;
+
+/// A desk over two accounts, of which each call is the next turn of both. It makes few calls more.
+#[derive(Drop)]
+pub struct PairDesk {
+    first: Account,
+    second: Account,
+    calls_left: u32,
+}
+
+impl PairDesk {
+    /// A desk that makes at most so many calls, over accounts of these ids without entries.
+    pub fn open(
+        alloc: Global,
+        first: Text,
+        second: Text,
+        calls: u32,
+    ) -> Result<PairDesk, AllocError>
+        ensures { IfOk result (λ d. d.calls_left ≡ calls) }
+    {
+        Ok(PairDesk {
+            first: Account::open(alloc, first)?,
+            second: Account::open(alloc, second)?,
+            calls_left: calls,
+        })
+    }
+}
+
+impl Desk for PairDesk {
+    ghost use Rattle.rows.specs.Pair.{pair_shown};
+
+    ghost shown = { λ d. pair_shown d.first d.second d.calls_left };
+
+    fn accounts(&self) -> u32 {
+        2
+    }
+
+    fn call(&mut self, account: u32, call: &Call, moment: i64) -> Result<Reply, DeskError> {
+        if self.calls_left == 0 {
+            return Err(DeskError::PassSpent);
+        }
+        self.calls_left -= 1;
+        let turn = MOST_TURNS - u64::from(self.calls_left);
+        if account == 0 {
+            as_of_desk(self.first.act(0, turn, call, moment))
+        } else {
+            as_of_desk(self.second.act(0, turn, call, moment))
+        }
+    }
+}
+
+fn as_of_desk(reply: Result<Reply, AllocError>) -> Result<Reply, DeskError>
+    ensures { result ≡ of_desk reply }
+{
+    match reply {
+        Ok(reply) => Ok(reply),
+        Err(_) => Err(DeskError::NoMemory),
+    }
+}
