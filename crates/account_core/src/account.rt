@@ -135,6 +135,7 @@ impl Account {
 
     /// Carries out plain creates: what comes of each is found, the reply is built and memory is reserved before an entry
     /// is added.
+    #[tactic(auto, using(crate::proofs::Planning::tally_with_entries))]
     fn create(&mut self, stamp: &Stamp, creates: &[Member]) -> Result<Reply, AllocError>
         requires few { length creates.now ≤ 500 }
         requires ordered { HasOrderedKeys (map pair_of creates.now) }
