@@ -1,3 +1,4 @@
 pub mod Answering
 pub mod Lone
 pub mod Responding
+pub mod Turns

@@ -1,3 +1,4 @@
+pub mod InTurn
 pub mod LoneDesk
 pub mod Texts
 pub mod Words

@@ -2,4 +2,5 @@
 #![tactic(auto)]
 
 mod desk;
+pub mod law;
 pub mod run;
