@@ -45,7 +45,9 @@ struct Outcome {
 
 /// What comes of these calls on a desk over `A2` and `A1` that makes at most so many.
 fn outcome_of(alloc: Global, calls: &str, most: u32) -> Result<Outcome, Fail> {
-    let request = format!(in alloc; "{{\"using\":[\"urn:ietf:params:jmap:core\",\"urn:ietf:params:jmap:calendars\"],\"methodCalls\":[{calls}]}}")?;
+    let request = format!(in alloc;
+        "{{\"using\":[\"urn:ietf:params:jmap:core\",\"urn:ietf:params:jmap:calendars\"],\"methodCalls\":[{calls}]}}"
+    )?;
     let request = read_tree(alloc, request.as_bytes())?;
     let user = reader_of_one(alloc)?;
     let mut desk = PairDesk::open(
@@ -64,8 +66,10 @@ fn outcome_of(alloc: Global, calls: &str, most: u32) -> Result<Outcome, Fail> {
 
 #[test]
 fn a_front_is_noted_for_each_call_that_the_desk_answers(rt: HostRuntime) -> Result<(), Fail> {
-    let calls = r##"["Calendar/set",{"accountId":"A2","create":{"c1":{"name":"Work"}}},"1"],["Calendar/set",{"accountId":"A1","create":{"c1":{"name":"Work"}}},"2"],["CalendarEvent/set",{"accountId":"A2"},"3"],["Calendar/get",{"accountId":"A2","ids":["#c1"]},"4"],["Core/echo",{},"5"],["Calendar/get",{"accountId":"A1","properties":["frob"]},"6"],["Calendar/get",{"accountId":"A3"},"7"],["Calendar/get",{"accountId":"A1","ids":["#c1"],"properties":[]},"8"]"##;
-    let response = "{\"methodResponses\":[[\"error\",{\"type\":\"accountReadOnly\"},\"1\"],[\"Calendar/set\",{\"accountId\":\"A1\",\"created\":{\"c1\":{\"color\":null,\"description\":null,\"id\":\"C1\",\"isSubscribed\":true,\"isVisible\":true,\"resourceZone\":null,\"sortOrder\":0,\"timeZone\":null}},\"destroyed\":null,\"newState\":\"1\",\"notCreated\":null,\"notDestroyed\":null,\"notUpdated\":null,\"oldState\":\"0\",\"updated\":null},\"2\"],[\"error\",{\"type\":\"accountReadOnly\"},\"3\"],[\"Calendar/get\",{\"accountId\":\"A2\",\"list\":[],\"notFound\":[\"C1\"],\"state\":\"0\"},\"4\"],[\"Core/echo\",{},\"5\"],[\"error\",{\"type\":\"invalidArguments\"},\"6\"],[\"error\",{\"type\":\"accountNotFound\"},\"7\"],[\"Calendar/get\",{\"accountId\":\"A1\",\"list\":[{\"id\":\"C1\"}],\"notFound\":[],\"state\":\"1\"},\"8\"]],\"sessionState\":\"1\"}";
+    let calls =
+        r##"["Calendar/set",{"accountId":"A2","create":{"c1":{"name":"Work"}}},"1"],["Calendar/set",{"accountId":"A1","create":{"c1":{"name":"Work"}}},"2"],["CalendarEvent/set",{"accountId":"A2"},"3"],["Calendar/get",{"accountId":"A2","ids":["#c1"]},"4"],["Core/echo",{},"5"],["Calendar/get",{"accountId":"A1","properties":["frob"]},"6"],["Calendar/get",{"accountId":"A3"},"7"],["Calendar/get",{"accountId":"A1","ids":["#c1"],"properties":[]},"8"]"##;
+    let response =
+        "{\"methodResponses\":[[\"error\",{\"type\":\"accountReadOnly\"},\"1\"],[\"Calendar/set\",{\"accountId\":\"A1\",\"created\":{\"c1\":{\"color\":null,\"description\":null,\"id\":\"C1\",\"isSubscribed\":true,\"isVisible\":true,\"resourceZone\":null,\"sortOrder\":0,\"timeZone\":null}},\"destroyed\":null,\"newState\":\"1\",\"notCreated\":null,\"notDestroyed\":null,\"notUpdated\":null,\"oldState\":\"0\",\"updated\":null},\"2\"],[\"error\",{\"type\":\"accountReadOnly\"},\"3\"],[\"Calendar/get\",{\"accountId\":\"A2\",\"list\":[],\"notFound\":[\"C1\"],\"state\":\"0\"},\"4\"],[\"Core/echo\",{},\"5\"],[\"error\",{\"type\":\"invalidArguments\"},\"6\"],[\"error\",{\"type\":\"accountNotFound\"},\"7\"],[\"Calendar/get\",{\"accountId\":\"A1\",\"list\":[{\"id\":\"C1\"}],\"notFound\":[],\"state\":\"1\"},\"8\"]],\"sessionState\":\"1\"}";
     let outcome = outcome_of(rt.alloc(), calls, 16)?;
     let text = outcome.response?;
     assert_eq!(rt; text.as_slice(), response.as_bytes());

@@ -15,10 +15,10 @@ mod desks;
 mod lock;
 #[cfg(test)]
 mod outside;
+pub mod pair_desk;
 #[cfg(test)]
 mod patches;
 #[cfg(test)]
 mod quotas;
-pub mod pair_desk;
 pub mod reporting_book;
 pub mod words;
