@@ -1,0 +1,46 @@
+-- A call on the second account of a pair is a call on a desk.
+use Rattle.std.proofs.Common.{◌≡◌, ◌≢◌, ℕ, ℤ, ◌+◌, ◌-◌, ◌<◌, ◌==◌, ◌^◌, List, [], ◌++◌, Result, Ok, Err, IfOk, OnOk, OnErr, refl, sym, ap, ◌∙◌, subst, arith, append-nil, ne_eqb, if◌then◌else◌}
+use Rattle.cal_model.specs.Answer.{answer, added}
+use Rattle.cal_model.specs.Base.{Base}
+use Rattle.cal_model.specs.Batches.Session.{Called, StaysBeside}
+use Rattle.cal_model.specs.Lock.{most_turns}
+use Rattle.cal_model.specs.declared.call.Call.{Call}
+use Rattle.cal_model.specs.declared.call.Reply.{Reply}
+use Rattle.cal_model.specs.declared.entry.Entry.{Entry}
+use Rattle.cal_model.specs.declared.stamp.Stamp.{Stamp}
+use Rattle.jmapd_run.specs.LoneDesk.{of_desk}
+use Rattle.rows.specs.Pair.{pair_shown}
+
+-- the stamp of the next call of a desk that makes so many calls more
+abbrev pub stamp_next : ℕ → ℤ → Stamp
+stamp_next left moment = record { author = 0; turn = most_turns - (left - 1); moment = moment }
+
+module _ (first h h' : Base × List Entry) (left : ℕ) (some : 0 < left) (few : left < 2 ^ 32) (call : Call) (moment : ℤ) where
+  beside : h'.0 ≡ h.0 → StaysBeside (pair_shown first h left) (pair_shown first h' (left - 1)) 1
+  beside base = record {
+    accounts = refl;
+    turns = omega (arith, some, few);
+    base = λ j. ap (λ (b : Base). if j == 0 then first.0 else b) base;
+    author = λ j. refl;
+    seen = λ j other. rw (ne_eqb j 1 other) refl;
+    last = λ j other. omega (arith, some, few);
+  }
+
+  called : {E : Type 0} (r : Result Reply E) → h'.0 ≡ h.0 → IfOk r (λ x. x ≡ answer h.0 h.1 call (stamp_next left moment))
+      → OnOk r (h'.1 ≡ h.1 ++ added h.0 h.1 call (stamp_next left moment)) → OnErr r (h'.1 ≡ h.1)
+      → Called (pair_shown first h left) (pair_shown first h' (left - 1)) 1 call moment (of_desk r)
+  called (Ok reply) base replied grown same = (
+    omega (arith, some, few),
+    record { beside = beside base; history = h.1; begins = ([], sym (append-nil h.1), refl); later = omega (arith, some, few); replied = replied; seen = grown },
+  )
+  called (Err e) base replied grown same =
+      (omega (arith, some, few), record { beside = beside base; begins = ([], same ∙ sym (append-nil h.1), refl); later = omega (arith, some, few) })
+
+  pub second_called : {E : Type 0} (account : ℕ) (stamp : Stamp) (r : Result Reply E) → account < 2 → account ≢ 0 → stamp ≡ stamp_next left moment → h'.0 ≡ h.0
+      → IfOk r (λ x. x ≡ answer h.0 h.1 call stamp) → OnOk r (h'.1 ≡ h.1 ++ added h.0 h.1 call stamp) → OnErr r (h'.1 ≡ h.1)
+      → Called (pair_shown first h left) (pair_shown first h' (left - 1)) account call moment (of_desk r)
+  second_called account stamp r below other next base replied grown same =
+      let one_is : 1 ≡ account = grind (arith, below, other) in
+      subst (λ (k : ℕ). Called (pair_shown first h left) (pair_shown first h' (left - 1)) k call moment (of_desk r)) one_is
+      (called r base (subst (λ (s : Stamp). IfOk r (λ x. x ≡ answer h.0 h.1 call s)) next replied)
+      (subst (λ (s : Stamp). OnOk r (h'.1 ≡ h.1 ++ added h.0 h.1 call s)) next grown) same)

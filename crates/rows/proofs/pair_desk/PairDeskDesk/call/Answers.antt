@@ -1,0 +1,25 @@
+use Rattle.std.proofs.Common.{◌≡◌, ◌≢◌, ◌-◌, ◌<◌, ◌^◌, ℕ, ℤ, rules, subst, sym, w64, to_z, of_z, Result}
+use Rattle.cal_model.specs.Batches.Session.{Called}
+use Rattle.cal_model.specs.Lock.{most_turns}
+use Rattle.cal_model.specs.declared.call.Reply.{Reply}
+use Rattle.cal_model.specs.declared.desk.DeskError.{DeskError}
+use Rattle.cal_model.specs.declared.stamp.Stamp.{Stamp}
+use Rattle.rows.specs.Pair.{pair_shown}
+use Rattle.rows.proofs.PairLemmas.{second_called, stamp_next}
+use Rattle.rows.proofs.pair_desk.PairDeskDesk.call.Goals as goal
+
+pub returns-else-account-eq0 : goal.returns-else-account-eq0
+returns-else-account-eq0 c =
+    let d = c.args.self.now in
+    let act = c.act-else-account-eq0 in
+    let e = act.ensures in
+    let some : 0 < d.calls_left = search rules in
+    let few : d.calls_left < 2 ^ 32 = search rules in
+    let same : to_z w64 (of_z w64 c.args.moment) ≡ c.args.moment = search rules in
+    let stamp : Stamp = record { author = 0; turn = most_turns - c.from-turn.result; moment = to_z w64 (of_z w64 c.args.moment) } in
+    let next : stamp ≡ stamp_next d.calls_left c.args.moment = λ i. record { author = 0; turn = most_turns - c.from-turn.ensures i; moment = same i } in
+    record {
+      called =
+          subst (λ (r : Result Reply DeskError). Called (pair_shown d.first d.second d.calls_left) (pair_shown d.first act.new.self (d.calls_left - 1)) c.args.account c.args.call.now c.args.moment r) (sym c.as_of_desk-else-account-eq0.ensures)
+          (second_called d.first d.second act.new.self d.calls_left some few c.args.call.now c.args.moment c.args.account stamp act.result c.requires c.if-account-eq0.false next e.base e.reply e.grown e.unchanged);
+    }
