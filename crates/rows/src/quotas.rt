@@ -3,12 +3,12 @@ use account_core::account::Account;
 use cal_model::book::Book;
 use cal_model::call::Call;
 use cal_model::entry::Kind;
-use cal_model::lists::{Pairs, Texts};
+use cal_model::lists::Pairs;
 use cal_model::text::Text;
 use cal_model::tree::Tree;
 use json_edge::read::read_tree;
 use json_edge::write::tree_text;
-use std::alloc::Global;
+use std::alloc::{AllocError, Global};
 use std::process::Abort;
 use std::test::Fail;
 
@@ -45,15 +45,34 @@ fn calendars(alloc: Global, count: u32, name: &str) -> Result<String, Fail> {
     Ok(creates)
 }
 
-/// Adds so many calendars of one name to an account, where they are at least 500.
-fn fill(alloc: Global, account: &mut Account, count: u32, name: &str) -> Result<(), Fail> {
-    let many = set_of(alloc, calendars(alloc, 500, name)?.as_str())?;
-    for turn in 0..count / 500 {
-        account.act(0, turn.into(), &many, MOMENT)?;
+/// Makes a call on an account so many times.
+fn repeat(account: &mut Account, call: &Call, times: u32) -> Result<(), AllocError> {
+    for turn in 0..times {
+        account.act(0, turn.into(), call, MOMENT)?;
     }
-    let rest = set_of(alloc, calendars(alloc, count % 500, name)?.as_str())?;
-    account.act(0, count.into(), &rest, MOMENT)?;
     Ok(())
+}
+
+/// Makes sets of so many calendars of one name, so many times.
+fn add(
+    alloc: Global,
+    account: &mut Account,
+    count: u32,
+    name: &str,
+    times: u32,
+) -> Result<(), Fail> {
+    let creates = calendars(alloc, count, name)?;
+    let call = set_of(alloc, creates.as_str())?;
+    repeat(account, &call, times)?;
+    Ok(())
+}
+
+/// An account with so many calendars of one name.
+fn filled(alloc: Global, count: u32, name: &str) -> Result<Account, Fail> {
+    let mut account = Account::open(alloc, Text::from_str(alloc, "A1")?)?;
+    add(alloc, &mut account, 500, name, count / 500)?;
+    add(alloc, &mut account, count % 500, name, 1)?;
+    Ok(account)
 }
 
 /// Asserts what an account replies to a call.
@@ -62,87 +81,106 @@ fn assert_reply(
     alloc: Global,
     account: &mut Account,
     call: &Call,
-    wanted: &str,
+    reply: &str,
 ) -> Result<(), Fail> {
-    let reply = account.act(0, 50_001, call, MOMENT)?;
-    let text = tree_text(alloc, &reply.arguments)?;
-    assert_eq!(rt; text.as_slice(), wanted.as_bytes());
+    let replied = account.act(0, 50_001, call, MOMENT)?;
+    let text = tree_text(alloc, &replied.arguments)?;
+    assert_eq!(rt; text.as_slice(), reply.as_bytes());
     Ok(())
 }
 
-const DEFAULTS: &str =
-    "\"isSubscribed\":true,\"isVisible\":true,\"resourceZone\":null,\"sortOrder\":0,\"timeZone\":null";
-
-/// The arguments of a reply to a set, of which these were the states, the created objects and the refused ones.
-fn set_reply(
-    alloc: Global,
+/// What a set came to: the states before and after it, the object of `created`, and the object of `notCreated`.
+#[derive(Clone, Copy)]
+struct Outcome<'a> {
     states: (u32, u32),
-    created: &str,
-    refused: &str,
-) -> Result<String, Fail> {
-    let (old, new) = states;
-    Ok(format!(in alloc;
+    created: &'a str,
+    refused: &'a str,
+}
+
+/// The arguments of the reply to a set that came to this.
+fn set_reply(alloc: Global, outcome: &Outcome<'_>) -> Result<String, AllocError> {
+    let (old, new) = outcome.states;
+    let created = outcome.created;
+    let refused = outcome.refused;
+    format!(in alloc;
         "{{\"accountId\":\"A1\",\"created\":{created},\"destroyed\":null,\"newState\":\"{new}\",\"notCreated\":{refused},\"notDestroyed\":null,\"notUpdated\":null,\"oldState\":\"{old}\",\"updated\":null}}"
-    )?)
+    )
+}
+
+/// Asserts what an account makes of a set that creates the calendars of a JSON object.
+fn assert_set(
+    rt: &impl Abort,
+    alloc: Global,
+    account: &mut Account,
+    creates: &str,
+    outcome: &Outcome<'_>,
+) -> Result<(), Fail> {
+    let call = set_of(alloc, creates)?;
+    let reply = set_reply(alloc, outcome)?;
+    assert_reply(rt, alloc, account, &call, reply.as_str())
 }
 
 /// The object of `created` that tells of one calendar.
-fn created(alloc: Global, key: &str, number: u32) -> Result<String, Fail> {
-    Ok(format!(in alloc;
-        "{{\"{key}\":{{\"color\":null,\"description\":null,\"id\":\"C{number}\",{DEFAULTS}}}}}"
-    )?)
+fn created(alloc: Global, key: &str, number: u32) -> Result<String, AllocError> {
+    format!(in alloc;
+        "{{\"{key}\":{{\"color\":null,\"description\":null,\"id\":\"C{number}\",\"isSubscribed\":true,\"isVisible\":true,\"resourceZone\":null,\"sortOrder\":0,\"timeZone\":null}}}}"
+    )
 }
 
-const A_REFUSED: &str = "{\"a\":{\"type\":\"overQuota\"}}";
+/// The object of `notCreated` that tells of one create.
+fn refused(alloc: Global, key: &str) -> Result<String, AllocError> {
+    format!(in alloc; "{{\"{key}\":{{\"type\":\"overQuota\"}}}}")
+}
+
+/// Asserts that a set of one calendar with a short name is refused, in this state.
+fn assert_full(
+    rt: &impl Abort,
+    alloc: Global,
+    account: &mut Account,
+    state: u32,
+) -> Result<(), Fail> {
+    let refused = refused(alloc, "a")?;
+    let outcome = Outcome {
+        states: (state, state),
+        created: "null",
+        refused: refused.as_str(),
+    };
+    assert_set(rt, alloc, account, "{\"a\":{\"name\":\"A\"}}", &outcome)
+}
 
 #[test]
 fn fifty_thousand_entries_are_the_most(rt: HostRuntime) -> Result<(), Fail> {
     let alloc = rt.alloc();
-    let mut account = Account::open(alloc, Text::from_str(alloc, "A1")?)?;
-    fill(alloc, &mut account, 49_999, "n")?;
-    let two = set_of(alloc, "{\"a\":{\"name\":\"A\"},\"b\":{\"name\":\"B\"}}")?;
+    let mut account = filled(alloc, 49_999, "n")?;
     let last = created(alloc, "a", 50_000)?;
-    let b_refused = "{\"b\":{\"type\":\"overQuota\"}}";
-    let reply = set_reply(alloc, (49_999, 50_000), last.as_str(), b_refused)?;
-    assert_reply(&rt, alloc, &mut account, &two, reply.as_str())?;
-    let one = set_of(alloc, "{\"a\":{\"name\":\"A\"}}")?;
-    let reply = set_reply(alloc, (50_000, 50_000), "null", A_REFUSED)?;
-    assert_reply(&rt, alloc, &mut account, &one, reply.as_str())?;
-    let get = Call::Get {
-        kind: Kind::Calendar,
-        ids: Some(Texts::new(vec![in alloc; Text::from_str(alloc, "C50000")?]?)),
-        properties: Some(Texts::new(Vec::new(alloc))),
-        created: Pairs::new(Vec::new(alloc)),
+    let beyond = refused(alloc, "b")?;
+    let outcome = Outcome {
+        states: (49_999, 50_000),
+        created: last.as_str(),
+        refused: beyond.as_str(),
     };
-    let reply =
-        "{\"accountId\":\"A1\",\"list\":[{\"id\":\"C50000\"}],\"notFound\":[],\"state\":\"50000\"}";
-    assert_reply(&rt, alloc, &mut account, &get, reply)?;
-    Ok(())
+    let creates = "{\"a\":{\"name\":\"A\"},\"b\":{\"name\":\"B\"}}";
+    assert_set(&rt, alloc, &mut account, creates, &outcome)?;
+    assert_full(&rt, alloc, &mut account, 50_000)
 }
 
-// The text of calendar 1 with an empty name is 140 bytes long. 42,075 calendars with names of 255 bytes have 16,776,819
-// bytes in all, 397 fewer than an account holds, and the text of calendar 42,076 is 144 bytes longer than its name.
+// The compact text of calendar 1 with an empty name is 140 bytes long. 42,075 calendars with names of 255 bytes have
+// 16,776,819 bytes in all, 397 fewer than an account holds; the text of calendar 42,076 is 144 bytes longer than its name.
 #[test]
 fn a_create_that_fits_is_taken_where_a_longer_one_is_refused(rt: HostRuntime) -> Result<(), Fail> {
     let alloc = rt.alloc();
-    let mut account = Account::open(alloc, Text::from_str(alloc, "A1")?)?;
-    fill(
-        alloc,
-        &mut account,
-        42_075,
-        "n".repeat(alloc, 255)?.as_str(),
-    )?;
-    let longer = "n".repeat(alloc, 254)?;
+    let mut account = filled(alloc, 42_075, "n".repeat(alloc, 255)?.as_str())?;
     let fitting = "n".repeat(alloc, 253)?;
     let creates = format!(in alloc;
-        "{{\"a\":{{\"name\":\"{longer}\"}},\"b\":{{\"name\":\"{fitting}\"}}}}"
+        "{{\"a\":{{\"name\":\"n{fitting}\"}},\"b\":{{\"name\":\"{fitting}\"}}}}"
     )?;
-    let two = set_of(alloc, creates.as_str())?;
-    let fitted = created(alloc, "b", 42_076)?;
-    let reply = set_reply(alloc, (42_075, 42_076), fitted.as_str(), A_REFUSED)?;
-    assert_reply(&rt, alloc, &mut account, &two, reply.as_str())?;
-    let one = set_of(alloc, "{\"a\":{\"name\":\"A\"}}")?;
-    let reply = set_reply(alloc, (42_076, 42_076), "null", A_REFUSED)?;
-    assert_reply(&rt, alloc, &mut account, &one, reply.as_str())?;
-    Ok(())
+    let last = created(alloc, "b", 42_076)?;
+    let beyond = refused(alloc, "a")?;
+    let outcome = Outcome {
+        states: (42_075, 42_076),
+        created: last.as_str(),
+        refused: beyond.as_str(),
+    };
+    assert_set(&rt, alloc, &mut account, creates.as_str(), &outcome)?;
+    assert_full(&rt, alloc, &mut account, 42_076)
 }
