@@ -1,6 +1,8 @@
 //! Sends the requests of a table to `batch`, and tells which answers aren't those of the table.
 #![tactic(auto)]
 
+ghost use Rattle.std.specs.Prelude.{◌≡◌, true, false};
+
 use cal_model::status::Status;
 use io_edge::memory_clock::StillClock;
 use io_edge::memory_opener::SureOpener;
@@ -79,13 +81,21 @@ fn outcome_of(alloc: Global, request: &str) -> Result<Outcome, AllocError> {
     Ok(Outcome { status, output })
 }
 
-/// Whether `batch` wrote this answer with a line feed, and ended as it has to with it.
-fn has_answered(outcome: &Outcome, answer: &str) -> bool {
-    let status = if answer.starts_with(PROBLEM) {
+/// How `batch` ends where it writes a problem, and where it writes a response.
+fn status_of(is_problem: bool) -> Status
+    ensures problem { is_problem ≡ true → result ≡ Status.Refused }
+    ensures response { is_problem ≡ false → result ≡ Status.Done }
+{
+    if is_problem {
         Status::Refused
     } else {
         Status::Done
-    };
+    }
+}
+
+/// Whether `batch` wrote this answer with a line feed, and ended as it has to with it.
+fn has_answered(outcome: &Outcome, answer: &str) -> bool {
+    let status = status_of(answer.starts_with(PROBLEM));
     match outcome.output.bytes() {
         Some([text @ .., b'\n']) => text == answer.as_bytes() && outcome.status == status,
         _ => false,

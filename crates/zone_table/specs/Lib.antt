@@ -1,0 +1,2 @@
+pub mod TimeZones
+pub mod Reports
