@@ -1,12 +1,12 @@
 -- What the call for the next message answers, exit by exit.
-use Rattle.std.proofs.Common.{◌≡◌, ℕ, ◌+◌, ◌<◌, ◌≤◌, List, [], ◌∷◌, ◌++◌, Option, Some, None, length, take, drop, cond, Bool, true, false, inl, inr, refl, sym, ap, ap₂, ◌∙◌, subst, arith, codes}
-use Rattle.std.specs.Prelude.{nat_lt}
+use Rattle.std.proofs.Common.{◌≡◌, ℕ, ◌+◌, ◌<◌, ◌≤◌, List, [], ◌∷◌, ◌++◌, Option, length, take, drop, cond, Bool, true, false, inl, inr, refl, sym, ap, ap₂, ◌∙◌, subst, arith, codes}
+use Rattle.std.specs.Prelude.{nat_lt, is_some}
 use Rattle.std.specs.Str.{bytes_eq}
 use Rattle.std.proofs.lemmas.Bool.Decides.{nat_tests}
 use Rattle.std.proofs.lemmas.List.{length-drop, length-take-le, take-append-drop}
 use Rattle.httparse.specs.Grammar.{RequestHead}
 use Rattle.http_edge.specs.Http.Fields.{Length, absent, known, unusable, NamedValue, first_value, length_said, values_of}
-use Rattle.http_edge.specs.Http.Heads.{head_end, ended, unended, ReadsHead, fields_of, Framing, body, refuse, framing, framing_by_coding, framing_by_length}
+use Rattle.http_edge.specs.Http.Heads.{head_end, ended, unended, ReadsHead, fields_of, Framing, body, refuse, framing, framing_by_length}
 use Rattle.http_edge.specs.Http.Messages.{message_of, partial, HasHead, BeginsWith, IsUndecided}
 use Rattle.http_edge.specs.Reading.{Says, Took, StopCause, NextIs, GivesNext, ended_with, message_shown}
 use Rattle.http_edge.specs.declared.head.Head.{Head}
@@ -49,9 +49,9 @@ head_failed {b} {n} {f} {g} {old} {kept} {s} t h e = gives t (undecided kept h.0
 
 -- ---- behind the head
 
-coded : (o : Option (List ℕ)) (f : Framing) (n : ℕ) → framing_by_coding o f ≡ body n → f ≡ body n
-coded None f n e = e
-coded (Some v) f n e = let bad : ⊥ = cc in absurd bad
+not_coded : (t : Bool) (f : Framing) (n : ℕ) → cond t (refuse 501) f ≡ body n → f ≡ body n
+not_coded false f n e = e
+not_coded true f n e = let bad : ⊥ = cc in absurd bad
 
 no_length : (t : Bool) (n : ℕ) → cond t (refuse 411) (body 0) ≡ body n → n ≤ 10000000
 no_length true n e = let bad : ⊥ = cc in absurd bad
@@ -69,7 +69,7 @@ by_length method (known k) n e = some_length k n (nat_lt 10000000 k) refl e
 pub body_bound : (method : List ℕ) (fields : List NamedValue) (n : ℕ) → framing method fields ≡ body n → n ≤ 10000000
 body_bound method fields n e =
     let said = length_said (values_of (codes "content-length") fields) in
-    by_length method said n (coded (first_value (values_of (codes "transfer-encoding") fields)) (framing_by_length method said) n e)
+    by_length method said n (not_coded (is_some (first_value (values_of (codes "transfer-encoding") fields))) (framing_by_length method said) n e)
 
 pub sum_bound : (bytes : List ℕ) (size : ℕ) (head : RequestHead) (slice : List ℕ) (said : Head) → head_end bytes ≡ ended size → Says slice head said → size + said.body ≤ 10016384
 sum_bound bytes size head slice said e s =

@@ -9,3 +9,4 @@ pub mod HeadParts
 pub mod HeadText
 pub mod Taking
 pub mod Exits
+pub mod Refusals

@@ -2,7 +2,8 @@
 use Rattle.std.proofs.Common.{◌≡◌, ℕ, ◌+◌, ◌<◌, ◌≤◌, List, [], ◌∷◌, ◌++◌, length, get_or, take, drop, cond, Bool, true, false, Option, Some, None, option_map, refl, sym, ap, ◌∙◌, subst, append_assoc, arith, add-one, drop-cons, length-append, zero-add}
 use Rattle.std.specs.Prelude.{◌==◌, ◌&&◌}
 use Rattle.std.proofs.lemmas.List.{take_more, take-append-drop, take_all, length-take-le}
-use Rattle.http_edge.specs.Http.Heads.{head_length, line_end_length, begins_with_feed, or_else, later}
+use Rattle.std.specs.Option.{option_or}
+use Rattle.http_edge.specs.Http.Heads.{head_length, line_end_length, begins_with_feed, later}
 use Rattle.http_edge.specs.Searches.{is_last, next_state, search_from, IsSearched}
 use Rattle.http_edge.specs.declared.search.State.{State}
 use Rattle.http_edge.specs.declared.search.State.TheVariants.{Within, AfterFeed, AfterReturn}
@@ -40,14 +41,14 @@ go_all bytes i s h k = subst (λ p. IsSearched p s) (take_all i bytes h) k
 
 -- ---- a search begins
 
-head-cons : (b : ℕ) (bytes : List ℕ) → head_length (b ∷ bytes) ≡ cond (b == 10) (later (or_else (line_end_length bytes) (head_length bytes))) (later (head_length bytes))
+head-cons : (b : ℕ) (bytes : List ℕ) → head_length (b ∷ bytes) ≡ cond (b == 10) (later (option_or (line_end_length bytes) (head_length bytes))) (later (head_length bytes))
 unfolding head_length
 head-cons b bytes = refl
 
 -- what the search looks for, state by state
 abbrev pub ahead : State → List ℕ → Option ℕ
 ahead Within bytes = head_length bytes
-ahead AfterFeed bytes = or_else (line_end_length bytes) (head_length bytes)
+ahead AfterFeed bytes = option_or (line_end_length bytes) (head_length bytes)
 ahead AfterReturn bytes = cond (begins_with_feed bytes) (Some 1) (head_length bytes)
 
 ahead-nil : (s : State) → search_from s [] ≡ ahead s []
@@ -64,27 +65,27 @@ later_cond : (t : Bool) (x y : Option ℕ) → later (cond t x y) ≡ cond t (la
 later_cond true x y = refl
 later_cond false x y = refl
 
-within_next : (f : Bool) (bytes : List ℕ) → search_from AfterFeed bytes ≡ or_else (line_end_length bytes) (head_length bytes) → search_from Within bytes ≡ head_length bytes
-    → search_from (cond f AfterFeed Within) bytes ≡ cond f (or_else (line_end_length bytes) (head_length bytes)) (head_length bytes)
+within_next : (f : Bool) (bytes : List ℕ) → search_from AfterFeed bytes ≡ option_or (line_end_length bytes) (head_length bytes) → search_from Within bytes ≡ head_length bytes
+    → search_from (cond f AfterFeed Within) bytes ≡ cond f (option_or (line_end_length bytes) (head_length bytes)) (head_length bytes)
 within_next true bytes a w = a
 within_next false bytes a w = w
 
 -- behind a line feed
-return_case : (g : Bool) (x : Option ℕ) → later (cond g (Some 1) x) ≡ or_else (cond g (Some 2) None) (later x)
+return_case : (g : Bool) (x : Option ℕ) → later (cond g (Some 1) x) ≡ option_or (cond g (Some 2) None) (later x)
 return_case true x = refl
 return_case false x = refl
 
-feed_next : (f r : Bool) (bytes : List ℕ) → search_from AfterFeed bytes ≡ or_else (line_end_length bytes) (head_length bytes) → search_from AfterReturn bytes ≡ cond (begins_with_feed bytes) (Some 1) (head_length bytes)
+feed_next : (f r : Bool) (bytes : List ℕ) → search_from AfterFeed bytes ≡ option_or (line_end_length bytes) (head_length bytes) → search_from AfterReturn bytes ≡ cond (begins_with_feed bytes) (Some 1) (head_length bytes)
     → search_from Within bytes ≡ head_length bytes
     → cond f (Some 1) (later (search_from (cond f AfterFeed (cond r AfterReturn Within)) bytes))
-    ≡ or_else (cond f (Some 1) (cond (r && begins_with_feed bytes) (Some 2) None)) (cond f (later (or_else (line_end_length bytes) (head_length bytes))) (later (head_length bytes)))
+    ≡ option_or (cond f (Some 1) (cond (r && begins_with_feed bytes) (Some 2) None)) (cond f (later (option_or (line_end_length bytes) (head_length bytes))) (later (head_length bytes)))
 feed_next true r bytes a e w = refl
 feed_next false true bytes a e w = ap later e ∙ return_case (begins_with_feed bytes) (head_length bytes)
 feed_next false false bytes a e w = ap later w
 
 -- behind a CR
 return_next : (f : Bool) (bytes : List ℕ) → search_from Within bytes ≡ head_length bytes
-    → cond f (Some 1) (later (search_from (cond f AfterFeed Within) bytes)) ≡ cond f (Some 1) (cond f (later (or_else (line_end_length bytes) (head_length bytes))) (later (head_length bytes)))
+    → cond f (Some 1) (later (search_from (cond f AfterFeed Within) bytes)) ≡ cond f (Some 1) (cond f (later (option_or (line_end_length bytes) (head_length bytes))) (later (head_length bytes)))
 return_next true bytes w = refl
 return_next false bytes w = ap later w
 
@@ -94,7 +95,7 @@ search_ahead Within (b ∷ bytes) =
     search-cons Within b bytes ∙ ap later (within_next (b == 10) bytes (search_ahead AfterFeed bytes) (search_ahead Within bytes)) ∙ later_cond (b == 10) _ _ ∙ sym (head-cons b bytes)
 search_ahead AfterFeed (b ∷ bytes) =
     search-cons AfterFeed b bytes ∙ feed_next (b == 10) (b == 13) bytes (search_ahead AfterFeed bytes) (search_ahead AfterReturn bytes) (search_ahead Within bytes)
-    ∙ ap (or_else (line_end_length (b ∷ bytes))) (sym (head-cons b bytes))
+    ∙ ap (option_or (line_end_length (b ∷ bytes))) (sym (head-cons b bytes))
 search_ahead AfterReturn (b ∷ bytes) =
     search-cons AfterReturn b bytes ∙ return_next (b == 10) bytes (search_ahead Within bytes) ∙ ap (cond (b == 10) (Some 1)) (sym (head-cons b bytes))
 

@@ -10,6 +10,7 @@ use std::alloc::{AllocError, Global};
 /// A request (RFC 9112 section 2.1).
 #[derive(Drop)]
 pub struct Message {
+    /// A token, in the case as sent (RFC 9110 section 9.1).
     pub method: Text,
     /// The target up to the first `?`.
     pub path: Bytes,
@@ -17,6 +18,7 @@ pub struct Message {
     pub token: Option<Text>,
     /// Whether the connection ends behind its response (RFC 9112 section 9.6).
     pub close: bool,
+    /// The content, which is empty where the head gives no length (RFC 9112 section 6.3).
     pub body: Bytes,
 }
 

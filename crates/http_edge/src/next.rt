@@ -66,7 +66,7 @@ pub fn next_message<S: Source>(alloc: Global, source: &mut S, kept: &mut Kept) -
 
 /// Where a head ends.
 #[derive(Clone, Copy)]
-pub enum HeadEnd {
+enum HeadEnd {
     /// Behind so many bytes.
     At(usize),
     /// Not in the first 16,384 bytes.

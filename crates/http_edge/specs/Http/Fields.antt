@@ -1,5 +1,5 @@
 -- What the fields of a request say (RFC 9110 sections 5.1, 8.6 and 11.6.2, RFC 9112 sections 6.3 and 9.6).
-use Rattle.std.specs.Prelude.{ℕ, ◌==◌, ◌&&◌, ◌||◌, nat_lt, nat_le, List, [], ◌∷◌, Bool, Option, Some, None, if◌then◌else◌, length, take, drop, codes}
+use Rattle.std.specs.Prelude.{ℕ, ◌==◌, ◌&&◌, ◌||◌, nat_lt, nat_le, List, [], ◌∷◌, Bool, Option, Some, None, option_and_then, if◌then◌else◌, length, take, drop, codes}
 use Rattle.std.specs.List.{flat_map, list_all, list_any}
 use Rattle.std.specs.Char.{is_ascii_graphic}
 use Rattle.std.specs.Str.{bytes_eq, all_ascii_digits, str_to_ascii_lowercase}
@@ -61,10 +61,6 @@ is_token text = nat_lt 0 (length text) && (nat_le (length text) 255 && list_all 
 abbrev pub bearer_token : List ℕ → Option (List ℕ)
 bearer_token value = if same_word (take 7 value) (codes "bearer ") && is_token (drop 7 value) then Some (drop 7 value) else None
 
-abbrev pub token_in : Option (List ℕ) → Option (List ℕ)
-token_in None = None
-token_in (Some value) = bearer_token value
-
 -- the token of the first `Authorization`
 abbrev pub token_of : List NamedValue → Option (List ℕ)
-token_of fields = token_in (first_value (values_of (codes "authorization") fields))
+token_of fields = option_and_then bearer_token (first_value (values_of (codes "authorization") fields))

@@ -1,5 +1,6 @@
 -- The head of a request: where it ends, how it is read, and what it asks for (RFC 9112 sections 2, 3, 5 and 6).
-use Rattle.std.specs.Prelude.{◌≡◌, ◌⊎◌, ℕ, suc, ◌≤◌, ◌<◌, ◌==◌, ◌&&◌, nat_lt, nat_le, List, [], ◌∷◌, Bool, false, Option, Some, None, option_map, if◌then◌else◌, length, take, map, count_by, codes}
+use Rattle.std.specs.Prelude.{◌≡◌, ◌⊎◌, ℕ, suc, ◌≤◌, ◌<◌, ◌==◌, ◌&&◌, nat_lt, nat_le, List, [], ◌∷◌, Bool, false, Option, Some, None, option_map, is_some, if◌then◌else◌, length, take, map, count_by, codes}
+use Rattle.std.specs.Option.{option_or}
 use Rattle.std.specs.Str.{bytes_eq}
 use Rattle.httparse.specs.Grammar.{RequestHead, ReadsRequest}
 use Rattle.httparse.specs.Spans.{name_and_value}
@@ -16,17 +17,13 @@ abbrev pub line_end_length : List ℕ → Option ℕ
 line_end_length [] = None
 line_end_length (b ∷ bytes) = if b == 10 then Some 1 else (if (b == 13) && begins_with_feed bytes then Some 2 else None)
 
-abbrev pub or_else : Option ℕ → Option ℕ → Option ℕ
-or_else (Some n) other = Some n
-or_else None other = other
-
 abbrev pub later : Option ℕ → Option ℕ
 later = option_map suc
 
 -- the length of the head: it ends with the line end that stands behind a line feed, the first such
 unfoldable pub head_length : List ℕ → Option ℕ
 head_length [] = None
-head_length (b ∷ bytes) = if b == 10 then later (or_else (line_end_length bytes) (head_length bytes)) else later (head_length bytes)
+head_length (b ∷ bytes) = if b == 10 then later (option_or (line_end_length bytes) (head_length bytes)) else later (head_length bytes)
 
 pub data HeadEnd : Type 0 where
   ended : ℕ → HeadEnd
@@ -70,13 +67,9 @@ framing_by_length method unusable = refuse 400
 framing_by_length method absent = if bytes_eq method (codes "POST") then refuse 411 else body 0
 framing_by_length method (known n) = if nat_lt 10000000 n then refuse 413 else body n
 
-abbrev pub framing_by_coding : Option (List ℕ) → Framing → Framing
-framing_by_coding None framing = framing
-framing_by_coding (Some coding) framing = refuse 501
-
 -- no transfer coding is taken
 abbrev pub framing : List ℕ → List NamedValue → Framing
-framing method fields = framing_by_coding (first_value (values_of (codes "transfer-encoding") fields)) (framing_by_length method (length_said (values_of (codes "content-length") fields)))
+framing method fields = if is_some (first_value (values_of (codes "transfer-encoding") fields)) then refuse 501 else framing_by_length method (length_said (values_of (codes "content-length") fields))
 
 -- the bytes of a head are refused with this status
 abbrev pub RefusesHead : List ℕ → ℕ → Type 0
