@@ -10,3 +10,4 @@ pub mod HeadText
 pub mod Taking
 pub mod Exits
 pub mod Refusals
+pub mod Printed

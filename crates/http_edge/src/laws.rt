@@ -1,6 +1,8 @@
 //! Laws of what bytes begin with.
-ghost use Rattle.std.specs.Prelude.{◌≡◌, ◌++◌, ℕ, List};
-ghost use Rattle.http_edge.specs.Http.Messages.{BeginsWith, Beginning, Message, refused, whole};
+ghost use Rattle.std.specs.Prelude.{◌≡◌, ◌≤◌, ◌++◌, [], ℕ, List, length};
+ghost use Rattle.httparse.specs.Grammar.{IsRequestHead, RequestHead, print_request};
+ghost use Rattle.http_edge.specs.Http.Heads.{body, fields_of, framing};
+ghost use Rattle.http_edge.specs.Http.Messages.{BeginsWith, Beginning, Message, message_of, refused, whole};
 ghost use Rattle.http_edge.specs.Http.Responses.{IsStatus};
 
 /// What begins with a whole message does so whatever follows.
@@ -22,4 +24,10 @@ pub fn begins_once()
 /// The status of a refused head is one that a response may have.
 pub fn refusals_are_answered()
     ensures { (bytes : List ℕ) (status : ℕ) → BeginsWith bytes (refused status) → IsStatus status }
+{}
+
+/// A head that is printed without an empty line before it, and a body of the length that it asks for, are that message, whatever follows.
+pub fn printed_begins()
+    ensures { (head : RequestHead) (content rest : List ℕ) → IsRequestHead head → head.blank ≡ [] → length head.fields ≤ 64 → length (print_request head) ≤ 16384
+        → framing head.method (fields_of head) ≡ body (length content) → BeginsWith (print_request head ++ content ++ rest) (whole (message_of head content) rest) }
 {}
