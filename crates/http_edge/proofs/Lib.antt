@@ -1,0 +1,13 @@
+pub mod Searching
+pub mod Ends
+pub mod Stays
+pub mod Once
+pub mod Values
+pub mod Lengths
+pub mod Ascii
+pub mod HeadParts
+pub mod HeadText
+pub mod Taking
+pub mod Exits
+pub mod Refusals
+pub mod Printed

@@ -1,0 +1,15 @@
+use Rattle.std.proofs.Common.{◌-◌, ◌≤◌, length, take}
+use Rattle.http_edge.specs.Reading.{Took}
+use Rattle.http_edge.specs.Searches.{IsSearched}
+use Rattle.http_edge.proofs.next.find_head.Given as goal
+
+abbrev pub invariant-loop-size : goal.invariant-loop-size
+invariant-loop-size g l = record {
+  took : Took (g.S.Source.left l.initial.source) (g.S.Source.left l.source) (g.S.Source.faults l.initial.source) (g.S.Source.faults l.source) l.initial.kept l.kept;
+  within : l.searched ≤ length l.kept;
+  few : l.searched ≤ 16384;
+  searched : IsSearched (take l.searched l.kept) l.state;
+}
+
+abbrev pub decreases-loop-size : goal.decreases-loop-size
+decreases-loop-size g l = 16384 - length l.kept

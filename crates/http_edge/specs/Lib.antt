@@ -1,0 +1,3 @@
+pub mod Http
+pub mod Searches
+pub mod Reading

@@ -1,0 +1,103 @@
+//! Bytes that were read and not used.
+ghost use Rattle.std.specs.Prelude.{◌≡◌, ◌≤◌, ◌<◌, [], length, drop, OnOk, IfErr};
+ghost use Rattle.http_edge.specs.Reading.{StopCause, Took};
+
+use io_edge::source::Source;
+use std::alloc::Global;
+use std::marker::Model;
+
+/// Bytes that were read from a source and not used. Contracts see their list.
+#[derive(Drop)]
+pub struct Kept {
+    bytes: Vec<u8>,
+    // The bytes before this place were used.
+    used: usize,
+}
+
+impl Model for Kept {
+    ghost use Rattle.std.specs.Prelude.{List, ℕ, ◌≤◌, length, drop};
+
+    ghost Value = { List ℕ };
+
+    ghost view = { λ k. drop k.used k.bytes.items };
+
+    ghost invariant = { λ k. k.used ≤ length k.bytes.items };
+}
+
+/// Why no more bytes came.
+#[derive(Clone, Copy)]
+pub enum Stop {
+    /// The input is at its end.
+    Ended,
+    /// The source failed.
+    Failed,
+    /// Memory was wanted.
+    NoMemory,
+}
+
+impl Kept {
+    /// Nothing is kept yet. Takes no memory.
+    pub fn new(alloc: Global) -> Kept
+        ensures { result ≡ [] }
+    {
+        Kept {
+            bytes: Vec::new(alloc),
+            used: 0,
+        }
+    }
+
+    /// The bytes. Takes no memory.
+    pub fn as_slice(&self) -> &[u8]
+        ensures { result.now ≡ self.now }
+    {
+        &self.bytes[self.used..]
+    }
+
+    /// Drops the first `count` bytes. Takes no memory.
+    pub(crate) fn skip(&mut self, count: usize)
+        requires { count ≤ length self.old }
+        ensures { self.new ≡ drop count self.old }
+    {
+        self.used += count;
+    }
+
+    /// Takes what a source gives next, at most as many bytes as `piece` has, which is where they are put first.
+    ///
+    /// The memory is reserved before the source is asked, so nothing that was taken is lost.
+    pub(crate) fn take_more<S: Source>(
+        &mut self,
+        source: &mut S,
+        piece: &mut [u8],
+    ) -> Result<(), Stop>
+        requires { 0 < length piece.old }
+        ensures took { Took (S.left source.old) (S.left source.new) (S.faults source.old) (S.faults source.new) self.old self.new }
+        ensures more { OnOk result (length self.old < length self.new) }
+        ensures stop { IfErr result (λ stop. (self.new ≡ self.old) × StopCause (S.left source.new) (S.faults source.old) (S.faults source.new) stop) }
+    {
+        self.close_up();
+        match self.bytes.reserve(piece.len()) {
+            Ok(()) => {}
+            Err(_) => return Err(Stop::NoMemory),
+        }
+        let count = match source.take(piece) {
+            Ok(0) => return Err(Stop::Ended),
+            Ok(count) => count,
+            Err(_) => return Err(Stop::Failed),
+        };
+        match self.bytes.extend_from_slice(&piece[..count]) {
+            Ok(()) => Ok(()),
+            Err(_) => unreachable!(),
+        }
+    }
+
+    // Moves the bytes to the front of the memory, over those that were used.
+    fn close_up(&mut self)
+        ensures { self.new ≡ self.old }
+    {
+        if self.used > 0 {
+            self.bytes.rotate_left(self.used);
+            self.bytes.truncate(self.bytes.len() - self.used);
+            self.used = 0;
+        }
+    }
+}

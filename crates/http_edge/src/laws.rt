@@ -1,0 +1,33 @@
+//! Laws of what bytes begin with.
+ghost use Rattle.std.specs.Prelude.{◌≡◌, ◌≤◌, ◌++◌, [], ℕ, List, length};
+ghost use Rattle.httparse.specs.Grammar.{IsRequestHead, RequestHead, print_request};
+ghost use Rattle.http_edge.specs.Http.Heads.{body, fields_of, framing};
+ghost use Rattle.http_edge.specs.Http.Messages.{BeginsWith, Beginning, Message, message_of, refused, whole};
+ghost use Rattle.http_edge.specs.Http.Responses.{IsStatus};
+
+/// What begins with a whole message does so whatever follows.
+pub fn whole_stays()
+    ensures { (bytes more : List ℕ) (message : Message) (rest : List ℕ)
+        → BeginsWith bytes (whole message rest) → BeginsWith (bytes ++ more) (whole message (rest ++ more)) }
+{}
+
+/// What begins with a head that is refused does so whatever follows.
+pub fn refused_stays()
+    ensures { (bytes more : List ℕ) (status : ℕ) → BeginsWith bytes (refused status) → BeginsWith (bytes ++ more) (refused status) }
+{}
+
+/// Bytes begin with one thing alone: one whole message with what is behind it, or a refused head, or a part of either, or nothing.
+pub fn begins_once()
+    ensures { (bytes : List ℕ) (one other : Beginning) → BeginsWith bytes one → BeginsWith bytes other → one ≡ other }
+{}
+
+/// The status of a refused head is one that a response may have.
+pub fn refusals_are_answered()
+    ensures { (bytes : List ℕ) (status : ℕ) → BeginsWith bytes (refused status) → IsStatus status }
+{}
+
+/// A head that is printed without an empty line before it, and a body of the length that it asks for, are that message, whatever follows.
+pub fn printed_begins()
+    ensures { (head : RequestHead) (content rest : List ℕ) → IsRequestHead head → head.blank ≡ [] → length head.fields ≤ 64 → length (print_request head) ≤ 16384
+        → framing head.method (fields_of head) ≡ body (length content) → BeginsWith (print_request head ++ content ++ rest) (whole (message_of head content) rest) }
+{}

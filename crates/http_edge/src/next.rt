@@ -1,0 +1,128 @@
+//! The next message of a source.
+ghost use Rattle.std.specs.Prelude.{◌≡◌, ◌≤◌, ◌<◌, ℕ, length, IfOk, OnOk, IfErr};
+ghost use Rattle.http_edge.specs.Http.Heads.{head_end, unended};
+ghost use Rattle.http_edge.specs.Reading.{GivesNext, StopCause, Took, end_shown, ended_with};
+
+use crate::head::{HeadError, read_head};
+use crate::kept::{Kept, Stop};
+use crate::message::{Message, take_message};
+use crate::search::{Search, State, go_on};
+use io_edge::source::Source;
+use std::alloc::Global;
+
+/// How many bytes are asked of a source at once.
+const PIECE: usize = 16_384;
+/// The most bytes of a head.
+const MOST_HEAD: usize = 16_384;
+
+/// What a source gives next.
+#[derive(Drop)]
+pub enum Next {
+    /// A whole message.
+    Message(Message),
+    /// The input ended between messages.
+    End,
+    /// The input ended inside a message.
+    Truncated,
+    /// A head that is refused with this status.
+    BadHead(u16),
+    /// The source failed.
+    ReadFault,
+    /// Memory was wanted.
+    NoMemory,
+}
+
+/// Gives the next message of the bytes that `kept` holds and those that the source gives behind them.
+///
+/// `kept` has the bytes behind the message then, or all of them where there is none. Takes memory for the message and for the bytes
+/// that were taken and not used; nothing that was taken is lost for want of it.
+pub fn next_message<S: Source>(alloc: Global, source: &mut S, kept: &mut Kept) -> Next
+    ensures { GivesNext (S.left source.old) (S.left source.new) (S.faults source.old) (S.faults source.new) kept.old kept.new result }
+{
+    let mut piece = [0; PIECE];
+    let size = match find_head(source, kept, &mut piece) {
+        Ok(HeadEnd::At(size)) => size,
+        Ok(HeadEnd::TooLong) => return Next::BadHead(431),
+        Err(Stop::Ended) => return ended(kept),
+        Err(Stop::Failed) => return Next::ReadFault,
+        Err(Stop::NoMemory) => return Next::NoMemory,
+    };
+    let head = match read_head(alloc, &kept.as_slice()[..size]) {
+        Ok(head) => head,
+        Err(HeadError::Refused(status)) => return Next::BadHead(status),
+        Err(HeadError::NoMemory) => return Next::NoMemory,
+    };
+    match take_until(source, kept, &mut piece, size + head.body) {
+        Ok(()) => {}
+        Err(Stop::Ended) => return Next::Truncated,
+        Err(Stop::Failed) => return Next::ReadFault,
+        Err(Stop::NoMemory) => return Next::NoMemory,
+    }
+    match take_message(alloc, kept, size, head) {
+        Ok(message) => Next::Message(message),
+        Err(_) => Next::NoMemory,
+    }
+}
+
+/// Where a head ends.
+#[derive(Clone, Copy)]
+enum HeadEnd {
+    /// Behind so many bytes.
+    At(usize),
+    /// Not in the first 16,384 bytes.
+    TooLong,
+}
+
+// Takes bytes until it is known where the head at the front ends. Each byte is looked at once.
+#[tactic(auto, using(crate::proofs::Taking::took_none, crate::proofs::Taking::took_more, crate::proofs::Taking::stop_earlier))]
+fn find_head<S: Source>(source: &mut S, kept: &mut Kept, piece: &mut [u8]) -> Result<HeadEnd, Stop>
+    requires { 0 < length piece.old }
+    ensures took { Took (S.left source.old) (S.left source.new) (S.faults source.old) (S.faults source.new) kept.old kept.new }
+    ensures end { IfOk result (λ end. head_end kept.new ≡ end_shown end) }
+    ensures stop { IfErr result (λ stop. (head_end kept.new ≡ unended) × StopCause (S.left source.new) (S.faults source.old) (S.faults source.new) stop) }
+{
+    let mut searched = 0;
+    let mut state = State::Within;
+    loop {
+        let front = kept.as_slice().len().min(MOST_HEAD);
+        match go_on(&kept.as_slice()[..front], searched, state) {
+            Search::Ended(size) => return Ok(HeadEnd::At(size)),
+            Search::Open(next) => state = next,
+        }
+        if front == MOST_HEAD {
+            return Ok(HeadEnd::TooLong);
+        }
+        searched = front;
+        kept.take_more(source, piece)?;
+    }
+}
+
+// Takes bytes until there are so many.
+#[tactic(auto, using(crate::proofs::Taking::took_none, crate::proofs::Taking::took_more, crate::proofs::Taking::stop_earlier))]
+fn take_until<S: Source>(
+    source: &mut S,
+    kept: &mut Kept,
+    piece: &mut [u8],
+    wanted: usize,
+) -> Result<(), Stop>
+    requires { 0 < length piece.old }
+    ensures took { Took (S.left source.old) (S.left source.new) (S.faults source.old) (S.faults source.new) kept.old kept.new }
+    ensures there { OnOk result (wanted ≤ length kept.new) }
+    ensures stop { IfErr result (λ stop. (length kept.new < wanted) × StopCause (S.left source.new) (S.faults source.old) (S.faults source.new) stop) }
+{
+    while kept.as_slice().len() < wanted {
+        kept.take_more(source, piece)?;
+    }
+    Ok(())
+}
+
+// The input ended before the end of a head.
+fn ended(kept: &Kept) -> Next
+    ensures { result ≡ ended_with kept.now }
+{
+    if kept.as_slice().is_empty() {
+        Next::End
+    } else {
+        Next::Truncated
+    }
+}

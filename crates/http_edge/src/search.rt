@@ -1,0 +1,68 @@
+//! Where a head ends, found piece by piece.
+ghost use Rattle.std.specs.Prelude.{◌≤◌, ◌≡◌, length, take, true, false, IfSome, IfNone};
+ghost use Rattle.http_edge.specs.Searches.{IsSearched, Finds, is_last, next_state};
+
+/// Where a search stands between two bytes.
+#[derive(Clone, Copy)]
+pub enum State {
+    Within,
+    AfterFeed,
+    AfterReturn,
+}
+
+/// What a search came to.
+#[derive(Clone, Copy)]
+pub enum Search {
+    /// A head of so many bytes.
+    Ended(usize),
+    /// No head ends in the bytes.
+    Open(State),
+}
+
+/// Goes on with a search behind the first `from` bytes.
+pub fn go_on(bytes: &[u8], from: usize, state: State) -> Search
+    requires within { from ≤ length bytes.now }
+    requires searched { IsSearched (take from bytes.now) state }
+    ensures { Finds bytes.now result }
+{
+    let mut state = state;
+    for i in from..bytes.len() {
+        match step(state, bytes[i]) {
+            Some(next) => state = next,
+            None => return Search::Ended(i + 1),
+        }
+    }
+    Search::Open(state)
+}
+
+// The state behind one more byte, or `None` where the byte is the last of a head.
+fn step(state: State, byte: u8) -> Option<State>
+    ensures last { IfNone result (is_last state byte ≡ true) }
+    ensures next { IfSome result (λ s. (is_last state byte ≡ false) × (s ≡ next_state state byte)) }
+{
+    match state {
+        State::Within => {
+            if byte == b'\n' {
+                Some(State::AfterFeed)
+            } else {
+                Some(State::Within)
+            }
+        }
+        State::AfterFeed => {
+            if byte == b'\n' {
+                None
+            } else if byte == b'\r' {
+                Some(State::AfterReturn)
+            } else {
+                Some(State::Within)
+            }
+        }
+        State::AfterReturn => {
+            if byte == b'\n' {
+                None
+            } else {
+                Some(State::Within)
+            }
+        }
+    }
+}
