@@ -81,14 +81,14 @@ def main():
     def program(request, answer):
         run_program(chosen.binary, request, answer)
 
-    table = Table("bytes")
+    table = Table()
     for size in SIZES:
         with tempfile.TemporaryFile() as request:
             apart(write_request, size, request)
             length = length_of(request)
             table.add("jmapd", length, *measured(program, chosen.rounds, request, compare))
             table.add("Python", length, *measured(run_python, chosen.rounds, request))
-    table.compare("ten times the bytes")
+    table.compare()
 
 
 if __name__ == "__main__":

@@ -71,19 +71,20 @@ def length_of(file):
 class Table:
     """A line for each measurement, and the times beside each other."""
 
-    def __init__(self, what):
-        self.times = {}
-        print(f"who     {what:>10}  seconds   MB/s  peak MB  bytes a byte")
+    def __init__(self):
+        self.measured = {}
+        print("who          bytes  seconds   MB/s  peak MB  bytes a byte")
 
     def add(self, who, length, seconds, peak):
-        self.times.setdefault(who, []).append(seconds)
+        self.measured.setdefault(who, []).append((length, seconds))
         rate = length / seconds / 1e6
         print(f"{who:7} {length:10} {seconds:8.3f} {rate:6.1f} {peak / 1e6:8.1f} {peak / length:13.1f}")
 
-    def compare(self, growth):
-        for who, (small, large) in self.times.items():
-            print(f"{who}: {large / small:.1f} times the time for {growth}")
-        print(f"jmapd takes {self.times['jmapd'][1] / self.times['Python'][1]:.2f} of Python's time on the larger")
+    def compare(self):
+        for who, ((length, seconds), (more, longer)) in self.measured.items():
+            print(f"{who}: {longer / seconds:.1f} times the time for {more / length:.1f} times the bytes")
+        jmapd, python = (self.measured[who][1][1] for who in ("jmapd", "Python"))
+        print(f"jmapd takes {jmapd / python:.2f} of Python's time on the larger")
 
 
 def options(description):

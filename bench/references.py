@@ -36,7 +36,7 @@ def main():
     def program(request, answer):
         run_program(chosen.binary, request, answer)
 
-    table = Table("bytes")
+    table = Table()
     for count in COUNTS:
         with tempfile.TemporaryFile() as request, tempfile.TemporaryFile() as answer:
             apart(write_request, count, request)
@@ -45,7 +45,7 @@ def main():
             length = length_of(answer)
             table.add("jmapd", length, *measured(program, chosen.rounds, request, compare))
             table.add("Python", length, *measured(run_python, chosen.rounds, answer))
-    table.compare("ten times the items")
+    table.compare()
 
 
 if __name__ == "__main__":
