@@ -1,5 +1,5 @@
 //! A desk over two accounts, so that tests see what a batch asks of a desk.
-ghost use Rattle.std.specs.Prelude.{◌≡◌, [], IfOk};
+ghost use Rattle.std.specs.Prelude.{◌≡◌, IfOk};
 ghost use Rattle.jmapd_run.specs.LoneDesk.{of_desk};
 
 use account_core::account::Account;
@@ -28,9 +28,7 @@ impl PairDesk {
         second: Text,
         calls: u32,
     ) -> Result<PairDesk, AllocError>
-        ensures first { IfOk result (λ d. d.first ≡ (record { account_id = first; zones = [] }, [])) }
-        ensures second { IfOk result (λ d. d.second ≡ (record { account_id = second; zones = [] }, [])) }
-        ensures calls { IfOk result (λ d. d.calls_left ≡ calls) }
+        ensures { IfOk result (λ d. d.calls_left ≡ calls) }
     {
         Ok(PairDesk {
             first: Account::open(alloc, first)?,

@@ -1,4 +1,4 @@
-use Rattle.std.proofs.Common.{◌≡◌, ◌-◌, ◌<◌, ◌^◌, rules, subst, sym, w64, to_z, of_z, Result}
+use Rattle.std.proofs.Common.{◌≡◌, ◌≢◌, ◌-◌, ◌<◌, ◌^◌, ℕ, ℤ, rules, subst, sym, w64, to_z, of_z, Result}
 use Rattle.cal_model.specs.Batches.Session.{Called}
 use Rattle.cal_model.specs.Lock.{most_turns}
 use Rattle.cal_model.specs.declared.call.Reply.{Reply}
