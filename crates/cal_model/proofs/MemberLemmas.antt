@@ -5,7 +5,7 @@ use Rattle.std.specs.Str.{bytes_eq}
 use Rattle.cal_model.proofs.EditLemmas.{equal_not_below}
 use Rattle.cal_model.specs.Data.{lookup}
 use Rattle.cal_model.specs.Edit.{with_pair, without}
-use Rattle.cal_model.specs.KeyAt.{is_key_at}
+use Rattle.cal_model.specs.TreeData.{is_key_at}
 use Rattle.cal_model.specs.TreeData.{data_of, pair_of}
 use Rattle.cal_model.specs.declared.tree.Member.{Member}
 use Rattle.cal_model.specs.declared.tree.Tree.{Tree}

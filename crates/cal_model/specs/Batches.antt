@@ -9,3 +9,4 @@ pub mod References
 pub mod Meaning
 pub mod Session
 pub mod Batch
+pub mod Reply

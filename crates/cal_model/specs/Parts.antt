@@ -1,6 +1,6 @@
 -- Values of a kind of JSON.
 use Rattle.std.specs.Prelude.{ℕ, ℤ, List, [], ◌∷◌, ◌==◌, Bool, true, false, Option, Some, None, option_map, option_and_then, unwrap_or, if◌then◌else◌}
-use Rattle.cal_model.specs.Data.{Data, null, truth, whole, text, list, object, Pair, pairs_of, list_of}
+use Rattle.cal_model.specs.Data.{Data, null, truth, whole, text, list, object, Pair, pairs_of, list_of, field}
 
 abbrev pub is_null : Data → Bool
 is_null null = true
@@ -29,6 +29,14 @@ as_object _ = None
 -- the members of an object, and none of anything else
 abbrev pub members_in : Data → List Pair
 members_in d = unwrap_or (as_object d) []
+
+-- the text at a key
+abbrev pub text_at : List ℕ → Data → Option (List ℕ)
+text_at key d = option_and_then as_text (field key d)
+
+-- the items of a list at a key
+abbrev pub list_at : List ℕ → Data → Option (List Data)
+list_at key d = option_and_then as_list (field key d)
 
 -- f of each, where each has one
 abbrev pub all_some : {X Y : Type 0} → (X → Option Y) → List X → Option (List Y)

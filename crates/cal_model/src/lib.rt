@@ -13,6 +13,8 @@ pub mod num;
 pub mod object;
 pub mod request;
 pub mod response;
+pub mod served;
+pub mod site;
 pub mod stamp;
 pub mod status;
 pub mod text;

@@ -1,7 +1,7 @@
 //! Objects of keys that stand in the code.
 ghost use Rattle.std.specs.Prelude.{◌≡◌, IfOk, map};
 ghost use Rattle.cal_model.specs.ObjectKeys.{HasOrderedKeys};
-ghost use Rattle.cal_model.specs.Keyed.{keyed};
+ghost use Rattle.cal_model.specs.TreeData.{keyed};
 ghost use Rattle.cal_model.specs.declared.tree.Tree.TheVariants.{Object};
 
 use crate::text::Text;

@@ -1,3 +1,2 @@
-pub mod Http
 pub mod Searches
 pub mod Reading

@@ -4,13 +4,13 @@ use Rattle.std.specs.Str.Parse.{digits_value}
 use Rattle.std.specs.Io.KnownBytes.{Consumes, IsAtEnd}
 use Rattle.cal_model.specs.Outside.{Rose}
 use Rattle.httparse.specs.Grammar.{RequestHead}
-use Rattle.http_edge.specs.Http.Fields as fields
-use Rattle.http_edge.specs.Http.Fields.{asks_close, is_length, is_length_of, token_of}
-use Rattle.http_edge.specs.Http.Heads as heads
-use Rattle.http_edge.specs.Http.Heads.{ReadsHead, RefusesHead, fields_of, framing}
-use Rattle.http_edge.specs.Http.Messages as http
-use Rattle.http_edge.specs.Http.Messages.{path_of, whole, refused, partial, BeginsWith, IsUndecided}
-use Rattle.http_edge.specs.Http.Responses as responses
+use Rattle.cal_model.specs.Http.Fields as fields
+use Rattle.cal_model.specs.Http.Fields.{asks_close, is_length, is_length_of, token_of}
+use Rattle.cal_model.specs.Http.Heads as heads
+use Rattle.cal_model.specs.Http.Heads.{ReadsHead, RefusesHead, fields_of, framing}
+use Rattle.cal_model.specs.Http.Messages as http
+use Rattle.cal_model.specs.Http.Messages.{path_of, whole, refused, partial, BeginsWith, IsUndecided}
+use Rattle.cal_model.specs.Http.Responses as responses
 use Rattle.http_edge.specs.declared.fields.ContentLength.{ContentLength}
 use Rattle.http_edge.specs.declared.fields.ContentLength.TheVariants as length_is
 use Rattle.http_edge.specs.declared.head.Head.{Head}

@@ -3,8 +3,8 @@ ghost use Rattle.std.specs.Prelude.{◌≡◌, ◌≤◌, length, map, take, IfS
 ghost use Rattle.std.specs.List.{All};
 ghost use Rattle.httparse.specs.Grammar.{RequestHead};
 ghost use Rattle.httparse.specs.Spans.{IsHeaderWithin, IsRequestAt, IsRequestWithin, header_bytes};
-ghost use Rattle.http_edge.specs.Http.Heads.{IsHead, framing, line_feeds};
-ghost use Rattle.http_edge.specs.Http.Messages.{path_of};
+ghost use Rattle.cal_model.specs.Http.Heads.{IsHead, framing, line_feeds};
+ghost use Rattle.cal_model.specs.Http.Messages.{path_of};
 ghost use Rattle.http_edge.specs.Reading.{IsRefusal, Says, framing_shown};
 ghost use Rattle.http_edge.specs.declared.head.HeadError.TheVariants.{NoMemory};
 

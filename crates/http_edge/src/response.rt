@@ -1,8 +1,8 @@
 //! The bytes of responses.
 ghost use Rattle.std.specs.Prelude.{◌≡◌, IfOk, string_bytes, length, unwrap_or, [], true};
 ghost use Rattle.http.specs.StatusCode.{reason_phrase};
-ghost use Rattle.http_edge.specs.Http.Responses as http;
-ghost use Rattle.http_edge.specs.Http.Responses.{IsStatus, response_text};
+ghost use Rattle.cal_model.specs.Http.Responses as http;
+ghost use Rattle.cal_model.specs.Http.Responses.{IsStatus, response_text};
 ghost use Rattle.http_edge.specs.Reading.{response_shown};
 
 use crate::bytes::Bytes;

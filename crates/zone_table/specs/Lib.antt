@@ -1,2 +1,1 @@
-pub mod TimeZones
 pub mod Reports

@@ -4,7 +4,7 @@ ghost use Rattle.std.specs.List.{list_any};
 ghost use Rattle.std.specs.Option.{SomeIff};
 ghost use Rattle.std.specs.Str.{bytes_eq};
 ghost use Rattle.zone_table.specs.Reports.{Reports};
-ghost use Rattle.zone_table.specs.TimeZones.{first_bad_zone, has_zone, is_good_zone, is_zone_name};
+ghost use Rattle.cal_model.specs.Sites.TimeZones.{first_bad_zone, has_zone, is_good_zone, is_name};
 ghost use Rattle.zone_table.specs.declared.zones.ZoneError.TheVariants.{NoMemory};
 
 use crate::zone::Zone;
@@ -102,14 +102,14 @@ impl Zones {
 fn good_zone(earlier: &[Zone], name: &Text, rule: &Text) -> Result<Option<Zone>, AllocError>
     ensures { IfOk result (λ zone. SomeIff zone (IsTrue (is_good_zone earlier.now (name.now, rule.now))) (name.now, rule.now)) }
 {
-    if !is_zone_name(name) || has_zone(earlier, name) {
+    if !is_name(name) || has_zone(earlier, name) {
         return Ok(None);
     }
     Zone::read(name, rule)
 }
 
-fn is_zone_name(name: &Text) -> bool
-    ensures { result ≡ is_zone_name name.now }
+fn is_name(name: &Text) -> bool
+    ensures { result ≡ is_name name.now }
 {
     !name.as_str().is_empty() && name.as_str().len() <= MOST_NAME_BYTES
 }

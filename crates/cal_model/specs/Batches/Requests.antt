@@ -3,7 +3,7 @@ use Rattle.std.specs.Prelude.{ℕ, List, [], ◌==◌, ◌&&◌, Bool, false, le
 use Rattle.std.specs.List.{list_all}
 use Rattle.cal_model.specs.Data.{Data, null, text, object, Pair, field, pairs_of}
 use Rattle.cal_model.specs.Id.{is_id}
-use Rattle.cal_model.specs.Parts.{as_text, as_list, as_object, all_some}
+use Rattle.cal_model.specs.Parts.{list_at, as_text, as_list, as_object, all_some}
 use Rattle.cal_model.specs.declared.request.Invocation.{Invocation}
 use Rattle.cal_model.specs.declared.request.Request.{Request}
 
@@ -20,10 +20,6 @@ invocation_in ds =
 
 abbrev pub invocation_of : Data → Option Invocation
 invocation_of d = option_and_then invocation_in (as_list d)
-
--- the items of a list at a key
-abbrev pub list_at : List ℕ → Data → Option (List Data)
-list_at key d = option_and_then as_list (field key d)
 
 abbrev pub is_id_value : Data → Bool
 is_id_value (text s) = is_id s

@@ -4,7 +4,7 @@ ghost use Rattle.std.specs.Cmp.Lexicographic.{slice_cmp};
 ghost use Rattle.std.specs.Ordering.{nat_cmp, is_lt};
 ghost use Rattle.cal_model.specs.Data.{lookup};
 ghost use Rattle.cal_model.specs.Edit.{ChangesOnlyAt, with_pair, without};
-ghost use Rattle.cal_model.specs.KeyAt.{is_key_at};
+ghost use Rattle.cal_model.specs.TreeData.{is_key_at};
 ghost use Rattle.cal_model.specs.ObjectKeys.{HasOrderedKeys};
 ghost use Rattle.cal_model.specs.TreeData.{data_of, pair_of};
 

@@ -1,5 +1,5 @@
 use Rattle.std.proofs.Common.{◌≡◌, map}
-use Rattle.cal_model.specs.Keyed.{keyed}
+use Rattle.cal_model.specs.TreeData.{keyed}
 use Rattle.cal_model.specs.TreeData.{pair_of}
 use Rattle.cal_model.proofs.tree.Tree.object.Given as goal
 

@@ -13,12 +13,12 @@ abbrev pub has_zone : List ZoneText → List ℕ → Bool
 has_zone zones name = bytes_eq name (codes "Etc/UTC") || list_any (λ z. bytes_eq z.0 name) zones
 
 -- a name of 1 to 255 bytes
-abbrev pub is_zone_name : List ℕ → Bool
-is_zone_name name = nat_lt 0 (length name) && nat_le (length name) 255
+abbrev pub is_name : List ℕ → Bool
+is_name name = nat_lt 0 (length name) && nat_le (length name) 255
 
 -- a zone that may stand behind these: its name is new, and `jiff` reads its rule
 abbrev pub is_good_zone : List ZoneText → ZoneText → Bool
-is_good_zone earlier z = (is_zone_name z.0 && not (has_zone earlier z.0)) && is_some (read_whole z.1)
+is_good_zone earlier z = (is_name z.0 && not (has_zone earlier z.0)) && is_some (read_whole z.1)
 
 -- the place of the first zone that may not stand behind those before it, none where each may
 abbrev pub first_bad_zone : List ZoneText → List ZoneText → Option ℕ

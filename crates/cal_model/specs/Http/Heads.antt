@@ -4,7 +4,7 @@ use Rattle.std.specs.Option.{option_or}
 use Rattle.std.specs.Str.{bytes_eq}
 use Rattle.httparse.specs.Grammar.{RequestHead, ReadsRequest}
 use Rattle.httparse.specs.Spans.{name_and_value}
-use Rattle.http_edge.specs.Http.Fields.{NamedValue, values_of, first_value, length_said, Length, absent, known, unusable}
+use Rattle.cal_model.specs.Http.Fields.{NamedValue, values_of, first_value, length_said, Length, absent, known, unusable}
 
 -- ---- where a head ends
 

@@ -1,8 +1,8 @@
 -- What the bytes of a connection begin with (RFC 9112 sections 2.1, 6 and 9.3).
 use Rattle.std.specs.Prelude.{◌≡◌, ◌⊎◌, ℕ, ◌<◌, ◌==◌, List, [], ◌∷◌, ◌++◌, Bool, Option, if◌then◌else◌, length, take, drop}
 use Rattle.httparse.specs.Grammar.{RequestHead}
-use Rattle.http_edge.specs.Http.Fields.{asks_close, token_of}
-use Rattle.http_edge.specs.Http.Heads.{ended, too_long, unended, head_end, ReadsHead, RefusesHead, fields_of, body, framing}
+use Rattle.cal_model.specs.Http.Fields.{asks_close, token_of}
+use Rattle.cal_model.specs.Http.Heads.{ended, too_long, unended, head_end, ReadsHead, RefusesHead, fields_of, body, framing}
 
 -- a request, with the bearer token that it shows
 pub record Message : Type 0 where
