@@ -1,7 +1,7 @@
-use Rattle.std.proofs.Common.{◌≡◌, ◌∙◌, ap, rules, subst, sym}
+use Rattle.std.proofs.Common.{◌∙◌, ap, rules, subst, sym}
 use Rattle.cal_model.specs.Batches.Asked.{Asked}
 use Rattle.cal_model.specs.Batches.Reply.{asked_by_reading}
-use Rattle.conn_serve.proofs.Replying.{as_read, no_reply, over_limit, refused_reply}
+use Rattle.conn_serve.proofs.Replying.{as_read, over_limit, refused_reply}
 use Rattle.conn_serve.specs.Answering.{IsReply}
 use Rattle.conn_serve.proofs.reply.reply_to.Goals as goal
 
