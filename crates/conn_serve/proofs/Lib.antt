@@ -1,1 +1,3 @@
 pub mod Replying
+pub mod Turning
+pub mod Messaging
