@@ -1,6 +1,6 @@
 -- One message and its response.
-use Rattle.std.proofs.Common.{◌≡◌, ℕ, ℤ, zero, suc, ◌+◌, ◌*◌, ◌≤◌, List, [], ◌∷◌, ◌++◌, Bool, true, false, Option, Some, None, Result, Ok, Err, inl, inr, Vec, length, map, refl, sym, ap, ◌∙◌, subst, arith, append-nil}
-use Rattle.std.specs.Prelude.{◌⊎◌, if◌then◌else◌}
+use Rattle.std.proofs.Common.{◌≡◌, ℕ, ℤ, zero, suc, ◌+◌, ◌≤◌, List, [], ◌∷◌, ◌++◌, Bool, Option, Some, None, Result, Ok, Err, inl, inr, Vec, map, refl, sym, ap, ◌∙◌, subst, arith, append-nil}
+use Rattle.std.specs.Prelude.{◌⊎◌}
 use Rattle.std.specs.declared.alloc.Global.{Global}
 use Rattle.cal_model.proofs.Sessions.{still}
 use Rattle.cal_model.specs.Batches.Asked.{Asked, asked, is_refused, refused}
@@ -10,7 +10,7 @@ use Rattle.cal_model.specs.Data.{Data}
 use Rattle.cal_model.specs.Http.Messages.{Message}
 use Rattle.cal_model.specs.Http.Responses.{Response, response_text}
 use Rattle.cal_model.specs.Http.Routes.{Route, api, direct, route}
-use Rattle.cal_model.specs.Http.Turns.{Begun, Fits, Told, Ticked, Turn, api_response, at_once, by_calls, called, moment_behind, uncalled}
+use Rattle.cal_model.specs.Http.Turns.{Begun, Told, Ticked, Turn, api_response, at_once, by_calls, called, moment_behind, uncalled}
 use Rattle.cal_model.specs.Outside.{Ticks}
 use Rattle.cal_model.specs.Sites.Configuration.{Site, user_at}
 use Rattle.cal_model.specs.TreeData.{data_of}

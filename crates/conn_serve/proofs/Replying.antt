@@ -1,7 +1,7 @@
 -- What a batch made of a request is a reply to it.
-use Rattle.std.proofs.Common.{◌≡◌, ℕ, ℤ, ◌+◌, ◌≤◌, List, [], ◌∷◌, ◌++◌, Bool, true, false, Option, Some, None, Result, Ok, Err, inl, inr, length, map, refl, sym, ap, ◌∙◌, subst, arith, append-nil, true≢false}
+use Rattle.std.proofs.Common.{◌≡◌, ℕ, ℤ, ◌+◌, ◌≤◌, List, [], Bool, true, false, Option, Some, None, Result, Ok, Err, inl, inr, length, refl, sym, ap, ◌∙◌, subst, arith, append-nil, true≢false}
 use Rattle.std.proofs.lemmas.Bool.Decides.{nat_tests}
-use Rattle.std.specs.Prelude.{◌⊎◌, ◌<◌, if◌then◌else◌, not, nat_lt}
+use Rattle.std.specs.Prelude.{◌<◌, if◌then◌else◌, not, nat_lt}
 use Rattle.cal_model.proofs.Sessions.{still}
 use Rattle.cal_model.specs.Batches.Asked.{Asked, asked, asked_by, checked, is_refused, max_calls_in_request, refused}
 use Rattle.cal_model.specs.Batches.Methods.{is_capability}
@@ -14,7 +14,6 @@ use Rattle.cal_model.specs.declared.request.Limit.TheVariants.{CallsInRequest, S
 use Rattle.cal_model.specs.declared.request.RequestError.TheVariants.{Limit, UnknownCapability}
 use Rattle.cal_model.specs.Batches.Session.{Shown}
 use Rattle.cal_model.specs.Data.{Data}
-use Rattle.cal_model.specs.Lock.{most_turns}
 use Rattle.cal_model.specs.TreeData.{data_of}
 use Rattle.cal_model.specs.declared.desk.DeskError.{DeskError}
 use Rattle.cal_model.specs.declared.desk.DeskError.TheVariants.{PassSpent, NoMemory}

@@ -1,9 +1,9 @@
 -- Turns follow one another.
-use Rattle.std.proofs.Common.{◌≡◌, ℕ, ℤ, zero, suc, ◌+◌, ◌*◌, ◌≤◌, List, [], ◌∷◌, ◌++◌, length, length-append, map, sym, refl, ap, ◌∙◌, subst, arith, append-nil, append_assoc, Option, Some, None}
+use Rattle.std.proofs.Common.{◌≡◌, ℕ, ℤ, zero, suc, ◌+◌, List, [], ◌∷◌, ◌++◌, length, length-append, map, sym, refl, ap, ◌∙◌, subst, arith, append-nil, append_assoc, Option, Some, None}
 use Rattle.std.proofs.lemmas.List.{map-append}
 use Rattle.std.proofs.lemmas.Grind.{flat_map-append}
 use Rattle.cal_model.proofs.Sessions.{join, still}
-use Rattle.cal_model.specs.Batches.Session.{Made, Session, Shown, front_of}
+use Rattle.cal_model.specs.Batches.Session.{Session, Shown, front_of}
 use Rattle.cal_model.specs.Http.Turns.{AllFit, Fits, Ticked, Told, Turn, all_made, all_moments, closes, moment_behind}
 use Rattle.cal_model.specs.Sites.Configuration.{Site}
 use Rattle.cal_model.specs.declared.desk.Front.{Front}

@@ -5,3 +5,4 @@ mod answer;
 pub mod moment;
 pub mod reply;
 mod route;
+pub mod serve;
