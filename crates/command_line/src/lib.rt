@@ -1,0 +1,4 @@
+//! The words of the command line, read by the crate `clap`.
+#![tactic(auto)]
+
+pub mod command;
