@@ -21,4 +21,6 @@ mod patches;
 #[cfg(test)]
 mod quotas;
 pub mod reporting_book;
+#[cfg(test)]
+mod system_files;
 pub mod words;
