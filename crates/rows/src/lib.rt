@@ -8,6 +8,8 @@ mod change_pages;
 #[cfg(test)]
 mod civil_dates;
 #[cfg(test)]
+mod command_lines;
+#[cfg(test)]
 mod congruences;
 #[cfg(test)]
 mod desks;
