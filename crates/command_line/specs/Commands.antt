@@ -20,9 +20,11 @@ bare name = on_top (λ s. record s { no_binary_name = true; disable_help_flag = 
 abbrev pub option_named : List ℕ → Bool → Rule
 option_named name required = record (new_rule name) { long = Some name; action = Some Set; required = required }
 
+-- `batch [--config NAME] [--user NAME]`
 unfoldable pub batch_app : App
 batch_app = with_rule (with_rule (bare (codes "batch")) (option_named (codes "config") false)) (option_named (codes "user") false)
 
+-- `stdio --config NAME`
 unfoldable pub stdio_app : App
 stdio_app = with_rule (bare (codes "stdio")) (option_named (codes "config") true)
 
