@@ -1,0 +1,140 @@
+//! A site.
+ghost use Rattle.std.specs.Prelude.{◌≡◌, ◌<◌, ◌≤◌, All, IfSome, length, position, slice_index_or};
+ghost use Rattle.std.specs.Str.{bytes_eq};
+ghost use Rattle.std.specs.Arc.{arc_value};
+ghost use Rattle.cal_model.specs.Sites.Configuration.{HasItsAccounts, SiteAccount, user_at, user_named, user_of_token};
+
+use crate::account::Account;
+use crate::site_user::SiteUser;
+use cal_model::text::Text;
+use cal_model::user::User;
+use std::marker::Model;
+use std::sync::Arc;
+use zone_table::Zones;
+
+/// What a configuration tells of: the base of the server's addresses, the accounts, the users who may use them, and the
+/// time zones.
+#[derive(Drop)]
+pub struct Site {
+    base_url: Text,
+    accounts: Vec<Account>,
+    users: Vec<SiteUser>,
+    zones: Arc<Zones>,
+}
+
+impl Model for Site {
+    ghost use Rattle.std.specs.Prelude.{◌≤◌, length};
+    ghost use Rattle.std.specs.Arc.{arc_value};
+    ghost use Rattle.cal_model.specs.Sites.Configuration.{HasItsAccounts, Site as Described};
+
+    ghost Value = { Described };
+
+    ghost view = { λ a. record { base_url = a.base_url; accounts = a.accounts.items; users = a.users.items; zones = arc_value a.zones } };
+
+    ghost invariant = { λ a. (length a.accounts.items ≤ 16) × (length a.users.items ≤ 64) × HasItsAccounts (record { base_url = a.base_url; accounts = a.accounts.items; users = a.users.items; zones = arc_value a.zones }) };
+}
+
+impl Site {
+    /// A site of these parts. Takes no memory.
+    pub(crate) fn new(
+        base_url: Text,
+        accounts: Vec<Account>,
+        users: Vec<SiteUser>,
+        zones: Arc<Zones>,
+    ) -> Site
+        requires few_accounts { length accounts.items ≤ 16 }
+        requires few_users { length users.items ≤ 64 }
+        requires granted { HasItsAccounts (record { base_url = base_url; accounts = accounts.items; users = users.items; zones = arc_value zones }) }
+        ensures { result ≡ record { base_url = base_url; accounts = accounts.items; users = users.items; zones = arc_value zones } }
+    {
+        Site {
+            base_url,
+            accounts,
+            users,
+            zones,
+        }
+    }
+
+    /// The number of the user whose bearer token this is, from 0. Takes no memory.
+    pub fn user_of(&self, token: &Text) -> Option<u32>
+        ensures number { result ≡ user_of_token self.now token.now }
+        ensures there { IfSome result (λ n. n < length self.now.users) }
+    {
+        match place_of_token(&self.users, token.as_str()) {
+            Some(n) => Some(n as u32),
+            None => None,
+        }
+    }
+
+    /// The number of the user of this name, from 0. Takes no memory.
+    pub fn user_named(&self, name: &str) -> Option<u32>
+        ensures number { result ≡ user_named self.now name.now }
+        ensures there { IfSome result (λ n. n < length self.now.users) }
+    {
+        match place_of_name(&self.users, name) {
+            Some(n) => Some(n as u32),
+            None => None,
+        }
+    }
+
+    /// How many users there are: 1 to 64. Takes no memory.
+    pub fn users(&self) -> u32
+        ensures { result ≡ length self.now.users }
+    {
+        self.users.len() as u32
+    }
+
+    /// How many accounts there are: 1 to 16. Takes no memory.
+    pub fn accounts(&self) -> u32
+        ensures { result ≡ length self.now.accounts }
+    {
+        self.accounts.len() as u32
+    }
+
+    /// The user of a number, from 0. Takes no memory.
+    pub fn user(&self, n: u32) -> &User
+        requires { n < length self.now.users }
+        ensures value { result.now ≡ user_at self.now n }
+        ensures granted { All (λ g. g.account < length self.now.accounts) result.now.grants }
+    {
+        self.users[n as usize].user()
+    }
+
+    /// The id of the account of a number, from 0 (RFC 8620 section 1.6.2). Takes no memory.
+    pub fn account_id(&self, n: u32) -> &Text
+        requires { n < length self.now.accounts }
+        ensures { (d : SiteAccount) → result.now ≡ (slice_index_or self.now.accounts n d).id }
+    {
+        self.accounts[n as usize].id()
+    }
+
+    /// The time zones. Takes no memory.
+    pub fn zones(&self) -> &Arc<Zones>
+        ensures { arc_value result.now ≡ self.now.zones }
+    {
+        &self.zones
+    }
+
+    /// What the server's addresses begin with. Takes no memory.
+    pub(crate) fn base_url(&self) -> &Text
+        ensures { result.now ≡ self.now.base_url }
+    {
+        &self.base_url
+    }
+}
+
+fn place_of_token(users: &[SiteUser], token: &str) -> Option<usize>
+    ensures place { result ≡ position (λ u. bytes_eq u.token token.now) users.now }
+    ensures there { IfSome result (λ n. n < length users.now) }
+{
+    users.iter().position(|user| user.token().as_str() == token)
+}
+
+fn place_of_name(users: &[SiteUser], name: &str) -> Option<usize>
+    ensures place { result ≡ position (λ u. bytes_eq u.user.name name.now) users.now }
+    ensures there { IfSome result (λ n. n < length users.now) }
+{
+    users
+        .iter()
+        .position(|user| user.user().name.as_str() == name)
+}
