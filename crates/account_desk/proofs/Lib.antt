@@ -1,1 +1,3 @@
+pub mod FreshLemmas
 pub mod SoleLemmas
+pub mod TurnLemmas

@@ -1,6 +1,6 @@
 -- A call on an account of a sole desk is a call on a desk.
-use Rattle.std.proofs.Common.{◌≡◌, ◌≢◌, ℕ, ℤ, ◌+◌, ◌<◌, ◌≤◌, ◌^◌, ◌==◌, zero, suc, List, [], ◌∷◌, ◌++◌, Result, Ok, Err, IfOk, OnOk, OnErr, All, length, refl, sym, ap, ◌∙◌, subst, arith, append-nil, set}
-use Rattle.std.proofs.lemmas.List.{get_or-set_same, get_or-set_other, get_or_past, length-set}
+use Rattle.std.proofs.Common.{◌≡◌, ◌≢◌, ℕ, ℤ, ◌+◌, ◌<◌, ◌==◌, List, [], ◌++◌, Result, Ok, Err, IfOk, OnOk, OnErr, length, refl, sym, ap, ◌∙◌, subst, arith, append-nil, set}
+use Rattle.std.proofs.lemmas.List.{get_or-set_same, get_or-set_other, length-set}
 use Rattle.std.proofs.lemmas.List.Elements.{All-set, All-get_or, filter-append}
 use mathlib.Core.Logic.{dite}
 use native.Mathlib.Decide.{ℕ_discrete}
@@ -9,7 +9,7 @@ use Rattle.cal_model.specs.AddedEntries.{added_signed}
 use Rattle.cal_model.specs.Answer.{answer, added}
 use Rattle.cal_model.specs.Base.{Base}
 use Rattle.cal_model.specs.Batches.Session.{Called, StaysBeside}
-use Rattle.cal_model.specs.Headline.{IsSole, no_base}
+use Rattle.cal_model.specs.Headline.{no_base}
 use Rattle.cal_model.specs.Lock.{most_turns}
 use Rattle.cal_model.specs.Signed.{written_by}
 use Rattle.cal_model.specs.declared.call.Call.{Call}
@@ -59,10 +59,10 @@ module _ (accounts : List (Base × List Entry)) (turns k : ℕ) (a' : Base × Li
     last = λ j other. omega arith;
   }
 
-  pub sole_called : {E : Type 0} (r : Result Reply E) → a'.0 ≡ a.0 → IfOk r (λ x. x ≡ answer a.0 a.1 call (stamp_after turns moment))
+  called : {E : Type 0} (r : Result Reply E) → a'.0 ≡ a.0 → IfOk r (λ x. x ≡ answer a.0 a.1 call (stamp_after turns moment))
       → OnOk r (a'.1 ≡ a.1 ++ added a.0 a.1 call (stamp_after turns moment)) → OnErr r (a'.1 ≡ a.1) → turns < most_turns
       → Called (shown_of (accounts, turns)) (shown_of (set accounts k a', turns + 1)) k call moment (of_desk r)
-  sole_called (Ok reply) same replied grown unchanged few = (
+  called (Ok reply) same replied grown unchanged few = (
     few,
     record {
       beside = beside same;
@@ -73,24 +73,30 @@ module _ (accounts : List (Base × List Entry)) (turns k : ℕ) (a' : Base × Li
       seen = ap (λ (x : Base × List Entry). x.1) here ∙ grown;
     },
   )
-  sole_called (Err e) same replied grown unchanged few = (
+  called (Err e) same replied grown unchanged few = (
     few,
     record { beside = beside same; begins = ([], ap (λ (x : Base × List Entry). x.1) here ∙ (unchanged ∙ sym (append-nil a.1)), refl); later = omega arith },
   )
 
-  pub still_sole : {E : Type 0} (r : Result Reply E) → OnOk r (a'.1 ≡ a.1 ++ added a.0 a.1 call (stamp_after turns moment)) → OnErr r (a'.1 ≡ a.1)
-      → turns < most_turns → IsSoleDesk accounts turns → IsSoleDesk (set accounts k a') (turns + 1)
-  still_sole r grown unchanged few sole = record {
-    few = (let l = length-set accounts k a' in let f = sole.few in omega arith);
-    within = omega arith;
-    own = All-set IsOwn accounts k a' (still_own a.0 a.1 a'.1 call turns moment r grown unchanged (All-get_or IsOwn accounts k (no_base, []) there sole.own)) sole.own;
-  }
+  -- what the account promises of the call
+  pub record Acted {E : Type 0} (r : Result Reply E) (old : Base × List Entry) : Type 0 where
+    pub base : a'.0 ≡ old.0
+    pub reply : IfOk r (λ x. x ≡ answer old.0 old.1 call (stamp_after turns moment))
+    pub grown : OnOk r (a'.1 ≡ old.1 ++ added old.0 old.1 call (stamp_after turns moment))
+    pub unchanged : OnErr r (a'.1 ≡ old.1)
 
-own_at : (accounts : List (Base × List Entry)) (k : ℕ) → All IsOwn accounts → IsOwn (account_at accounts k)
-own_at [] k own = refl
-own_at (a ∷ accounts) zero own = own.0
-own_at (a ∷ accounts) (suc k) own = own_at accounts k own.1
+  pub sole_called : {E : Type 0} (r : Result Reply E) (old : Base × List Entry) → old ≡ account_at accounts k → Acted r old → turns < most_turns
+      → Called (shown_of (accounts, turns)) (shown_of (set accounts k a', turns + 1)) k call moment (of_desk r)
+  sole_called r old is acted few =
+      let x : Acted r (account_at accounts k) = subst (Acted r) is acted in
+      called r x.base x.reply x.grown x.unchanged few
 
--- every entry of such a desk is its own
-pub is_sole : (d : List (Base × List Entry) × ℕ) → IsSoleDesk d.0 d.1 → IsSole (shown_of d)
-is_sole d sole = λ k. own_at d.0 k sole.own
+  pub still_sole : {E : Type 0} (r : Result Reply E) (old : Base × List Entry) → old ≡ account_at accounts k → Acted r old → turns < most_turns
+      → IsSoleDesk accounts turns → IsSoleDesk (set accounts k a') (turns + 1)
+  still_sole r old is acted few sole =
+      let x : Acted r (account_at accounts k) = subst (Acted r) is acted in
+      record {
+        few = (let l = length-set accounts k a' in let f = sole.few in omega arith);
+        within = omega arith;
+        own = All-set IsOwn accounts k a' (still_own a.0 a.1 a'.1 call turns moment r x.grown x.unchanged (All-get_or IsOwn accounts k (no_base, []) there sole.own)) sole.own;
+      }

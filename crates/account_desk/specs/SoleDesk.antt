@@ -2,9 +2,10 @@
 use Rattle.std.specs.Prelude.{◌≡◌, ◌≤◌, ◌<◌, ◌^◌, ℕ, List, [], All, Result, Ok, Err, length, slice_index_or}
 use Rattle.cal_model.specs.Base.{Base}
 use Rattle.cal_model.specs.Batches.Session.{Shown}
-use Rattle.cal_model.specs.Headline.{no_base}
+use Rattle.cal_model.specs.Headline.{bases, no_base}
 use Rattle.cal_model.specs.Lock.{most_turns}
 use Rattle.cal_model.specs.Signed.{written_by}
+use Rattle.cal_model.specs.Sites.Configuration.{Site}
 use Rattle.cal_model.specs.declared.call.Reply.{Reply}
 use Rattle.cal_model.specs.declared.desk.DeskError.{DeskError}
 use Rattle.cal_model.specs.declared.desk.DeskError.TheVariants.{NoMemory}
@@ -24,6 +25,10 @@ shown_of d = record {
   author = λ k. 0;
   last = λ k. d.1;
 }
+
+-- the account of a number of a site, before any call
+abbrev pub fresh_account : Site → ℕ → Base × List Entry
+fresh_account site n = (slice_index_or (bases site) n no_base, [])
 
 -- what is true of every such desk
 pub record IsSoleDesk (accounts : List (Base × List Entry)) (turns : ℕ) : Type 0 where

@@ -22,3 +22,4 @@ mod patches;
 mod quotas;
 pub mod reporting_book;
 pub mod words;
+pub mod zones;
