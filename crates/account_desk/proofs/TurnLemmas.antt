@@ -27,7 +27,7 @@ module _ (base : Base) (author : ℕ) (h : List Entry) where
       let count = length-append (added_by base author h m) (flat_map (added_by base author h) ms) in
       omega arith
 
-  in_turn : (from late upto : ℕ) (ms : List Made) → length h ≤ from + count_added ms → Stand base author h from late upto ms → InTurn base author h from ms
+  pub in_turn : (from late upto : ℕ) (ms : List Made) → length h ≤ from + count_added ms → Stand base author h from late upto ms → InTurn base author h from ms
   in_turn from late upto [] full stand = tt
   in_turn from late upto (m ∷ ms) full stand =
       let next = m.reply.place + length (added_by base author h m) in
