@@ -26,3 +26,4 @@ pub mod reporting_book;
 #[cfg(test)]
 mod system_files;
 pub mod words;
+pub mod zones;
