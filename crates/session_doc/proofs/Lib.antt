@@ -1,0 +1,4 @@
+pub mod Granted
+pub mod ReadLists
+pub mod Restricting
+pub mod ZonesRead
