@@ -1,4 +1,2 @@
 pub mod Answering
-pub mod Lone
 pub mod Responding
-pub mod Turns

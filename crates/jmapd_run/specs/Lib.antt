@@ -1,4 +1,2 @@
-pub mod InTurn
-pub mod LoneDesk
 pub mod Texts
 pub mod Words
