@@ -27,5 +27,5 @@ module _ (site : Site) where
       → events ≡ text (site.base_url ++ codes "/events?types={types}&closeafter={closeafter}&ping={ping}")
       → primary ≡ primary_accounts site user.grants → upload ≡ text (site.base_url ++ codes "/upload/{accountId}") → state ≡ codes "1" → name ≡ user.name
       → object (members_of ((codes "accounts", object (members_of accounts)) ∷ (codes "apiUrl", api) ∷ (codes "capabilities", known) ∷ (codes "downloadUrl", download) ∷ (codes "eventSourceUrl", events)
-        ∷ (codes "primaryAccounts", primary) ∷ (codes "state", text state) ∷ (codes "uploadUrl", upload) ∷ (codes "username", text name) ∷ [])) ≡ session_object site user
+      ∷ (codes "primaryAccounts", primary) ∷ (codes "state", text state) ∷ (codes "uploadUrl", upload) ∷ (codes "username", text name) ∷ [])) ≡ session_object site user
   members_together user accounts api known download events primary upload state name a b c d e f g h i = rw (a, b, c, d, e, f, g, h, i) refl

@@ -6,7 +6,7 @@ ghost use Rattle.cal_model.specs.declared.site.Field.TheVariants.{Accounts};
 ghost use Rattle.session_doc.specs.Reports.{ReportsField};
 
 use crate::account::Account;
-use crate::configuration_error::ConfigurationError;
+use crate::configuration_error::{ConfigurationError, bad};
 use crate::parts::{list_at, text_at};
 use cal_model::site::Field;
 use cal_model::text::Text;
@@ -23,10 +23,10 @@ pub(crate) fn read_accounts(alloc: Global, tree: &Tree) -> Result<Vec<Account>, 
     ensures err { IfErr result (λ error. ReportsField Accounts error (accounts_in (data_of tree.now))) }
 {
     let Some(items) = list_at(tree, "accounts") else {
-        return Err(bad(0));
+        return Err(bad(Field::Accounts, 0));
     };
     if items.is_empty() || items.len() > MOST_ACCOUNTS {
-        return Err(bad(0));
+        return Err(bad(Field::Accounts, 0));
     }
     read_each(alloc, items)
 }
@@ -39,7 +39,7 @@ fn read_each(alloc: Global, items: &[Tree]) -> Result<Vec<Account>, Configuratio
     let mut accounts = Vec::with_capacity(alloc, items.len())?;
     for item in items {
         let Some(account) = read_account(&accounts, item)? else {
-            return Err(bad(accounts.len() as u32));
+            return Err(bad(Field::Accounts, accounts.len() as u32));
         };
         accounts.push(account)?;
     }
@@ -65,13 +65,4 @@ fn has_account(accounts: &[Account], id: &Text) -> bool
     accounts
         .iter()
         .any(|account| account.id().as_str() == id.as_str())
-}
-
-fn bad(index: u32) -> ConfigurationError
-    ensures { result ≡ ConfigurationError.Bad Accounts index }
-{
-    ConfigurationError::Bad {
-        field: Field::Accounts,
-        index,
-    }
 }

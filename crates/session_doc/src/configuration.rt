@@ -7,7 +7,7 @@ ghost use Rattle.session_doc.specs.Reports.{Reports};
 
 use crate::accounts::read_accounts;
 use crate::base_url::read_base_url;
-use crate::configuration_error::ConfigurationError;
+use crate::configuration_error::{ConfigurationError, bad};
 use crate::site::Site;
 use crate::users::read_users;
 use crate::zones::read_zones;
@@ -20,11 +20,6 @@ use std::sync::Arc;
 /// The most bytes of a configuration.
 const MOST_BYTES: usize = 1_000_000;
 
-const NOT_JSON: ConfigurationError = ConfigurationError::Bad {
-    field: Field::Json,
-    index: 0,
-};
-
 impl Site {
     /// Reads a configuration: a JSON object of at most 1,000,000 bytes, whose numbers are whole.
     ///
@@ -34,12 +29,12 @@ impl Site {
         ensures err { IfErr result (λ error. Reports error (configured bytes.now)) }
     {
         if bytes.len() > MOST_BYTES {
-            return Err(NOT_JSON);
+            return Err(bad(Field::Json, 0));
         }
         match read_tree(alloc, bytes) {
             Ok(tree) => read_value(alloc, &tree),
             Err(ReadError::NoMemory) => Err(ConfigurationError::NoMemory),
-            Err(ReadError::NotJson | ReadError::NotWhole) => Err(NOT_JSON),
+            Err(ReadError::NotJson | ReadError::NotWhole) => Err(bad(Field::Json, 0)),
         }
     }
 }
@@ -50,7 +45,7 @@ fn read_value(alloc: Global, tree: &Tree) -> Result<Site, ConfigurationError>
 {
     match tree {
         Tree::Object(_) => read_fields(alloc, tree),
-        _ => Err(NOT_JSON),
+        _ => Err(bad(Field::Json, 0)),
     }
 }
 

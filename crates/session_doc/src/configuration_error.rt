@@ -34,3 +34,10 @@ impl<T: Drop> From<AllocFailed<T>> for ConfigurationError {
         ConfigurationError::NoMemory
     }
 }
+
+/// The error of a field that is bad at this item. Takes no memory.
+pub(crate) fn bad(field: Field, index: u32) -> ConfigurationError
+    ensures { result ≡ ConfigurationError.Bad field index }
+{
+    ConfigurationError::Bad { field, index }
+}

@@ -77,14 +77,14 @@ impl Site {
         }
     }
 
-    /// How many users there are: 1 to 64. Takes no memory.
+    /// How many users there are, at most 64. Takes no memory.
     pub fn users(&self) -> u32
         ensures { result ≡ length self.now.users }
     {
         self.users.len() as u32
     }
 
-    /// How many accounts there are: 1 to 16. Takes no memory.
+    /// How many accounts there are, at most 16. Takes no memory.
     pub fn accounts(&self) -> u32
         ensures { result ≡ length self.now.accounts }
     {

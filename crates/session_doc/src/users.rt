@@ -12,7 +12,7 @@ ghost use Rattle.cal_model.specs.declared.site.Field.TheVariants.{Users};
 ghost use Rattle.session_doc.specs.Reports.{ReportsField};
 
 use crate::account::Account;
-use crate::configuration_error::ConfigurationError;
+use crate::configuration_error::{ConfigurationError, bad};
 use crate::grants::read_grants;
 use crate::parts::{list_at, text_at};
 use crate::site_user::SiteUser;
@@ -40,10 +40,10 @@ pub(crate) fn read_users(
     ensures err { IfErr result (λ error. ReportsField Users error (users_in accounts.now (data_of tree.now))) }
 {
     let Some(items) = list_at(tree, "users") else {
-        return Err(bad(0));
+        return Err(bad(Field::Users, 0));
     };
     if items.is_empty() || items.len() > MOST_USERS {
-        return Err(bad(0));
+        return Err(bad(Field::Users, 0));
     }
     read_each(alloc, accounts, items)
 }
@@ -61,7 +61,7 @@ fn read_each(
     let mut users = Vec::with_capacity(alloc, items.len())?;
     for item in items {
         let Some(user) = read_user(alloc, accounts, &users, item)? else {
-            return Err(bad(users.len() as u32));
+            return Err(bad(Field::Users, users.len() as u32));
         };
         users.push(user)?;
     }
@@ -154,13 +154,4 @@ fn has_token(users: &[SiteUser], token: &Text) -> bool
     users
         .iter()
         .any(|user| user.token().as_str() == token.as_str())
-}
-
-fn bad(index: u32) -> ConfigurationError
-    ensures { result ≡ ConfigurationError.Bad Users index }
-{
-    ConfigurationError::Bad {
-        field: Field::Users,
-        index,
-    }
 }

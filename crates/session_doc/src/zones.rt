@@ -5,7 +5,7 @@ ghost use Rattle.cal_model.specs.TreeData.{data_of};
 ghost use Rattle.session_doc.specs.LeadingZones.{leading_zones};
 ghost use Rattle.session_doc.specs.Reports.{ReportsField};
 
-use crate::configuration_error::ConfigurationError;
+use crate::configuration_error::{ConfigurationError, bad};
 use crate::parts::{optional_list_at, text_at};
 use cal_model::site::Field;
 use cal_model::text::Text;
@@ -22,10 +22,10 @@ pub(crate) fn read_zones(alloc: Global, tree: &Tree) -> Result<Zones, Configurat
     ensures err { IfErr result (λ error. ReportsField Field.Zones error (zones_in (data_of tree.now))) }
 {
     let Some(items) = optional_list_at(tree, "zones") else {
-        return Err(bad(0));
+        return Err(bad(Field::Zones, 0));
     };
     if items.len() > MOST_ZONES {
-        return Err(bad(0));
+        return Err(bad(Field::Zones, 0));
     }
     read_each(alloc, items)
 }
@@ -39,12 +39,12 @@ fn read_each(alloc: Global, items: &[Tree]) -> Result<Zones, ConfigurationError>
     match Zones::read(alloc, &texts) {
         Ok(zones) => {
             if texts.len() < items.len() {
-                Err(bad(texts.len() as u32))
+                Err(bad(Field::Zones, texts.len() as u32))
             } else {
                 Ok(zones)
             }
         }
-        Err(ZoneError::BadZone { index }) => Err(bad(index)),
+        Err(ZoneError::BadZone { index }) => Err(bad(Field::Zones, index)),
         Err(ZoneError::NoMemory) => Err(ConfigurationError::NoMemory),
     }
 }
@@ -70,13 +70,4 @@ fn zone_text(item: &Tree) -> Result<Option<(Text, Text)>, AllocError>
         return Ok(None);
     };
     Ok(Some((name.copy()?, rule.copy()?)))
-}
-
-fn bad(index: u32) -> ConfigurationError
-    ensures { result ≡ ConfigurationError.Bad Field.Zones index }
-{
-    ConfigurationError::Bad {
-        field: Field::Zones,
-        index,
-    }
 }
