@@ -1,5 +1,6 @@
 //! An account.
 ghost use Rattle.std.specs.Prelude.{◌≡◌, ◌++◌, ◌≤◌, [], ℕ, List, Some, None, true, IfOk, OnOk, OnErr, flat_map, length, map};
+ghost use Rattle.std.specs.Arc.{arc_value};
 ghost use Rattle.cal_model.specs.Answer.{answer_to, entries_from, get_calendars, refused, set_answer};
 ghost use Rattle.cal_model.specs.Base.{Base};
 ghost use Rattle.cal_model.specs.Gets.{are_calendar_properties};
@@ -27,6 +28,8 @@ use cal_model::text::Text;
 use cal_model::tree::Member;
 use std::alloc::{AllocError, Global};
 use std::marker::Model;
+use std::sync::Arc;
+use zone_table::Zones;
 
 /// The most ids of a get, and the most objects where all are asked for (RFC 8620 section 2, `maxObjectsInGet`).
 const MAX_OBJECTS_IN_GET: usize = 500;
@@ -36,13 +39,14 @@ const MAX_OBJECTS_IN_GET: usize = 500;
 pub struct Account {
     alloc: Global,
     id: Text,
-    zones: Pairs,
+    zones: Arc<Zones>,
     entries: Vec<Entry>,
     tally: Tally,
 }
 
 impl Model for Account {
     ghost use Rattle.std.specs.Prelude.{List};
+    ghost use Rattle.std.specs.Arc.{arc_value};
     ghost use Rattle.std.specs.Coded.{codes};
     ghost use Rattle.account_core.specs.Tally.{Tallies};
     ghost use Rattle.cal_model.specs.Base.{Base};
@@ -54,20 +58,20 @@ impl Model for Account {
 
     ghost coded = { Prim.hlevel (codes, data_code) };
 
-    ghost view = { λ a. (record { account_id = a.id; zones = a.zones }, a.entries.items) };
+    ghost view = { λ a. (record { account_id = a.id; zones = arc_value a.zones }, a.entries.items) };
 
     ghost invariant = { λ a. Tallies a.tally (changes_of a.entries.items) };
 }
 
 impl Account {
-    /// An account of this id, with no zones and no entries. Takes no memory.
-    pub fn open(alloc: Global, id: Text) -> Result<Account, AllocError>
-        ensures { IfOk result (λ a. a ≡ (record { account_id = id; zones = [] }, [])) }
+    /// An account of this id, with these zones and no entries. Takes no memory.
+    pub fn open(alloc: Global, id: Text, zones: Arc<Zones>) -> Result<Account, AllocError>
+        ensures { IfOk result (λ a. a ≡ (record { account_id = id; zones = arc_value zones }, [])) }
     {
         Ok(Account {
             alloc,
             id,
-            zones: Pairs::new(Vec::new(alloc)),
+            zones,
             entries: Vec::new(alloc),
             tally: Tally::new(),
         })

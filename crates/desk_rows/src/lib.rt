@@ -8,3 +8,4 @@ mod desks;
 pub mod pair_desk;
 #[cfg(test)]
 mod quotas;
+pub mod zones;

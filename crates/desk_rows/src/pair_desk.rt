@@ -1,13 +1,15 @@
 //! A desk over two accounts, so that tests see what a batch asks of a desk.
 ghost use Rattle.std.specs.Prelude.{◌≡◌, IfOk};
-ghost use Rattle.jmapd_run.specs.LoneDesk.{of_desk};
+ghost use Rattle.account_desk.specs.SoleDesk.{of_desk};
 
+use crate::zones::no_zones;
 use account_core::account::Account;
 use cal_model::book::Book;
 use cal_model::call::{Call, Reply};
 use cal_model::desk::{Desk, DeskError};
 use cal_model::text::Text;
 use std::alloc::{AllocError, Global};
+use std::sync::Arc;
 
 /// The most calls that a desk makes.
 const MOST_TURNS: u64 = 1 << 40;
@@ -30,9 +32,10 @@ impl PairDesk {
     ) -> Result<PairDesk, AllocError>
         ensures { IfOk result (λ d. d.calls_left ≡ calls) }
     {
+        let zones = no_zones(alloc)?;
         Ok(PairDesk {
-            first: Account::open(alloc, first)?,
-            second: Account::open(alloc, second)?,
+            first: Account::open(alloc, first, Arc::try_clone(&zones)?)?,
+            second: Account::open(alloc, second, zones)?,
             calls_left: calls,
         })
     }

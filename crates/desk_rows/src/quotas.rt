@@ -1,4 +1,5 @@
 //! How much an account holds (RFC 8620 section 5.3, `overQuota`).
+use crate::zones::no_zones;
 use account_core::account::Account;
 use cal_model::book::Book;
 use cal_model::call::Call;
@@ -69,7 +70,7 @@ fn add(
 
 /// An account with so many calendars of one name.
 fn filled(alloc: Global, count: u32, name: &str) -> Result<Account, Fail> {
-    let mut account = Account::open(alloc, Text::from_str(alloc, "A1")?)?;
+    let mut account = Account::open(alloc, Text::from_str(alloc, "A1")?, no_zones(alloc)?)?;
     add(alloc, &mut account, 500, name, count / 500)?;
     add(alloc, &mut account, count % 500, name, 1)?;
     Ok(account)

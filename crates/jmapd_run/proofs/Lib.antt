@@ -1,4 +1,1 @@
-pub mod Answering
-pub mod Lone
-pub mod Responding
-pub mod Turns
+

@@ -1,4 +1,3 @@
-pub mod InTurn
-pub mod LoneDesk
-pub mod Texts
-pub mod Words
+pub mod Starts
+pub mod Runs
+pub mod Shown

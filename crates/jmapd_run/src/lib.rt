@@ -1,6 +1,7 @@
-//! What the program `jmapd` runs: the commands, over any input, output and clock.
+//! What the program `jmapd` runs: the commands, over any opener, input, output and clock.
 #![tactic(auto)]
 
-mod desk;
-pub mod law;
+mod batch;
 pub mod run;
+mod start;
+mod stdio;

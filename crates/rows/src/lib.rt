@@ -18,4 +18,3 @@ mod patches;
 pub mod reporting_book;
 #[cfg(test)]
 mod system_files;
-pub mod words;

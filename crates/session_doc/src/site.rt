@@ -77,14 +77,14 @@ impl Site {
         }
     }
 
-    /// How many users there are: 1 to 64. Takes no memory.
+    /// How many users there are, at most 64. Takes no memory.
     pub fn users(&self) -> u32
         ensures { result ≡ length self.now.users }
     {
         self.users.len() as u32
     }
 
-    /// How many accounts there are: 1 to 16. Takes no memory.
+    /// How many accounts there are, at most 16. Takes no memory.
     pub fn accounts(&self) -> u32
         ensures { result ≡ length self.now.accounts }
     {
@@ -106,6 +106,14 @@ impl Site {
         ensures { (d : SiteAccount) → result.now ≡ (slice_index_or self.now.accounts n d).id }
     {
         self.accounts[n as usize].id()
+    }
+
+    /// The name of the account of a number, from 0. Takes no memory.
+    pub(crate) fn account_name(&self, n: u32) -> &Text
+        requires { n < length self.now.accounts }
+        ensures { (d : SiteAccount) → result.now ≡ (slice_index_or self.now.accounts n d).name }
+    {
+        self.accounts[n as usize].name()
     }
 
     /// The time zones. Takes no memory.

@@ -1,0 +1,182 @@
+-- Equal requests on histories with equal changes have equal replies, and leave histories with equal changes.
+use Rattle.std.proofs.Common.{◌≡◌, ◌≢◌, ℕ, ℤ, ◌==◌, List, [], ◌∷◌, ◌++◌, Bool, true, false, Option, Some, None, flat_map, map, refl, sym, ap, ◌∙◌, subst, append-nil, if◌then◌else◌}
+use Rattle.std.proofs.lemmas.List.{map-append}
+use Rattle.std.proofs.lemmas.Grind.{flat_map-append}
+use Rattle.cal_model.specs.Answer.{answer, added}
+use Rattle.cal_model.specs.Base.{Base}
+use Rattle.cal_model.specs.Batches.Asked.{Asked, asked, refused}
+use Rattle.cal_model.specs.Batches.Batch.{Fit, FollowsFrom, Step, created_in, error_response, given_ids, made_in, meaning_after, reply_response, response_object, response_with, response_with_ids, responses_in}
+use Rattle.cal_model.specs.Batches.Meaning.{Meaning, refuses, echoes, calls, meaning_of_method}
+use Rattle.cal_model.specs.Batches.Methods.{method_used}
+use Rattle.cal_model.specs.Batches.Reply.{Replies}
+use Rattle.cal_model.specs.Batches.Session.{Made, stamp_of}
+use Rattle.cal_model.specs.Data.{Data}
+use Rattle.cal_model.specs.Headline.{fresh_desk}
+use Rattle.cal_model.specs.History.{changes_of}
+use Rattle.cal_model.specs.Parts.{some_of}
+use Rattle.cal_model.specs.declared.call.Call.{Call}
+use Rattle.cal_model.specs.declared.call.MethodError.{MethodError}
+use Rattle.cal_model.specs.declared.call.Reply.{Reply}
+use Rattle.cal_model.specs.declared.entry.Change.{Change}
+use Rattle.cal_model.specs.declared.entry.Entry.{Entry}
+use Rattle.cal_model.specs.declared.request.Invocation.{Invocation}
+use Rattle.cal_model.specs.declared.request.Request.{Request}
+use Rattle.cal_model.specs.declared.response.Response.{Response}
+use Rattle.cal_model.specs.declared.tree.Tree.TheVariants.{Object}
+use Rattle.cal_model.specs.declared.user.User.{User}
+use Rattle.account_desk.specs.Determined.{RepliesAreDetermined}
+use Rattle.account_desk.proofs.AnswerLemmas.{same_answer, same_added}
+use Rattle.account_desk.proofs.PlayLemmas.{Played, adds, after, after-append, longer, next, none_yet, played, played_first, played_rest}
+
+-- the histories of every account have the same changes
+abbrev pub SameChanges : (ℕ → List Entry) → (ℕ → List Entry) → Type 0
+SameChanges now now' = (k : ℕ) → changes_of (now k) ≡ changes_of (now' k)
+
+same_longer : (here : Bool) (h h' more more' : List Entry) → changes_of h ≡ changes_of h' → changes_of more ≡ changes_of more'
+    → changes_of (if here then h ++ more else h) ≡ changes_of (if here then h' ++ more' else h')
+same_longer true h h' more more' same same_more =
+    map-append (λ (e : Entry). e.change) h more ∙ ((λ i. same i ++ same_more i) ∙ sym (map-append (λ (e : Entry). e.change) h' more'))
+same_longer false h h' more more' same same_more = same
+
+-- what the step led to: the response, the created ids, and the calls
+abbrev created_by : Option Made → List (List ℕ × List ℕ)
+created_by o = flat_map (λ (m : Made). m.reply.created) (some_of o)
+
+module _ (base : ℕ → Base) where
+  module _ (now now' : ℕ → List Entry) (same : SameChanges now now') where
+    module _ (m m' : Made) (account : m.account ≡ m'.account) (call : m.call ≡ m'.call) (moment : m.moment ≡ m'.moment) where
+      same_reply : Played base now (m ∷ []) → Played base now' (m' ∷ []) → m.reply ≡ m'.reply
+      same_reply p p' =
+          let k : ℕ = m.account in
+          let here : answer (base k) (now k) m.call (stamp_of (base k) 0 m) ≡ answer (base k) (now' k) m.call (stamp_of (base k) 0 m') =
+          same_answer (base k) (now k) (now' k) (same k) m.call (stamp_of (base k) 0 m) (stamp_of (base k) 0 m') moment in
+          let there : answer (base k) (now' k) m.call (stamp_of (base k) 0 m') ≡ answer (base m'.account) (now' m'.account) m'.call (stamp_of (base m'.account) 0 m') =
+          λ i. answer (base (account i)) (now' (account i)) (call i) (stamp_of (base (account i)) 0 m') in
+          p.0 ∙ (here ∙ (there ∙ sym p'.0))
+
+      same_adds : changes_of (adds base now m) ≡ changes_of (adds base now' m')
+      same_adds =
+          let k : ℕ = m.account in
+          let here : changes_of (added (base k) (now k) m.call (stamp_of (base k) 0 m)) ≡ changes_of (added (base k) (now' k) m.call (stamp_of (base k) 0 m')) =
+          same_added (base k) (now k) (now' k) (same k) m.call (stamp_of (base k) 0 m) (stamp_of (base k) 0 m') moment in
+          let there : changes_of (added (base k) (now' k) m.call (stamp_of (base k) 0 m')) ≡ changes_of (adds base now' m') =
+          λ i. changes_of (added (base (account i)) (now' (account i)) (call i) (stamp_of (base (account i)) 0 m')) in
+          here ∙ there
+
+      same_next : SameChanges (next base now m) (next base now' m')
+      same_next k =
+          subst (λ (a : ℕ). changes_of (longer now m.account (adds base now m) k) ≡ changes_of (longer now' a (adds base now' m') k)) account
+          (same_longer (k == m.account) (now k) (now' k) (adds base now m) (adds base now' m') (same k) same_adds)
+
+    -- what two steps led to, where they were made from these histories
+    record Alike (s s' : Step) : Type 0 where
+      pub response : s.response ≡ s'.response
+      pub created : created_by s.made ≡ created_by s'.made
+      pub same_after : SameChanges (after base now (some_of s.made)) (after base now' (some_of s'.made))
+
+    -- what calls that were made, or none, led to
+    abbrev AlikeCalls : Option Made → Option Made → Type 0
+    AlikeCalls o o' = (created_by o ≡ created_by o') × SameChanges (after base now (some_of o)) (after base now' (some_of o'))
+
+    both_led : (o o' x x' : Option Made) → o ≡ x → o' ≡ x' → AlikeCalls x x' → AlikeCalls o o'
+    both_led o o' x x' is is' led = subst (λ (q : Option Made). AlikeCalls q o') (sym is) (subst (λ (q : Option Made). AlikeCalls x q) (sym is') led)
+
+    one_call : (o o' : Option Made) (m m' : Made) → o ≡ Some m → o' ≡ Some m' → m.account ≡ m'.account → m.call ≡ m'.call → m.moment ≡ m'.moment
+        → Played base now (some_of o) → Played base now' (some_of o') → (m.reply ≡ m'.reply) × AlikeCalls o o'
+    one_call o o' m m' is is' account call moment p p' =
+        let reply : m.reply ≡ m'.reply =
+        same_reply m m' account call moment (subst (λ (q : Option Made). Played base now (some_of q)) is p) (subst (λ (q : Option Made). Played base now' (some_of q)) is' p') in
+        (reply, both_led o o' (Some m) (Some m') is is' (ap (λ (r : Reply). r.created ++ []) reply, same_next m m' account call moment))
+
+    module _ (moment : ℤ) (s s' : Step) (invoked : s.invocation ≡ s'.invocation) where
+      none_alike : s.made ≡ None → s'.made ≡ None → s.response ≡ s'.response → Alike s s'
+      none_alike is is' response =
+          let led : AlikeCalls s.made s'.made = both_led s.made s'.made None None is is' (refl, same) in
+          record { response = response; created = led.0; same_after = led.1 }
+
+      alike : (μ : Meaning) → FollowsFrom moment μ s → FollowsFrom moment μ s' → Played base now (some_of s.made) → Played base now' (some_of s'.made) → Alike s s'
+      alike (refuses e) f f' p p' = none_alike f.0 f'.0 (f.1 ∙ (ap (λ (c : Invocation). error_response c.call_id e) invoked ∙ sym f'.1))
+      alike (echoes arguments) f f' p p' = none_alike f.0 f'.0 (f.1 ∙ (ap (λ (c : Invocation). response_with c.name c.call_id (Object arguments)) invoked ∙ sym f'.1))
+      alike (calls account call) f f' p p' =
+          let both = one_call s.made s'.made f.0 f'.0 f.1 f'.1 (f.2 ∙ sym f'.2) (f.3 ∙ sym f'.3) (f.4 ∙ sym f'.4) p p' in
+          let reply : f.0.reply ≡ f'.0.reply = both.0 in
+          let responses : reply_response s.invocation.name s.invocation.call_id f.0.reply.arguments f.0.reply.error
+          ≡ reply_response s'.invocation.name s'.invocation.call_id f'.0.reply.arguments f'.0.reply.error =
+          λ i. reply_response (invoked i).name (invoked i).call_id (reply i).arguments (reply i).error in
+          record { response = f.5 ∙ (responses ∙ sym f'.5); created = both.1.0; same_after = both.1.1 }
+
+responses_more : (before : List Step) (s : Step) → responses_in (before ++ s ∷ []) ≡ responses_in before ++ s.response ∷ []
+responses_more before s = map-append (λ (t : Step). t.response) before (s ∷ [])
+
+created_split : (xs ys : List Step) → created_in (xs ++ ys) ≡ created_in xs ++ created_in ys
+created_split xs ys =
+    ap (flat_map (λ (m : Made). m.reply.created)) (flat_map-append (λ (t : Step). some_of t.made) xs ys)
+    ∙ flat_map-append (λ (m : Made). m.reply.created) (made_in xs) (made_in ys)
+
+created_one : (s : Step) → created_in (s ∷ []) ≡ created_by s.made
+created_one s = ap (flat_map (λ (m : Made). m.reply.created)) (append-nil (some_of s.made))
+
+created_first : (s : Step) (ss : List Step) → created_in (s ∷ ss) ≡ created_by s.made ++ created_in ss
+created_first s ss = flat_map-append (λ (m : Made). m.reply.created) (some_of s.made) (made_in ss)
+
+module _ (base : ℕ → Base) (user : User) (request : Request) (moment : ℤ) where
+  -- what two lists of steps led to, where they were made from these histories
+  record AllAlike (now now' : ℕ → List Entry) (ss ss' : List Step) : Type 0 where
+    pub responses : responses_in ss ≡ responses_in ss'
+    pub created : created_in ss ≡ created_in ss'
+    pub same_after : SameChanges (after base now (made_in ss)) (after base now' (made_in ss'))
+
+  same_meaning : (before before' : List Step) (c c' : Invocation) → responses_in before ≡ responses_in before' → created_in before ≡ created_in before' → c ≡ c'
+      → meaning_after user request moment before c ≡ meaning_after user request moment before' c'
+  same_meaning before before' c c' responses created invoked =
+      λ i. meaning_of_method user.grants (given_ids request ++ created i) (responses i) (invoked i).arguments (method_used request.using (invoked i).name)
+
+  all_alike : (now now' : ℕ → List Entry) (before before' ss ss' : List Step) → SameChanges now now' → responses_in before ≡ responses_in before' → created_in before ≡ created_in before'
+      → map (λ (s : Step). s.invocation) ss ≡ map (λ (s : Step). s.invocation) ss' → Fit user request moment before ss → Fit user request moment before' ss'
+      → Played base now (made_in ss) → Played base now' (made_in ss') → AllAlike now now' ss ss'
+  all_alike now now' before before' [] [] same responses created invoked f f' p p' = record { responses = refl; created = refl; same_after = same }
+  all_alike now now' before before' [] (s' ∷ ss') same responses created invoked f f' p p' = absurd (cc)
+  all_alike now now' before before' (s ∷ ss) [] same responses created invoked f f' p p' = absurd (cc)
+  all_alike now now' before before' (s ∷ ss) (s' ∷ ss') same responses created invoked f f' p p' =
+      let first : s.invocation ≡ s'.invocation = cc in
+      let rest : map (λ (t : Step). t.invocation) ss ≡ map (λ (t : Step). t.invocation) ss' = cc in
+      let μ : Meaning = meaning_after user request moment before s.invocation in
+      let means = same_meaning before before' s.invocation s'.invocation responses created first in
+      let one : Alike base now now' same s s' =
+      alike base now now' same moment s s' first μ f.0 (subst (λ (ν : Meaning). FollowsFrom moment ν s') (sym means) f'.0)
+      (played_first base now (some_of s.made) (made_in ss) p) (played_first base now' (some_of s'.made) (made_in ss') p') in
+      let after_one : ℕ → List Entry = after base now (some_of s.made) in
+      let after_one' : ℕ → List Entry = after base now' (some_of s'.made) in
+      let more : AllAlike after_one after_one' ss ss' =
+      all_alike after_one after_one' (before ++ s ∷ []) (before' ++ s' ∷ []) ss ss' one.same_after
+      (responses_more before s ∙ ((λ i. responses i ++ one.response i ∷ []) ∙ sym (responses_more before' s')))
+      (created_split before (s ∷ []) ∙ ((λ i. created i ++ (created_one s ∙ (one.created ∙ sym (created_one s'))) i) ∙ sym (created_split before' (s' ∷ []))))
+      rest f.1 f'.1 (played_rest base now (some_of s.made) (made_in ss) p) (played_rest base now' (some_of s'.made) (made_in ss') p') in
+      record {
+        responses = λ i. one.response i ∷ more.responses i;
+        created = created_first s ss ∙ ((λ i. one.created i ++ more.created i) ∙ sym (created_first s' ss'));
+        same_after = λ k. subst (λ (h : ℕ → List Entry). changes_of (h k) ≡ changes_of (after base now' (made_in (s' ∷ ss')) k)) (sym (after-append base now (some_of s.made) (made_in ss)))
+            (subst (λ (h : ℕ → List Entry). changes_of (after base after_one (made_in ss) k) ≡ changes_of (h k)) (sym (after-append base now' (some_of s'.made) (made_in ss'))) (more.same_after k));
+      }
+
+module _ (base : ℕ → Base) (user : User) (moment : ℤ) (now now' : ℕ → List Entry) (same : SameChanges now now') where
+  -- two replies to the same
+  pub same_replies : (a : Asked) (ms ms' : List Made) (x y : Data) → Replies user moment a ms x → Replies user moment a ms' y → Played base now ms → Played base now' ms'
+      → (x ≡ y) × SameChanges (after base now ms) (after base now' ms')
+  same_replies (asked r) ms ms' x y f f' p p' =
+      let led : AllAlike base user r moment now now' f.0 f'.0 =
+      all_alike base user r moment now now' [] [] f.0 f'.0 same refl refl (sym f.1 ∙ f'.1) f.2 f'.2 (subst (Played base now) f.3 p) (subst (Played base now') f'.3 p') in (
+        f.4 ∙ ((λ i. response_with_ids r.created_ids (led.created i) (led.responses i)) ∙ sym f'.4),
+        λ k. subst (λ (l : List Made). changes_of (after base now l k) ≡ changes_of (after base now' ms' k)) (sym f.3)
+        (subst (λ (l : List Made). changes_of (after base now (made_in f.0) k) ≡ changes_of (after base now' l k)) (sym f'.3) (led.same_after k)),
+      )
+  same_replies (refused e) ms ms' x y f f' p p' = (
+    f.1 ∙ sym f'.1,
+    λ k. subst (λ (l : List Made). changes_of (after base now l k) ≡ changes_of (after base now' ms' k)) (sym f.0)
+    (subst (λ (l : List Made). changes_of (now k) ≡ changes_of (after base now' l k)) (sym f'.0) (same k)),
+  )
+
+pub replies_determined : RepliesAreDetermined
+replies_determined site user moment a x y first second =
+    (same_replies (fresh_desk site).base user moment none_yet none_yet (λ k. refl) a first.made second.made x y first.replied second.replied
+    (played site first.desk first.made first.session first.sole) (played site second.desk second.made second.session second.sole)).0

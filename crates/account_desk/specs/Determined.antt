@@ -1,0 +1,39 @@
+-- Nothing of a reply is open where a desk has its accounts for itself.
+use Rattle.std.specs.Prelude.{◌≡◌, ℕ, ℤ, List, ◌++◌, Option, Some}
+use Rattle.cal_model.specs.Batches.Asked.{Asked}
+use Rattle.cal_model.specs.Batches.Reply.{Replies}
+use Rattle.cal_model.specs.Batches.Session.{Made, Session, Shown}
+use Rattle.cal_model.specs.Data.{Data}
+use Rattle.cal_model.specs.Headline.{IsSole, fresh_desk}
+use Rattle.cal_model.specs.Http.Turns.{AllFit, Ticked, Turn, all_bytes, all_made, all_moments, messages_of}
+use Rattle.cal_model.specs.Sites.Configuration.{Site}
+use Rattle.cal_model.specs.declared.user.User.{User}
+
+-- a reply to what was asked, on fresh accounts and with nobody else taking part
+pub record RepliesAlone (site : Site) (user : User) (moment : ℤ) (a : Asked) (reply : Data) : Type 0 where
+  pub made : List Made
+  pub desk : Shown
+  pub session : Session (fresh_desk site) desk made
+  pub sole : IsSole desk
+  pub replied : Replies user moment a made reply
+
+-- there is one such reply at most
+abbrev pub RepliesAreDetermined : Type 0
+RepliesAreDetermined = (site : Site) (user : User) (moment : ℤ) (a : Asked) (x y : Data)
+    → RepliesAlone site user moment a x → RepliesAlone site user moment a y → x ≡ y
+
+-- These turns are the answered messages of a connection on fresh accounts, with nobody else taking part, by a clock that was to give
+-- these moments; maybe the calls of a further message were made.
+pub record ServesAlone (site : Site) (most : ℕ) (clock : ℕ → ℤ) (turns : List Turn) : Type 0 where
+  pub fit : AllFit site most 0 turns
+  pub unwritten : List Turn
+  pub moments : Option (ℕ → ℤ)
+  pub ticked : Ticked (Some clock) moments (all_moments (turns ++ unwritten))
+  pub desk : Shown
+  pub session : Session (fresh_desk site) desk (all_made (turns ++ unwritten))
+  pub sole : IsSole desk
+
+-- equal messages have equal responses
+abbrev pub ConnectionsAreDetermined : Type 0
+ConnectionsAreDetermined = (site : Site) (most : ℕ) (clock : ℕ → ℤ) (xs ys : List Turn) → ServesAlone site most clock xs → ServesAlone site most clock ys
+    → messages_of xs ≡ messages_of ys → all_bytes xs ≡ all_bytes ys

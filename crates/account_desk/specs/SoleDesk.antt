@@ -1,0 +1,42 @@
+-- What contracts see of a desk that has its accounts for itself.
+use Rattle.std.specs.Prelude.{◌≡◌, ◌≤◌, ◌<◌, ◌^◌, ℕ, List, [], All, Result, Ok, Err, length, slice_index_or}
+use Rattle.cal_model.specs.Base.{Base}
+use Rattle.cal_model.specs.Batches.Session.{Shown}
+use Rattle.cal_model.specs.Headline.{bases, no_base}
+use Rattle.cal_model.specs.Lock.{most_turns}
+use Rattle.cal_model.specs.Signed.{written_by}
+use Rattle.cal_model.specs.Sites.Configuration.{Site}
+use Rattle.cal_model.specs.declared.call.Reply.{Reply}
+use Rattle.cal_model.specs.declared.desk.DeskError.{DeskError}
+use Rattle.cal_model.specs.declared.desk.DeskError.TheVariants.{NoMemory}
+use Rattle.cal_model.specs.declared.entry.Entry.{Entry}
+
+-- the base and the entries of the account of a number; none are there where it has no such account
+abbrev pub account_at : List (Base × List Entry) → ℕ → Base × List Entry
+account_at accounts k = slice_index_or accounts k (no_base, [])
+
+-- each call is the desk's and its account's next turn
+abbrev pub shown_of : List (Base × List Entry) × ℕ → Shown
+shown_of d = record {
+  accounts = length d.0;
+  turns = d.1;
+  base = λ k. (account_at d.0 k).0;
+  seen = λ k. (account_at d.0 k).1;
+  author = λ k. 0;
+  last = λ k. d.1;
+}
+
+-- the account of a number of a site, before any call
+abbrev pub fresh_account : Site → ℕ → Base × List Entry
+fresh_account site n = (slice_index_or (bases site) n no_base, [])
+
+-- what is true of every such desk
+pub record IsSoleDesk (accounts : List (Base × List Entry)) (turns : ℕ) : Type 0 where
+  pub few : length accounts < 2 ^ 32
+  pub within : turns ≤ most_turns
+  pub own : All (λ a. written_by 0 a.1 ≡ a.1) accounts
+
+-- the reply of an account as the desk's
+abbrev pub of_desk : {E : Type 0} → Result Reply E → Result Reply DeskError
+of_desk (Ok reply) = Ok reply
+of_desk (Err e) = Err NoMemory

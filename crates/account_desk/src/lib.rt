@@ -1,0 +1,5 @@
+//! What answers calls on the accounts of a site.
+#![tactic(auto)]
+
+pub mod laws;
+pub mod sole_desk;

@@ -1,0 +1,102 @@
+//! A desk that has its accounts for itself.
+ghost use Rattle.std.specs.Prelude.{◌≡◌, ◌<◌, IfOk, length};
+ghost use Rattle.account_desk.specs.SoleDesk.{fresh_account, of_desk, shown_of};
+ghost use Rattle.cal_model.specs.Headline.{IsSole, fresh_desk};
+
+use account_core::account::Account;
+use cal_model::book::Book;
+use cal_model::call::{Call, Reply};
+use cal_model::desk::{Desk, DeskError};
+use session_doc::Site;
+use std::alloc::{AllocError, Global};
+use std::marker::Model;
+use std::sync::Arc;
+
+/// The author number of all entries.
+const AUTHOR: u32 = 0;
+/// The most calls that a desk makes.
+const MOST_TURNS: u64 = 1 << 40;
+
+/// A desk that has its accounts for itself, so that all their entries are its own. Contracts see the base and the entries of
+/// each account, and how many calls were made.
+#[derive(Drop)]
+pub struct SoleDesk {
+    accounts: Vec<Account>,
+    turns: u64,
+}
+
+impl Model for SoleDesk {
+    ghost use Rattle.std.specs.Prelude.{ℕ, List};
+    ghost use Rattle.std.specs.Coded.{codes};
+    ghost use Rattle.account_desk.specs.SoleDesk.{IsSoleDesk};
+    ghost use Rattle.cal_model.specs.Base.{Base};
+    ghost use Rattle.cal_model.specs.DataCode.{data_code};
+    ghost use Rattle.cal_model.specs.declared.entry.Entry.{Entry};
+
+    ghost Value = { List (Base × List Entry) × ℕ };
+
+    ghost coded = { Prim.hlevel (codes, data_code) };
+
+    ghost view = { λ a. (a.accounts.items, a.turns) };
+
+    ghost invariant = { λ a. IsSoleDesk a.accounts.items a.turns };
+}
+
+impl SoleDesk {
+    /// A desk over the accounts of a site, in its order, before any call. Takes memory for the accounts and their ids.
+    pub fn open(alloc: Global, site: &Site) -> Result<SoleDesk, AllocError>
+        ensures { IfOk result (λ d. shown_of d ≡ fresh_desk site.now) }
+    {
+        let count = site.accounts();
+        let mut accounts = Vec::with_capacity(alloc, count as usize)?;
+        for n in 0..count {
+            accounts.push(open_account(alloc, site, n)?)?;
+        }
+        Ok(SoleDesk { accounts, turns: 0 })
+    }
+
+    /// No entry of the accounts is anybody else's than the desk's. A law; it does nothing.
+    pub fn all_entries_are_its_own(&self)
+        ensures { IsSole (shown_of self.now) }
+    {
+        let _accounts = &self.accounts;
+    }
+}
+
+impl Desk for SoleDesk {
+    ghost use Rattle.account_desk.specs.SoleDesk.{shown_of};
+
+    ghost shown = { shown_of };
+
+    fn accounts(&self) -> u32 {
+        self.accounts.len() as u32
+    }
+
+    fn call(&mut self, account: u32, call: &Call, moment: i64) -> Result<Reply, DeskError> {
+        if self.turns == MOST_TURNS {
+            return Err(DeskError::PassSpent);
+        }
+        self.turns += 1;
+        let turn = self.turns;
+        let reply = self.accounts[account as usize].act(AUTHOR, turn, call, moment);
+        as_of_desk(reply)
+    }
+}
+
+/// The account of a number of a site, without entries.
+fn open_account(alloc: Global, site: &Site, n: u32) -> Result<Account, AllocError>
+    requires { n < length site.now.accounts }
+    ensures { IfOk result (λ a. a ≡ fresh_account site.now n) }
+{
+    let id = site.account_id(n).copy()?;
+    Account::open(alloc, id, Arc::try_clone(site.zones())?)
+}
+
+fn as_of_desk(reply: Result<Reply, AllocError>) -> Result<Reply, DeskError>
+    ensures { result ≡ of_desk reply }
+{
+    match reply {
+        Ok(reply) => Ok(reply),
+        Err(_) => Err(DeskError::NoMemory),
+    }
+}

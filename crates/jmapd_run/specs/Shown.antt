@@ -1,0 +1,49 @@
+-- What contracts see of a start, and of what a load came to.
+use Rattle.std.specs.Prelude.{◌≡◌, ℕ, ◌<◌, List, Option, Some, None, Result, Ok, Err, length, ⊤}
+use Rattle.cal_model.specs.Sites.Configuration.{Fault, Site, user_named}
+use Rattle.cal_model.specs.declared.status.Status.{Status}
+use Rattle.cal_model.specs.declared.status.Status.TheVariants.{Config, NoMemory, OpenFault, Usage}
+use Rattle.jmapd_run.specs.Starts as starts
+use Rattle.jmapd_run.specs.Starts.{IsLoaded, IsNotOpened, IsSite, IsStart, IsUser}
+use Rattle.jmapd_run.specs.declared.start.Start.{Start}
+use Rattle.jmapd_run.specs.declared.start.Start.TheVariants.{Batch, Stdio}
+
+abbrev pub start_shown : Start → starts.Start
+start_shown (Batch site user) = starts.batch_for site user
+start_shown (Stdio site) = starts.stdio_of site
+
+-- its user is one of its site
+abbrev pub HasItsUser : Start → Type 0
+HasItsUser (Batch site user) = user < length site.users
+HasItsUser (Stdio site) = ⊤
+
+-- what bytes come to as a configuration
+abbrev pub ReadHow : Result Site Fault → Result Site Status → Type 0
+ReadHow what (Ok site) = what ≡ Ok site
+ReadHow what (Err (Config field index)) = what ≡ Err (record { field = field; index = index })
+ReadHow what (Err e) = e ≡ NoMemory
+
+module _ (files : Option (List (List ℕ × List ℕ))) (o0 o1 : ℕ) where
+  -- the configuration of a name
+  abbrev pub LoadHow : List ℕ → Result Site Status → Type 0
+  LoadHow name (Ok site) = IsLoaded files o0 o1 name (Ok site)
+  LoadHow name (Err OpenFault) = IsNotOpened files o0 o1 name
+  LoadHow name (Err (Config field index)) = IsLoaded files o0 o1 name (Err (record { field = field; index = index }))
+  LoadHow name (Err e) = e ≡ NoMemory
+
+  abbrev pub SiteHow : Option (List ℕ) → Result Site Status → Type 0
+  SiteHow None (Ok site) = IsSite files o0 o1 None site
+  SiteHow None (Err e) = e ≡ NoMemory
+  SiteHow (Some name) r = LoadHow name r
+
+  abbrev pub BatchHow : Option (List ℕ) → Option (List ℕ) → Result Start Status → Type 0
+  BatchHow config who (Ok start) = (site : Site) × (user : ℕ) × (start_shown start ≡ starts.batch_for site user) × IsSite files o0 o1 config site × IsUser site who user
+  BatchHow config who (Err Usage) = (name : List ℕ) × (site : Site) × (who ≡ Some name) × IsSite files o0 o1 config site × (user_named site name ≡ None)
+  BatchHow config who (Err e) = SiteHow config (Err e)
+
+  abbrev pub StartHow : List (List ℕ) → Result Start Status → Type 0
+  StartHow words (Ok start) = IsStart files o0 o1 words (start_shown start)
+  StartHow words (Err Usage) = IsStart files o0 o1 words starts.usage
+  StartHow words (Err OpenFault) = IsStart files o0 o1 words starts.not_opened
+  StartHow words (Err (Config field index)) = IsStart files o0 o1 words (starts.misconfigured field index)
+  StartHow words (Err e) = e ≡ NoMemory

@@ -1,0 +1,49 @@
+-- What the words of the command line and the configuration come to, before the input is read.
+use Rattle.std.specs.Prelude.{◌≡◌, ◌⊎◌, ℕ, List, [], ◌∷◌, Option, Some, None, Result, Ok, Err}
+use Rattle.cal_model.specs.Outside.{IsMissing, Loads, Rose}
+use Rattle.cal_model.specs.Sites.Configuration.{Fault, Site, built_in, configured, user_named}
+use Rattle.cal_model.specs.declared.site.Field.{Field}
+use Rattle.command_line.specs.Commands.{Command, batch, command_of, stdio}
+
+pub data Start : Type 0 where
+  -- the words are no command's, or name a user that there isn't
+  usage : Start
+  -- the configuration couldn't be loaded, or there is none of its name
+  not_opened : Start
+  -- the first bad field of the configuration, with its first bad item
+  misconfigured : Field → ℕ → Start
+  -- one request, for a user of a site
+  batch_for : Site → ℕ → Start
+  -- one connection, for the users of a site
+  stdio_of : Site → Start
+
+abbrev pub configuration_of : Command → Option (List ℕ)
+configuration_of (batch config user) = config
+configuration_of (stdio config) = Some config
+
+-- the user that `--user` names, or the first
+abbrev pub IsUser : Site → Option (List ℕ) → ℕ → Type 0
+IsUser site None user = user ≡ 0
+IsUser site (Some name) user = user_named site name ≡ Some user
+
+-- the files as the opener tells them, and its count of faults before and after
+module _ (files : Option (List (List ℕ × List ℕ))) (o0 o1 : ℕ) where
+  -- the file of this name was loaded, or its first bytes; they come to this
+  abbrev pub IsLoaded : List ℕ → Result Site Fault → Type 0
+  IsLoaded name what = (bytes : List ℕ) × Loads files name 1000001 bytes × (configured bytes ≡ what)
+
+  -- without a name the opener isn't asked
+  abbrev pub IsSite : Option (List ℕ) → Site → Type 0
+  IsSite None site = (site ≡ built_in) × (o1 ≡ o0)
+  IsSite (Some name) site = IsLoaded name (Ok site)
+
+  abbrev pub IsNotOpened : List ℕ → Type 0
+  IsNotOpened name = IsMissing files name ⊎ Rose o0 o1
+
+  abbrev pub IsStart : List (List ℕ) → Start → Type 0
+  IsStart words usage = ((command_of words ≡ None) × (o1 ≡ o0))
+      ⊎ ((config : Option (List ℕ)) × (name : List ℕ) × (site : Site) × (command_of words ≡ Some (batch config (Some name))) × IsSite config site × (user_named site name ≡ None))
+  IsStart words not_opened = (c : Command) × (name : List ℕ) × (command_of words ≡ Some c) × (configuration_of c ≡ Some name) × IsNotOpened name
+  IsStart words (misconfigured field index) = (c : Command) × (name : List ℕ) × (command_of words ≡ Some c) × (configuration_of c ≡ Some name) × IsLoaded name (Err (record { field = field; index = index }))
+  IsStart words (batch_for site user) = (config : Option (List ℕ)) × (who : Option (List ℕ)) × (command_of words ≡ Some (batch config who)) × IsSite config site × IsUser site who user
+  IsStart words (stdio_of site) = (config : List ℕ) × (command_of words ≡ Some (stdio config)) × IsLoaded config (Ok site)

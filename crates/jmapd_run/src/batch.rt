@@ -1,0 +1,98 @@
+//! The command `batch`: one request and its answer.
+ghost use Rattle.std.specs.Prelude.{◌≡◌, ◌<◌, IfOk, length};
+ghost use Rattle.cal_model.specs.Headline.{IsAnswer};
+ghost use Rattle.jmapd_run.specs.Runs.{RunsBatch};
+
+use account_desk::sole_desk::SoleDesk;
+use cal_model::desk::DeskError;
+use cal_model::status::Status;
+use conn_serve::moment::clamped_moment;
+use conn_serve::reply::{MAX_SIZE_REQUEST, Reply, reply_to};
+use io_edge::clock::Clock;
+use io_edge::sink::{Sink, put_all};
+use io_edge::source::{ReadError, Source, read_up_to};
+use json_edge::write::tree_text;
+use session_doc::Site;
+use std::alloc::{AllocError, Global};
+
+/// A text that answers a request.
+#[derive(Drop)]
+pub(crate) struct Answer {
+    text: Vec<u8>,
+    is_refusal: bool,
+}
+
+/// Reads a request, answers it for a user on fresh accounts, and writes the answer.
+///
+/// The input is read to its end, or to one byte past the most bytes of a request, and the clock is read once.
+pub(crate) fn run_batch<S: Source, K: Sink, C: Clock>(
+    alloc: Global,
+    site: &Site,
+    user: u32,
+    input: &mut S,
+    output: &mut K,
+    clock: &mut C,
+) -> Status
+    requires { user < length site.now.users }
+    ensures { RunsBatch (S.left input.old) (S.left input.new) (K.holds output.old) (K.holds output.new) (S.faults input.old) (S.faults input.new)
+        (K.faults output.old) (K.faults output.new) (C.moments clock.old) (C.moments clock.new) site.now user result }
+{
+    let bytes = match read_up_to(alloc, input, MAX_SIZE_REQUEST) {
+        Ok(bytes) => bytes,
+        Err(ReadError::Failed) => return Status::ReadFault,
+        Err(ReadError::NoMemory) => return Status::NoMemory,
+    };
+    let told = clock.now();
+    let moment = clamped_moment(&told);
+    let Ok(answer) = answer_to(alloc, site, user, &bytes, &moment) else {
+        return Status::NoMemory;
+    };
+    match put_all(output, &answer.text) {
+        Ok(()) => status_of(&answer),
+        Err(_) => Status::WriteFault,
+    }
+}
+
+fn status_of(answer: &Answer) -> Status
+    ensures { result ≡ (if answer.now.is_refusal then Status.Refused else Status.Done) }
+{
+    if answer.is_refusal {
+        Status::Refused
+    } else {
+        Status::Done
+    }
+}
+
+// The answer to a request on fresh accounts, at a moment in seconds of UTC from 1970.
+fn answer_to(
+    alloc: Global,
+    site: &Site,
+    user: u32,
+    bytes: &[u8],
+    moment: &i64,
+) -> Result<Answer, AllocError>
+    requires { user < length site.now.users }
+    ensures { IfOk result (λ a. IsAnswer site.now user moment.now bytes.now a.is_refusal a.text.items) }
+{
+    let mut desk = SoleDesk::open(alloc, site)?;
+    let mut fronts = Vec::new(alloc);
+    match reply_to(alloc, bytes, site.user(user), &mut desk, moment, &mut fronts) {
+        Ok(reply) => answer_of(alloc, &reply),
+        // A desk that begins here makes at most 16 calls.
+        Err(DeskError::PassSpent) => unreachable!(),
+        Err(DeskError::NoMemory) => Err(AllocError),
+    }
+}
+
+// The text of a reply, with a line feed.
+fn answer_of(alloc: Global, reply: &Reply) -> Result<Answer, AllocError>
+    ensures text { IfOk result (λ a. a.text.items ≡ text_of (data_of reply.now.tree) ++ 10 ∷ []) }
+    ensures refusal { IfOk result (λ a. a.is_refusal ≡ reply.now.is_refusal) }
+{
+    let mut text = tree_text(alloc, &reply.tree)?;
+    text.push(b'\n')?;
+    Ok(Answer {
+        text,
+        is_refusal: reply.is_refusal,
+    })
+}

@@ -1,0 +1,98 @@
+//! What the words of the command line and the configuration come to.
+ghost use Rattle.std.specs.Prelude.{◌≡◌, IfOk, map, option_map, string_bytes};
+ghost use Rattle.cal_model.specs.Sites.Configuration.{configured};
+ghost use Rattle.jmapd_run.specs.Shown.{BatchHow, HasItsUser, LoadHow, ReadHow, SiteHow, StartHow};
+
+use cal_model::status::Status;
+use command_line::command::{Command, read_command};
+use io_edge::opener::{LoadError, Opener};
+use session_doc::{ConfigurationError, Site};
+use std::alloc::Global;
+
+/// The most bytes of a configuration that are loaded: one more than it may have.
+const MOST_LOADED: u64 = 1_000_001;
+
+/// What is to be run.
+#[derive(Drop)]
+pub(crate) enum Start {
+    /// One request, for the user of a number.
+    Batch(Site, u32),
+    /// One connection.
+    Stdio(Site),
+}
+
+/// What the words ask for, under the configuration that they name.
+///
+/// In order: `Usage` where the words are no command's, `OpenFault` where the configuration isn't loaded, `Config` where it is refused, and
+/// `Usage` where it has no user of the name in `--user`. Takes memory for the site.
+pub(crate) fn start<O: Opener>(
+    alloc: Global,
+    words: &[String],
+    opener: &mut O,
+) -> Result<Start, Status>
+    ensures how { StartHow (O.files opener.old) (O.faults opener.old) (O.faults opener.new) (map string_bytes words.now) result }
+    ensures user { IfOk result HasItsUser }
+{
+    match read_command(alloc, words) {
+        Ok(Some(Command::Batch { config, user })) => start_batch(alloc, opener, config, user),
+        Ok(Some(Command::Stdio { config })) => Ok(Start::Stdio(load_site(alloc, opener, config)?)),
+        Ok(None) => Err(Status::Usage),
+        Err(_) => Err(Status::NoMemory),
+    }
+}
+
+fn start_batch<O: Opener>(
+    alloc: Global,
+    opener: &mut O,
+    config: Option<&str>,
+    user: Option<&str>,
+) -> Result<Start, Status>
+    ensures how { BatchHow (O.files opener.old) (O.faults opener.old) (O.faults opener.new) (option_map (λ name. name.now) config.entry) (option_map (λ name. name.now) user.entry) result }
+    ensures user { IfOk result HasItsUser }
+{
+    let site = site_of(alloc, opener, config)?;
+    let Some(name) = user else {
+        return Ok(Start::Batch(site, 0));
+    };
+    match site.user_named(name) {
+        Some(number) => Ok(Start::Batch(site, number)),
+        None => Err(Status::Usage),
+    }
+}
+
+// The site of a configuration, or the one without.
+fn site_of<O: Opener>(
+    alloc: Global,
+    opener: &mut O,
+    config: Option<&str>,
+) -> Result<Site, Status>
+    ensures { SiteHow (O.files opener.old) (O.faults opener.old) (O.faults opener.new) (option_map (λ name. name.now) config.entry) result }
+{
+    match config {
+        Some(name) => load_site(alloc, opener, name),
+        None => match Site::built_in(alloc) {
+            Ok(site) => Ok(site),
+            Err(_) => Err(Status::NoMemory),
+        },
+    }
+}
+
+fn load_site<O: Opener>(alloc: Global, opener: &mut O, name: &str) -> Result<Site, Status>
+    ensures { LoadHow (O.files opener.old) (O.faults opener.old) (O.faults opener.new) name.now result }
+{
+    match opener.load(name, MOST_LOADED) {
+        Ok(bytes) => read_site(alloc, &bytes),
+        Err(LoadError::Missing | LoadError::Failed) => Err(Status::OpenFault),
+        Err(LoadError::NoMemory) => Err(Status::NoMemory),
+    }
+}
+
+fn read_site(alloc: Global, bytes: &[u8]) -> Result<Site, Status>
+    ensures { ReadHow (configured bytes.now) result }
+{
+    match Site::read(alloc, bytes) {
+        Ok(site) => Ok(site),
+        Err(ConfigurationError::Bad { field, index }) => Err(Status::Config { field, index }),
+        Err(ConfigurationError::NoMemory) => Err(Status::NoMemory),
+    }
+}

@@ -1,0 +1,42 @@
+//! The command `stdio`: one connection.
+ghost use Rattle.std.specs.Prelude.{◌≡◌, ◌⊎◌};
+ghost use Rattle.cal_model.specs.declared.status.Status.TheVariants.{NoMemory};
+ghost use Rattle.jmapd_run.specs.Runs.{IsUntouched, RunsStdio};
+
+use account_desk::sole_desk::SoleDesk;
+use cal_model::served::ConnEnd;
+use cal_model::status::Status;
+use conn_serve::serve::serve_connection;
+use io_edge::clock::Clock;
+use io_edge::sink::Sink;
+use io_edge::source::Source;
+use session_doc::Site;
+use std::alloc::Global;
+
+/// Serves one connection over fresh accounts.
+pub(crate) fn run_stdio<S: Source, K: Sink, C: Clock>(
+    alloc: Global,
+    site: &Site,
+    input: &mut S,
+    output: &mut K,
+    clock: &mut C,
+) -> Status
+    ensures { RunsStdio (S.left input.old) (S.left input.new) (K.holds output.old) (K.holds output.new) (S.faults input.old) (S.faults input.new)
+            (K.faults output.old) (K.faults output.new) (C.moments clock.old) (C.moments clock.new) site.now result
+        ⊎ ((result ≡ NoMemory) × IsUntouched (S.left input.old) (S.left input.new) (K.holds output.old) (K.holds output.new) (S.faults input.old) (S.faults input.new)
+            (K.faults output.old) (K.faults output.new) (C.moments clock.old) (C.moments clock.new)) }
+{
+    let Ok(mut desk) = SoleDesk::open(alloc, site) else {
+        return Status::NoMemory;
+    };
+    let served = serve_connection(alloc, site, input, output, &mut desk, clock);
+    match served.end {
+        ConnEnd::Closed | ConnEnd::CloseAsked => Status::Done,
+        ConnEnd::BadHead(_) | ConnEnd::Truncated | ConnEnd::Quota => Status::Cut,
+        ConnEnd::ReadFault => Status::ReadFault,
+        ConnEnd::WriteFault => Status::WriteFault,
+        ConnEnd::NoMemory => Status::NoMemory,
+        // A desk that begins here makes at most 160,000 calls.
+        ConnEnd::PassSpent => unreachable!(),
+    }
+}
