@@ -1,10 +1,8 @@
 //! Rows of configurations: their bytes, and the session objects of their users or the first bad field.
-ghost use Rattle.std.specs.Prelude.{◌≡◌};
-
 use crate::lookups::lookups_differ;
-use cal_model::site::Field;
 use json_edge::read::{ReadError, read_tree};
 use json_edge::write::tree_text;
+use row_table::field::field_name;
 use session_doc::{ConfigurationError, Site};
 use std::alloc::{AllocError, Global};
 
@@ -50,15 +48,4 @@ fn sessions(alloc: Global, site: &Site) -> Result<String, AllocError> {
     }
     text.push_str("]")?;
     Ok(text)
-}
-
-/// The member of a configuration that a field is, and `json` for the whole.
-fn field_name(field: Field) -> &'static str {
-    match field {
-        Field::Json => "json",
-        Field::BaseUrl => "baseUrl",
-        Field::Accounts => "accounts",
-        Field::Users => "users",
-        Field::Zones => "zones",
-    }
 }

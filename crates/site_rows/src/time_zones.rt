@@ -1,4 +1,8 @@
 //! Rows of time zones: names with their rules, and the table of zones that they come to.
+ghost use Rattle.std.specs.Prelude.{◌≡◌, pos, true};
+ghost use Rattle.cal_model.specs.Data.{whole};
+ghost use Rattle.cal_model.specs.TreeData.{data_of};
+
 use cal_model::text::Text;
 use cal_model::tree::{Tree, TreeList, TreeObject};
 use std::alloc::{AllocError, Global};
@@ -63,9 +67,20 @@ fn other_than_place(
     index: u32,
     answer: &Tree,
 ) -> Result<Option<String>, AllocError> {
+    if is_place(index, answer) {
+        Ok(None)
+    } else {
+        Ok(Some(format!(in alloc; "{index}")?))
+    }
+}
+
+/// Whether an answer is the number of this place.
+fn is_place(index: u32, answer: &Tree) -> bool
+    ensures { result ≡ true → data_of answer.now ≡ whole (pos index) }
+{
     match answer {
-        Tree::Whole(place) if place.get() == i128::from(index) => Ok(None),
-        _ => Ok(Some(format!(in alloc; "{index}")?)),
+        Tree::Whole(place) => place.get() == i128::from(index),
+        _ => false,
     }
 }
 
