@@ -25,7 +25,7 @@ pub(crate) enum Start {
 ///
 /// In order: `Usage` where the words are no command's, `OpenFault` where the configuration isn't loaded, `Config` where it is refused, and
 /// `Usage` where it has no user of the name in `--user`. Takes memory for the site.
-pub(crate) fn start<O: Opener>(
+pub(crate) fn start_from<O: Opener>(
     alloc: Global,
     words: &[String],
     opener: &mut O,
