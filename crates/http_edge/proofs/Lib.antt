@@ -2,6 +2,7 @@ pub mod Searching
 pub mod Ends
 pub mod Stays
 pub mod Once
+pub mod Pipelines
 pub mod Values
 pub mod Lengths
 pub mod Ascii

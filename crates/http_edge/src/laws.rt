@@ -3,6 +3,7 @@ ghost use Rattle.std.specs.Prelude.{◌≡◌, ◌≤◌, ◌++◌, [], ℕ, Lis
 ghost use Rattle.httparse.specs.Grammar.{IsRequestHead, RequestHead, print_request};
 ghost use Rattle.cal_model.specs.Http.Heads.{body, fields_of, framing};
 ghost use Rattle.cal_model.specs.Http.Messages.{BeginsWith, Beginning, Message, message_of, refused, whole};
+ghost use Rattle.cal_model.specs.Http.Pipeline.{Ending, EndsAs, Reads};
 ghost use Rattle.cal_model.specs.Http.Responses.{IsStatus};
 
 /// What begins with a whole message does so whatever follows.
@@ -19,6 +20,13 @@ pub fn refused_stays()
 /// Bytes begin with one thing alone: one whole message with what is behind it, or a refused head, or a part of either, or nothing.
 pub fn begins_once()
     ensures { (bytes : List ℕ) (one other : Beginning) → BeginsWith bytes one → BeginsWith bytes other → one ≡ other }
+{}
+
+/// The bytes of a connection of at most `most` messages hold one list of messages with one rest, and end in one way.
+#[tactic(auto, using(crate::proofs::Pipelines::determined))]
+pub fn messages_are_determined()
+    ensures { (most : ℕ) (bytes : List ℕ) (ms ns : List Message) (left rest : List ℕ) (end other : Ending) → Reads bytes ms left → EndsAs most (length ms) ms left end
+        → Reads bytes ns rest → EndsAs most (length ns) ns rest other → (ms ≡ ns) × (left ≡ rest) × (end ≡ other) }
 {}
 
 /// The status of a refused head is one that a response may have.

@@ -13,3 +13,4 @@ pub mod sink;
 pub mod source;
 pub mod streams;
 pub mod system_clock;
+pub mod system_files;

@@ -8,6 +8,8 @@ mod change_pages;
 #[cfg(test)]
 mod civil_dates;
 #[cfg(test)]
+mod command_lines;
+#[cfg(test)]
 mod congruences;
 #[cfg(test)]
 mod desks;
@@ -21,5 +23,7 @@ mod patches;
 #[cfg(test)]
 mod quotas;
 pub mod reporting_book;
+#[cfg(test)]
+mod system_files;
 pub mod words;
 pub mod zones;

@@ -209,7 +209,8 @@ fn site_files(alloc: Global) -> Result<Vec<(String, Vec<u8>)>, AllocError> {
     Ok(files)
 }
 
-fn loads<O: Opener>(
+/// Loads a file, and asserts what comes back.
+pub fn loads<O: Opener>(
     rt: &impl Abort,
     opener: &mut O,
     name: &str,

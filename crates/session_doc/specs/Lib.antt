@@ -1,1 +1,2 @@
+pub mod LeadingZones
 pub mod Reports

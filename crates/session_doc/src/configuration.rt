@@ -1,53 +1,67 @@
 //! Sites from configurations.
 ghost use Rattle.std.specs.Prelude.{◌≡◌, IfErr, IfOk, Ok};
-ghost use Rattle.cal_model.specs.Sites.Configuration.{configured};
+ghost use Rattle.cal_model.specs.Json.{value};
+ghost use Rattle.cal_model.specs.Sites.Configuration.{configured, site_in, site_read};
+ghost use Rattle.cal_model.specs.TreeData.{data_of};
 ghost use Rattle.session_doc.specs.Reports.{Reports};
-ghost use Rattle.session_doc.specs.declared.configuration.ConfigurationError.TheVariants.{NoMemory};
 
+use crate::accounts::read_accounts;
+use crate::base_url::read_base_url;
+use crate::configuration_error::ConfigurationError;
 use crate::site::Site;
+use crate::users::read_users;
+use crate::zones::read_zones;
 use cal_model::site::Field;
-use std::alloc::{AllocError, AllocFailed, Global};
+use cal_model::tree::Tree;
+use json_edge::read::{ReadError, read_tree};
+use std::alloc::Global;
+use std::sync::Arc;
 
-/// Why there is no site.
-#[derive(Clone, Copy, Debug, PartialEq, Eq)]
-pub enum ConfigurationError {
-    /// The configuration has a bad field.
-    Bad {
-        /// The first bad field, in the order of `Field`.
-        field: Field,
-        /// The place of the first bad item of the field, from 0; 0 where no item is bad alone.
-        index: u32,
-    },
-    /// There was no memory.
-    NoMemory,
-}
+/// The most bytes of a configuration.
+const MOST_BYTES: usize = 1_000_000;
 
-impl From<AllocError> for ConfigurationError {
-    ghost from_gives = { λ _ error. error ≡ NoMemory };
-
-    fn from(_: AllocError) -> Self {
-        ConfigurationError::NoMemory
-    }
-}
-
-impl<T: Drop> From<AllocFailed<T>> for ConfigurationError {
-    ghost from_gives = { λ _ error. error ≡ NoMemory };
-
-    fn from(_: AllocFailed<T>) -> Self {
-        ConfigurationError::NoMemory
-    }
-}
+const NOT_JSON: ConfigurationError = ConfigurationError::Bad {
+    field: Field::Json,
+    index: 0,
+};
 
 impl Site {
     /// Reads a configuration: a JSON object of at most 1,000,000 bytes, whose numbers are whole.
     ///
-    /// Takes memory for the site, and until it returns for the JSON value.
+    /// Unknown members are ignored. Takes memory for the site, and until it returns for the JSON value.
     pub fn read(alloc: Global, bytes: &[u8]) -> Result<Site, ConfigurationError>
         ensures ok { IfOk result (λ site. configured bytes.now ≡ Ok site) }
         ensures err { IfErr result (λ error. Reports error (configured bytes.now)) }
     {
-        let _ = alloc;
-        let _ = bytes;
-        Err(ConfigurationError::NoMemory)
+        if bytes.len() > MOST_BYTES {
+            return Err(NOT_JSON);
+        }
+        match read_tree(alloc, bytes) {
+            Ok(tree) => read_value(alloc, &tree),
+            Err(ReadError::NoMemory) => Err(ConfigurationError::NoMemory),
+            Err(ReadError::NotJson | ReadError::NotWhole) => Err(NOT_JSON),
+        }
     }
+}
+
+fn read_value(alloc: Global, tree: &Tree) -> Result<Site, ConfigurationError>
+    ensures ok { IfOk result (λ site. site_read (value (data_of tree.now)) ≡ Ok site) }
+    ensures err { IfErr result (λ error. Reports error (site_read (value (data_of tree.now)))) }
+{
+    match tree {
+        Tree::Object(_) => read_fields(alloc, tree),
+        _ => Err(NOT_JSON),
+    }
+}
+
+// The fields, in order.
+fn read_fields(alloc: Global, tree: &Tree) -> Result<Site, ConfigurationError>
+    ensures ok { IfOk result (λ site. site_in (data_of tree.now) ≡ Ok site) }
+    ensures err { IfErr result (λ error. Reports error (site_in (data_of tree.now))) }
+{
+    let base_url = read_base_url(tree)?;
+    let accounts = read_accounts(alloc, tree)?;
+    let users = read_users(alloc, &accounts, tree)?;
+    let zones = Arc::new(alloc, read_zones(alloc, tree)?)?;
+    Ok(Site::new(base_url, accounts, users, zones))
 }

@@ -2,11 +2,20 @@
 #![tactic(auto)]
 
 mod account;
+mod accounts;
+mod base_url;
 mod built_in;
+mod capabilities;
 mod configuration;
+mod configuration_error;
+mod grants;
+mod parts;
 mod session;
+mod session_accounts;
 mod site;
 mod site_user;
+mod users;
+mod zones;
 
-pub use configuration::ConfigurationError;
+pub use configuration_error::ConfigurationError;
 pub use site::Site;

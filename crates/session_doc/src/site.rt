@@ -108,6 +108,14 @@ impl Site {
         self.accounts[n as usize].id()
     }
 
+    /// The name of the account of a number, from 0. Takes no memory.
+    pub(crate) fn account_name(&self, n: u32) -> &Text
+        requires { n < length self.now.accounts }
+        ensures { (d : SiteAccount) → result.now ≡ (slice_index_or self.now.accounts n d).name }
+    {
+        self.accounts[n as usize].name()
+    }
+
     /// The time zones. Takes no memory.
     pub fn zones(&self) -> &Arc<Zones>
         ensures { arc_value result.now ≡ self.now.zones }

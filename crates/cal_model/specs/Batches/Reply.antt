@@ -1,5 +1,5 @@
 -- What bytes ask for, and what is replied.
-use Rattle.std.specs.Prelude.{◌≡◌, ℕ, ℤ, pos, List, [], length, map, nat_lt, if◌then◌else◌}
+use Rattle.std.specs.Prelude.{◌≡◌, ℕ, ℤ, pos, List, [], ◌++◌, length, map, nat_lt, if◌then◌else◌}
 use Rattle.std.specs.Int.{int_min, int_max}
 use Rattle.cal_model.specs.Batches.Asked.{Asked, asked, refused, asked_by}
 use Rattle.cal_model.specs.Batches.Batch.{Step, Fit, made_in, response_object}
@@ -7,7 +7,9 @@ use Rattle.cal_model.specs.Batches.Problem.{problem}
 use Rattle.cal_model.specs.Batches.Session.{Made}
 use Rattle.cal_model.specs.Data.{Data}
 use Rattle.cal_model.specs.Json.{Reading, not_json, not_whole, value, reading}
+use Rattle.cal_model.specs.declared.request.Invocation.{Invocation}
 use Rattle.cal_model.specs.declared.request.Limit.TheVariants.{SizeRequest}
+use Rattle.cal_model.specs.declared.request.Request.{Request}
 use Rattle.cal_model.specs.declared.request.RequestError.TheVariants.{NotJson, NotRequest, Limit}
 use Rattle.cal_model.specs.declared.user.User.{User}
 
@@ -34,3 +36,13 @@ abbrev pub Replies : User → ℤ → Asked → List Made → Data → Type 0
 Replies user moment (asked r) made reply =
     (steps : List Step) × (r.calls ≡ map (λ s. s.invocation) steps) × Fit user r moment [] steps × (made ≡ made_in steps) × (reply ≡ response_object r steps)
 Replies user moment (refused e) made reply = (made ≡ []) × (reply ≡ problem e)
+
+-- The first invocations of a request were answered, with these calls; it has no reply.
+pub record BeginsReply (user : User) (moment : ℤ) (what : Asked) (made : List Made) : Type 0 where
+  pub request : Request
+  pub is_request : what ≡ asked request
+  pub steps : List Step
+  pub rest : List Invocation
+  pub invoked : request.calls ≡ map (λ s. s.invocation) steps ++ rest
+  pub fit : Fit user request moment [] steps
+  pub made_is : made ≡ made_in steps

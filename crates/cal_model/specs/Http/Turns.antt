@@ -1,18 +1,15 @@
 -- A message of a connection and what came of it.
 use Rattle.std.specs.Prelude.{◌≡◌, ℕ, ℤ, zero, suc, ◌+◌, ◌*◌, ◌≤◌, ◌==◌, ◌||◌, List, [], ◌∷◌, ◌++◌, Bool, Option, Some, None, flat_map, length, map, ⊤}
 use Rattle.cal_model.specs.Batches.Asked.{Asked, asked, refused}
-use Rattle.cal_model.specs.Batches.Batch.{Step, Fit, made_in}
 use Rattle.cal_model.specs.Batches.Session.{Made, Session, Shown, front_of}
 use Rattle.cal_model.specs.Data.{Data}
-use Rattle.cal_model.specs.Batches.Reply.{Replies, asked_in, clamped}
+use Rattle.cal_model.specs.Batches.Reply.{BeginsReply, Replies, asked_in, clamped}
 use Rattle.cal_model.specs.Http.Messages.{Message}
 use Rattle.cal_model.specs.Http.Responses.{Response, response_text}
 use Rattle.cal_model.specs.Http.Routes.{api, direct, route, success, with_problem}
 use Rattle.cal_model.specs.Json.{text_of}
 use Rattle.cal_model.specs.Sites.Configuration.{Site, user_at}
 use Rattle.cal_model.specs.declared.desk.Front.{Front}
-use Rattle.cal_model.specs.declared.request.Invocation.{Invocation}
-use Rattle.cal_model.specs.declared.request.Request.{Request}
 
 -- a message, the moments that the clock gave for it, the calls that the desk answered for it, and the bytes of its response
 pub record Turn : Type 0 where
@@ -71,17 +68,11 @@ module _ (site : Site) (close : Bool) (t : Turn) where
     pub routed : route site close t.message ≡ api user
     pub moment : ℤ
     pub read : t.moments ≡ moment ∷ []
-    pub request : Request
-    pub is_asked : asked_in t.message.body ≡ asked request
-    pub steps : List Step
-    pub rest : List Invocation
-    pub invoked : request.calls ≡ map (λ s. s.invocation) steps ++ rest
-    pub fit : Fit (user_at site user) request (clamped moment) [] steps
-    pub made : t.made ≡ made_in steps
+    pub begins : BeginsReply (user_at site user) (clamped moment) (asked_in t.message.body) t.made
 
-  -- no response was written, and maybe not all of its calls were made
+  -- No response was written, and maybe not all of its calls were made. The clock was read once at most.
   pub data Begun : Type 0 where
-    uncalled : t.made ≡ [] → Begun
+    uncalled : length t.moments ≤ 1 → t.made ≡ [] → Begun
     called : BegunApi → Begun
 
 -- each response is what its message asks for, where so many messages went before

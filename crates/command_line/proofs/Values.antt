@@ -1,0 +1,50 @@
+-- Both commands are simple, and the values that a parse finds are those of the definitions.
+use Rattle.std.proofs.Common.{◌≡◌, List, ℕ, Option, Some, None, true, refl, sym, ap, ap₂, ◌∙◌, cond, codes, option_map}
+use Rattle.clap.specs.Words.{App, HasMatchesOf, first_of, first_value, found_of, is_simple, is_simple_and_free, matches_of}
+use Rattle.clap.specs.declared.ArgMatches.{ArgMatches}
+use Rattle.clap.proofs.WalkLemmas.{first_value-rows}
+use Rattle.clap.proofs.OnLiterals.{clap_on_literals}
+use Rattle.command_line.specs.Commands.{batch, batch_app, batch_of, stdio, stdio_app, stdio_of, takes, value_of}
+
+pub batch_is_simple : is_simple batch_app ≡ true
+unfolding batch_app clap_on_literals
+batch_is_simple = refl
+
+pub batch_is_free : is_simple_and_free batch_app ≡ true
+unfolding batch_app clap_on_literals
+batch_is_free = refl
+
+pub stdio_is_simple : is_simple stdio_app ≡ true
+unfolding stdio_app clap_on_literals
+stdio_is_simple = refl
+
+pub stdio_is_free : is_simple_and_free stdio_app ≡ true
+unfolding stdio_app clap_on_literals
+stdio_is_free = refl
+
+-- the value of an option, as a parse of a command has it
+value_found : (app known : App) (words : List (List ℕ)) (m : ArgMatches) (name : List ℕ) → app ≡ known → is_simple known ≡ true
+    → HasMatchesOf app words m → first_value (found_of m) name ≡ value_of known words name
+value_found app known words m name is simple h =
+    first_value-rows (found_of m) name
+    ∙ ap (first_of name) ((h (ap is_simple is ∙ simple)).0 ∙ ap (λ (a : App). matches_of a words) is)
+
+pub batch_found : (app : App) (words : List (List ℕ)) (m : ArgMatches) (config user : Option (List ℕ)) → app ≡ batch_app
+    → takes app words ≡ true → HasMatchesOf app words m
+    → config ≡ first_value (found_of m) (codes "config") → user ≡ first_value (found_of m) (codes "user")
+    → Some (batch config user) ≡ batch_of words
+batch_found app words m config user is taken h c u =
+    let value = λ (name : List ℕ). value_of batch_app words name in
+    let same : Some (batch config user) ≡ Some (batch (value (codes "config")) (value (codes "user"))) =
+    ap₂ (λ (x y : Option (List ℕ)). Some (batch x y))
+    (c ∙ value_found app batch_app words m (codes "config") is batch_is_simple h)
+    (u ∙ value_found app batch_app words m (codes "user") is batch_is_simple h) in
+    same ∙ sym (ap (λ b. cond b (Some (batch (value (codes "config")) (value (codes "user")))) None) (ap (λ (a : App). takes a words) (sym is) ∙ taken))
+
+pub stdio_found : (app : App) (words : List (List ℕ)) (m : ArgMatches) (config : Option (List ℕ)) → app ≡ stdio_app
+    → takes app words ≡ true → HasMatchesOf app words m
+    → config ≡ first_value (found_of m) (codes "config")
+    → option_map stdio config ≡ stdio_of words
+stdio_found app words m config is taken h c =
+    ap (option_map stdio) (c ∙ value_found app stdio_app words m (codes "config") is stdio_is_simple h)
+    ∙ sym (ap (λ b. cond b (option_map stdio (value_of stdio_app words (codes "config"))) None) (ap (λ (a : App). takes a words) (sym is) ∙ taken))

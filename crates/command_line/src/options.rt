@@ -1,0 +1,68 @@
+//! The commands as `clap` knows them.
+
+ghost use Rattle.std.specs.Prelude.{◌≡◌, IfNone, IfOk, IfSome, false, map, string_bytes, true};
+ghost use Rattle.clap.specs.Words.{HasMatchesOf, app_of, is_simple_and_free, rule_of};
+ghost use Rattle.command_line.specs.Commands.{bare, batch_app, option_named, stdio_app, takes};
+
+use clap::error::ErrorKind;
+use clap::{Arg, ArgAction, ArgMatches, Command};
+use std::alloc::{AllocError, Global};
+
+/// `batch [--config NAME] [--user NAME]`. Takes memory for its options.
+pub fn batch_command<'a>(alloc: Global) -> Result<Command<'a>, AllocError>
+    ensures { IfOk result (λ command. app_of command ≡ batch_app) }
+{
+    let config = option_named(alloc, "config", false);
+    let user = option_named(alloc, "user", false);
+    let command = bare_command(alloc, "batch").arg(config)?.arg(user)?;
+    Ok(command)
+}
+
+/// `stdio --config NAME`. Takes memory for its option.
+pub fn stdio_command<'a>(alloc: Global) -> Result<Command<'a>, AllocError>
+    ensures { IfOk result (λ command. app_of command ≡ stdio_app) }
+{
+    let config = option_named(alloc, "config", true);
+    let command = bare_command(alloc, "stdio").arg(config)?;
+    Ok(command)
+}
+
+/// What `clap` finds in the words of a command, or `None` where it finds a fault with them.
+///
+/// Takes memory for that, and for the tables of a parse.
+pub fn matches_in<'a>(
+    command: Command<'a>,
+    words: &'a [String],
+) -> Result<Option<ArgMatches<'a>>, AllocError>
+    requires { is_simple_and_free (app_of command) ≡ true }
+    ensures taken { IfOk result (λ found. IfSome found (λ matches.
+        (takes (app_of command.entry) (map string_bytes words.entry.now) ≡ true) × HasMatchesOf (app_of command.entry) (map string_bytes words.entry.now) matches)) }
+    ensures refused { IfOk result (λ found. IfNone found (takes (app_of command.entry) (map string_bytes words.entry.now) ≡ false)) }
+{
+    match command.try_get_matches_from(words) {
+        Ok(matches) => Ok(Some(matches)),
+        Err(error) => match error.kind() {
+            ErrorKind::OutOfMemory => Err(AllocError),
+            _ => Ok(None),
+        },
+    }
+}
+
+fn bare_command<'a>(alloc: Global, name: &'a str) -> Command<'a>
+    ensures { app_of result ≡ bare name.entry.now }
+{
+    Command::new(alloc, name)
+        .no_binary_name(true)
+        .disable_help_flag(true)
+        .disable_version_flag(true)
+}
+
+fn option_named<'a>(alloc: Global, name: &'a str, required: bool) -> Arg<'a>
+    ensures rule { rule_of result ≡ option_named name.entry.now required }
+    ensures local { result.global ≡ false }
+{
+    Arg::new(alloc, name)
+        .long(name)
+        .action(ArgAction::Set)
+        .required(required)
+}

@@ -1,0 +1,4 @@
+pub mod Replying
+pub mod Turning
+pub mod Messaging
+pub mod Standing

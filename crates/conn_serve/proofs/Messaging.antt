@@ -1,0 +1,128 @@
+-- One message and its response.
+use Rattle.std.proofs.Common.{◌≡◌, ℕ, ℤ, zero, suc, ◌+◌, ◌≤◌, List, [], ◌∷◌, ◌++◌, Bool, Option, Some, None, Result, Ok, Err, inl, inr, Vec, map, refl, sym, ap, ◌∙◌, subst, arith, append-nil}
+use Rattle.std.specs.Prelude.{◌⊎◌}
+use Rattle.std.specs.declared.alloc.Global.{Global}
+use Rattle.cal_model.proofs.Sessions.{still}
+use Rattle.cal_model.specs.Batches.Asked.{Asked, asked, is_refused, refused}
+use Rattle.cal_model.specs.Batches.Reply.{BeginsReply, Replies, asked_in, clamped}
+use Rattle.cal_model.specs.Batches.Session.{Made, Session, Shown, front_of}
+use Rattle.cal_model.specs.Data.{Data}
+use Rattle.cal_model.specs.Http.Messages.{Message}
+use Rattle.cal_model.specs.Http.Responses.{Response, response_text}
+use Rattle.cal_model.specs.Http.Routes.{Route, api, direct, route}
+use Rattle.cal_model.specs.Http.Turns.{Begun, Told, Ticked, Turn, api_response, at_once, by_calls, called, moment_behind, uncalled}
+use Rattle.cal_model.specs.Outside.{Ticks}
+use Rattle.cal_model.specs.Sites.Configuration.{Site, user_at}
+use Rattle.cal_model.specs.TreeData.{data_of}
+use Rattle.cal_model.specs.declared.desk.DeskError.{DeskError}
+use Rattle.cal_model.specs.declared.desk.DeskError.TheVariants.{PassSpent, NoMemory}
+use Rattle.cal_model.specs.declared.desk.Front.{Front}
+use Rattle.cal_model.specs.declared.user.User.{User}
+use Rattle.conn_serve.proofs.Turning.{told_none}
+use Rattle.conn_serve.specs.Answering.{AnswerHow, Answers, IsReply, ReplyHow, reply_response}
+use Rattle.conn_serve.specs.declared.reply.Reply.{Reply}
+
+-- ---- the clock
+
+first_tick : (a b : ℕ → ℤ) (r : ℤ) → r ≡ a 0 → ((n : ℕ) → b n ≡ a (n + 1)) → (n : ℕ) → a n ≡ moment_behind (r ∷ []) b n
+first_tick a b r one rest zero = sym one
+first_tick a b r one rest (suc n) = (let e : suc n ≡ n + 1 = omega arith in ap a e ∙ sym (rest n))
+
+ticked_one : (a b : Option (ℕ → ℤ)) (r : ℤ) → Ticks a b r → Ticked a b (r ∷ [])
+ticked_one None b r h = tt
+ticked_one (Some a) None r h = absurd h
+ticked_one (Some a) (Some b) r h = first_tick a b r h.0 h.1
+
+-- ---- no call was made
+
+abbrev quiet : Message → List ℕ → Turn
+quiet message bytes = record { message = message; moments = []; made = []; bytes = bytes }
+
+told_quiet : {message : Message} {c : Option (ℕ → ℤ)} {f : List Front} {d : Shown} (bytes : List ℕ) → Told c c f f d d (quiet message bytes ∷ [])
+told_quiet {message} {c} {f} {d} bytes = record { ticked = (told_none c f d).ticked; fronts = sym (append-nil f); session = still d; turns = omega arith }
+
+module _ {site : Site} {close : Bool} {message : Message} {c : Option (ℕ → ℤ)} {f : List Front} {d : Shown} where
+  pub answered_at_once : {r : Route} {response : Response} (v : Vec ℕ Global) → r ≡ route site close message → r ≡ direct response → v.items ≡ response_text response → Answers site close message c c f f d d (Ok v)
+  answered_at_once {r} {response} v routes is shows = record {
+    turn = quiet message v.items;
+    is = refl;
+    told = told_quiet v.items;
+    how = (at_once (record { response = response; routed = sym routes ∙ is; unread = refl; uncalled = refl; shows = shows }), refl);
+  }
+
+  pub not_answered : Answers site close message c c f f d d (Err NoMemory)
+  not_answered = record { turn = quiet message []; is = refl; told = told_quiet []; how = uncalled (omega arith) refl }
+
+-- ---- calls were made
+
+abbrev turn_at : Message → ℤ → List Made → List ℕ → Turn
+turn_at message told made bytes = record { message = message; moments = told ∷ []; made = made; bytes = bytes }
+
+told_one : {c0 c1 : Option (ℕ → ℤ)} {f0 f1 : List Front} {d0 d1 : Shown} (message : Message) (told : ℤ) (made : List Made) (bytes : List ℕ)
+    → Ticks c0 c1 told → f1 ≡ f0 ++ map front_of made → Session d0 d1 made → d1.turns ≤ d0.turns + 16 → Told c0 c1 f0 f1 d0 d1 (turn_at message told made bytes ∷ [])
+told_one {c0} {c1} {f0} {f1} {d0} {d1} message told made bytes ticks fronts session turns = record {
+  ticked = ticked_one c0 c1 told ticks;
+  fronts = fronts ∙ ap (λ (l : List Made). f0 ++ map front_of l) (sym (append-nil made));
+  session = subst (Session d0 d1) (sym (append-nil made)) session;
+  turns = omega (arith, turns);
+}
+
+begins_whole : (user : User) (moment : ℤ) (what : Asked) (made : List Made) (d : Data) → Replies user moment what made d → (made ≡ []) ⊎ BeginsReply user moment what made
+begins_whole user moment (asked r) made d h = inr (record { request = r; is_request = refl; steps = h.0; rest = []; invoked = h.1 ∙ sym (append-nil _); fit = h.2; made_is = h.3 })
+begins_whole user moment (refused e) made d h = inl h.0
+
+shown_reply : (close : Bool) (what : Asked) (reply : Reply) → is_refused what ≡ reply.is_refusal → reply_response close reply ≡ api_response close what (data_of reply.tree)
+shown_reply close (asked r) reply is = rw (sym is) refl
+shown_reply close (refused e) reply is = rw (sym is) refl
+
+module _ (site : Site) (close : Bool) (message : Message) (user : ℕ) (told : ℤ) (routed : route site close message ≡ api user) where
+  begun_at : (made : List Made) → BeginsReply (user_at site user) (clamped told) (asked_in message.body) made → Begun site close (turn_at message told made [])
+  begun_at made b = called (record { user = user; routed = routed; moment = told; read = refl; begins = b })
+
+  maybe_begun : (made : List Made) → (made ≡ []) ⊎ BeginsReply (user_at site user) (clamped told) (asked_in message.body) made → Begun site close (turn_at message told made [])
+  maybe_begun made (inl none) = uncalled (omega arith) none
+  maybe_begun made (inr b) = begun_at made b
+
+  stop_how : (d1 : Shown) (made : List Made) (e : DeskError) → ReplyHow (user_at site user) (clamped told) (asked_in message.body) made d1 (Err e) → AnswerHow site close d1 (turn_at message told made []) (Err e)
+  stop_how d1 made PassSpent h = (begun_at made h.0, h.1)
+  stop_how d1 made NoMemory h = maybe_begun made h
+
+  module _ {f0 f1 : List Front} {d0 d1 : Shown} {u : User} {w : ℤ} {bytes : List ℕ} (user_is : u ≡ user_at site user) (clamps : w ≡ clamped told) (body : bytes ≡ message.body) where
+    of_message : (r : Result Reply DeskError) → IsReply u w (asked_in bytes) f0 f1 d0 d1 r → IsReply (user_at site user) (clamped told) (asked_in message.body) f0 f1 d0 d1 r
+    of_message r = subst (λ (y : (User × ℤ) × List ℕ). IsReply y.0.0 y.0.1 (asked_in y.1) f0 f1 d0 d1 r) (λ i. ((user_is i, clamps i), body i))
+
+  module _ {c0 c1 : Option (ℕ → ℤ)} {f0 f1 : List Front} {d0 d1 : Shown} (ticks : Ticks c0 c1 told) {u : User} {w : ℤ} {bytes : List ℕ} (user_is : u ≡ user_at site user) (clamps : w ≡ clamped told) (body : bytes ≡ message.body) where
+    -- the desk made no more calls, or memory was wanted
+    pub stopped : (e : DeskError) → IsReply u w (asked_in bytes) f0 f1 d0 d1 (Err e) → Answers site close message c0 c1 f0 f1 d0 d1 (Err e)
+    stopped e given =
+        let r = of_message user_is clamps body (Err e) given in
+        record { turn = turn_at message told r.made []; is = refl; told = told_one message told r.made [] ticks r.fronts r.session r.turns; how = stop_how d1 r.made e r.how }
+
+    -- there was no memory for the bytes of the response
+    pub unwritten : (reply : Reply) → IsReply u w (asked_in bytes) f0 f1 d0 d1 (Ok reply) → Answers site close message c0 c1 f0 f1 d0 d1 (Err NoMemory)
+    unwritten reply given =
+        let r = of_message user_is clamps body (Ok reply) given in
+        record {
+          turn = turn_at message told r.made [];
+          is = refl;
+          told = told_one message told r.made [] ticks r.fronts r.session r.turns;
+          how = maybe_begun r.made (begins_whole (user_at site user) (clamped told) (asked_in message.body) r.made (data_of reply.tree) r.how.0);
+        }
+
+    pub answered : (reply : Reply) (v : Vec ℕ Global) → IsReply u w (asked_in bytes) f0 f1 d0 d1 (Ok reply) → v.items ≡ response_text (reply_response close reply) → Answers site close message c0 c1 f0 f1 d0 d1 (Ok v)
+    answered reply v given shows =
+        let r = of_message user_is clamps body (Ok reply) given in
+        record {
+          turn = turn_at message told r.made v.items;
+          is = refl;
+          told = told_one message told r.made v.items ticks r.fronts r.session r.turns;
+          how = (by_calls (record {
+            user = user;
+            routed = routed;
+            moment = told;
+            read = refl;
+            reply = data_of reply.tree;
+            replied = r.how.0;
+            shows = shows ∙ ap response_text (shown_reply close (asked_in message.body) reply r.how.1);
+          }), refl);
+        }

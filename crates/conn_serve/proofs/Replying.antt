@@ -1,0 +1,141 @@
+-- What a batch made of a request is a reply to it.
+use Rattle.std.proofs.Common.{◌≡◌, ℕ, ℤ, ◌+◌, ◌≤◌, List, [], Bool, true, false, Option, Some, None, Result, Ok, Err, inl, inr, length, refl, sym, ap, ◌∙◌, subst, arith, append-nil, true≢false}
+use Rattle.std.proofs.lemmas.Bool.Decides.{nat_tests}
+use Rattle.std.specs.Prelude.{◌<◌, if◌then◌else◌, not, nat_lt}
+use Rattle.cal_model.proofs.Sessions.{still}
+use Rattle.cal_model.specs.Batches.Asked.{Asked, asked, asked_by, checked, is_refused, max_calls_in_request, refused}
+use Rattle.cal_model.specs.Batches.Methods.{is_capability}
+use Rattle.std.specs.List.{list_all}
+use Rattle.cal_model.specs.Batches.Batch.{IsBatch, IsBegun, IsStopped, IsUntouched, Step, made_in}
+use Rattle.cal_model.specs.Batches.Reply.{BeginsReply, Replies, asked_by_reading, asked_in, max_size_request}
+use Rattle.cal_model.specs.Batches.Requests.{request_of}
+use Rattle.cal_model.specs.Json.{reading}
+use Rattle.cal_model.specs.declared.request.Limit.TheVariants.{CallsInRequest, SizeRequest}
+use Rattle.cal_model.specs.declared.request.RequestError.TheVariants.{Limit, UnknownCapability}
+use Rattle.cal_model.specs.Batches.Session.{Shown}
+use Rattle.cal_model.specs.Data.{Data}
+use Rattle.cal_model.specs.TreeData.{data_of}
+use Rattle.cal_model.specs.declared.desk.DeskError.{DeskError}
+use Rattle.cal_model.specs.declared.desk.DeskError.TheVariants.{PassSpent, NoMemory}
+use Rattle.cal_model.specs.declared.desk.Front.{Front}
+use Rattle.cal_model.specs.declared.request.BatchError.{BatchError}
+use Rattle.cal_model.specs.declared.request.BatchError.TheVariants as batch
+use Rattle.cal_model.specs.declared.request.Invocation.{Invocation}
+use Rattle.cal_model.specs.declared.request.Request.{Request}
+use Rattle.cal_model.specs.declared.request.RequestError.{RequestError}
+use Rattle.cal_model.specs.declared.tree.Tree.{Tree}
+use Rattle.cal_model.specs.declared.user.User.{User}
+use Rattle.conn_serve.specs.Answering.{IsRefusal, IsReply}
+use Rattle.conn_serve.specs.declared.reply.Reply.{Reply}
+
+-- ---- a request has few calls
+
+few_if : (all many : Bool) (e f : RequestError) (x r : Request) → (if not all then refused e else if many then refused f else asked x) ≡ asked r → (many ≡ false) × (asked x ≡ asked r)
+few_if false many e f x r is = absurd (true≢false (ap is_refused is))
+few_if true true e f x r is = absurd (true≢false (ap is_refused is))
+few_if true false e f x r is = (refl, is)
+
+abbrev request_in : Request → Asked → Request
+request_in d (asked r) = r
+request_in d (refused e) = d
+
+few_checked : (o : Option Request) (r : Request) → checked o ≡ asked r → length r.calls ≤ 16
+few_checked None r is = absurd (true≢false (ap is_refused is))
+few_checked (Some x) r is =
+    let parts = few_if (list_all is_capability x.using) (nat_lt max_calls_in_request (length x.calls)) UnknownCapability (Limit CallsInRequest) x r is in
+    let same : x ≡ r = ap (request_in x) parts.1 in
+    let few : nat_lt max_calls_in_request (length x.calls) ≡ false = parts.0 in
+    let most : length x.calls ≤ 16 = search (arith, nat_tests, few) in
+    subst (λ (y : Request). length y.calls ≤ 16) same most
+
+module _ {user : User} {moment : ℤ} where
+  -- ---- nothing was called
+
+  pub no_reply : {what : Asked} {f : List Front} {d : Shown} → IsReply user moment what f f d d (Err NoMemory)
+  no_reply {what} {f} {d} = record { made = []; session = still d; fronts = sym (append-nil f); turns = omega arith; how = inl refl }
+
+  pub refused_reply : {what : Asked} {e : RequestError} {f : List Front} {d : Shown} (r : Result Reply DeskError) → what ≡ refused e → IsRefusal e r → IsReply user moment what f f d d r
+  refused_reply {what} {e} {f} {d} (Ok reply) is h = record {
+    made = [];
+    session = still d;
+    fronts = sym (append-nil f);
+    turns = omega arith;
+    how = (subst (λ (a : Asked). Replies user moment a [] (data_of reply.tree)) (sym is) (refl, h.0), ap is_refused is ∙ sym h.1);
+  }
+  refused_reply {what} {e} {f} {d} (Err x) is h = subst (λ (y : DeskError). IsReply user moment what f f d d (Err y)) (sym h) no_reply
+
+  -- ---- the desk was asked
+
+  module _ (d : Data) {f0 f1 : List Front} {d0 d1 : Shown} where
+    begins_of : (steps : List Step) (rest : List Invocation) → IsBegun user moment d f0 f1 d0 d1 steps rest → BeginsReply user moment (asked_by d) (made_in steps)
+    begins_of steps rest b = record { request = b.request; is_request = b.is_asked; steps = steps; rest = rest; invoked = b.progress.invoked; fit = b.progress.fit; made_is = refl }
+
+    few_turns : (steps : List Step) (rest : List Invocation) → IsBegun user moment d f0 f1 d0 d1 steps rest → d1.turns ≤ d0.turns + 16
+    few_turns steps rest b = let few = few_checked (request_of d) b.request b.is_asked in let t = b.turns in omega arith
+
+    pub batch_reply : (tree : Tree) → IsBatch user moment d f0 f1 d0 d1 (Ok tree) → IsReply user moment (asked_by d) f0 f1 d0 d1 (Ok (record { tree = tree; is_refusal = false }))
+    batch_reply tree b =
+        let begun = b.1 in
+        let invoked = begun.progress.invoked ∙ append-nil _ in
+        record {
+          made = made_in b.0;
+          session = begun.progress.session;
+          fronts = begun.progress.fronts_grew;
+          turns = few_turns b.0 [] begun;
+          how = (subst (λ (a : Asked). Replies user moment a (made_in b.0) (data_of tree)) (sym begun.is_asked) (b.0, invoked, begun.progress.fit, refl, b.2), ap is_refused begun.is_asked);
+        }
+
+    stopped_reply : IsStopped user moment d f0 f1 d0 d1 → IsReply user moment (asked_by d) f0 f1 d0 d1 (Err NoMemory)
+    stopped_reply b = record {
+      made = made_in b.0;
+      session = b.2.progress.session;
+      fronts = b.2.progress.fronts_grew;
+      turns = few_turns b.0 b.1 b.2;
+      how = inr (begins_of b.0 b.1 b.2);
+    }
+
+    untouched_reply : (r : Result Reply DeskError) → IsUntouched user moment d f0 f1 d0 d1 → IsReply user moment (asked_by d) f0 f0 d0 d0 r → IsReply user moment (asked_by d) f0 f1 d0 d1 r
+    untouched_reply r u x = subst (λ (y : List Front × Shown). IsReply user moment (asked_by d) f0 y.0 d0 y.1 r) (λ i. (sym u.1 i, sym u.0 i)) x
+
+    pub spent_reply : IsBatch user moment d f0 f1 d0 d1 (Err batch.PassSpent) → IsReply user moment (asked_by d) f0 f1 d0 d1 (Err PassSpent)
+    spent_reply b = record {
+      made = made_in b.0.0;
+      session = b.0.2.progress.session;
+      fronts = b.0.2.progress.fronts_grew;
+      turns = few_turns b.0.0 b.0.1 b.0.2;
+      how = (begins_of b.0.0 b.0.1 b.0.2, b.1);
+    }
+
+    pub memory_reply : IsBatch user moment d f0 f1 d0 d1 (Err batch.NoMemory) → IsReply user moment (asked_by d) f0 f1 d0 d1 (Err NoMemory)
+    memory_reply (inl u) = untouched_reply (Err NoMemory) u no_reply
+    memory_reply (inr b) = stopped_reply b
+
+    pub refused_batch_reply : (e : RequestError) (r : Result Reply DeskError) → IsBatch user moment d f0 f1 d0 d1 (Err (batch.Refused e)) → IsRefusal e r → IsReply user moment (asked_by d) f0 f1 d0 d1 r
+    refused_batch_reply e r b h = untouched_reply r b.1 (refused_reply r b.0 h)
+
+-- w is the moment that the batch was given
+module _ {user : User} (d : Data) {f0 f1 : List Front} {d0 d1 : Shown} (w moment : ℤ) (same : w ≡ moment) where
+  at_moment : (r : Result Reply DeskError) → IsReply user w (asked_by d) f0 f1 d0 d1 r → IsReply user moment (asked_by d) f0 f1 d0 d1 r
+  at_moment r = subst (λ (t : ℤ). IsReply user t (asked_by d) f0 f1 d0 d1 r) same
+
+  pub reply_of_batch : (tree : Tree) → IsBatch user w d f0 f1 d0 d1 (Ok tree) → IsReply user moment (asked_by d) f0 f1 d0 d1 (Ok (record { tree = tree; is_refusal = false }))
+  reply_of_batch tree b = at_moment _ (batch_reply d tree b)
+
+  pub refused_of_batch : {x : BatchError} (e : RequestError) (r : Result Reply DeskError) → IsBatch user w d f0 f1 d0 d1 (Err x) → x ≡ batch.Refused e → IsRefusal e r → IsReply user moment (asked_by d) f0 f1 d0 d1 r
+  refused_of_batch e r b is h = at_moment r (refused_batch_reply d e r (subst (λ (y : BatchError). IsBatch user w d f0 f1 d0 d1 (Err y)) is b) h)
+
+  pub spent_of_batch : {x : BatchError} → IsBatch user w d f0 f1 d0 d1 (Err x) → x ≡ batch.PassSpent → IsReply user moment (asked_by d) f0 f1 d0 d1 (Err PassSpent)
+  spent_of_batch b is = at_moment _ (spent_reply d (subst (λ (y : BatchError). IsBatch user w d f0 f1 d0 d1 (Err y)) is b))
+
+  pub memory_of_batch : {x : BatchError} → IsBatch user w d f0 f1 d0 d1 (Err x) → x ≡ batch.NoMemory → IsReply user moment (asked_by d) f0 f1 d0 d1 (Err NoMemory)
+  memory_of_batch b is = at_moment _ (memory_reply d (subst (λ (y : BatchError). IsBatch user w d f0 f1 d0 d1 (Err y)) is b))
+
+pub over_limit : (bytes : List ℕ) → max_size_request < length bytes → asked_in bytes ≡ refused (Limit SizeRequest)
+over_limit bytes h =
+    let over : nat_lt max_size_request (length bytes) ≡ true = search (arith, nat_tests, h) in
+    rw over refl
+
+pub as_read : (bytes : List ℕ) → length bytes ≤ max_size_request → asked_in bytes ≡ asked_by_reading (reading bytes)
+as_read bytes h =
+    let within : nat_lt max_size_request (length bytes) ≡ false = search (arith, nat_tests, h) in
+    rw within refl

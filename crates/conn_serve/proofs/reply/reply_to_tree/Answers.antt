@@ -1,0 +1,18 @@
+use Rattle.std.proofs.Common.{◌≡◌, rules, w64, to_z, of_z}
+use Rattle.cal_model.specs.TreeData.{data_of}
+use Rattle.conn_serve.proofs.Replying.{memory_of_batch, refused_of_batch}
+use Rattle.conn_serve.proofs.reply.reply_to_tree.Goals as goal
+
+pub returns-in-Err-Refused : goal.returns-in-Err-Refused
+returns-in-Err-Refused g c =
+    let moment = c.args.moment.now in
+    let w = to_z w64 (of_z w64 moment) in
+    let same : w ≡ moment = search rules in
+    refused_of_batch (data_of c.args.request) w moment same c.in-Err-Refused.error c.refusal.result (c.in-Err-Refused.ensures) c.in-Err-Refused.field-0-is c.refusal.ensures
+
+pub returns-in-Err-NoMemory : goal.returns-in-Err-NoMemory
+returns-in-Err-NoMemory g c =
+    let moment = c.args.moment.now in
+    let w = to_z w64 (of_z w64 moment) in
+    let same : w ≡ moment = search rules in
+    memory_of_batch (data_of c.args.request) w moment same (c.in-Err-NoMemory.ensures) c.in-Err-NoMemory.field-0-is

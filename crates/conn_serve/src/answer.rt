@@ -1,0 +1,82 @@
+//! The response to one message.
+ghost use Rattle.std.specs.Prelude.{◌≡◌, ◌<◌, IfOk, length};
+ghost use Rattle.cal_model.specs.Http.Responses.{IsStatus, response_text};
+ghost use Rattle.cal_model.specs.Http.Routes.{api, route};
+ghost use Rattle.conn_serve.specs.Answering.{Answers, reply_response};
+ghost use Rattle.http_edge.specs.Reading.{message_shown, response_shown};
+
+use crate::moment::clamped_moment;
+use crate::reply::{Reply, reply_to};
+use crate::route::{Route, route_of, success, with_problem};
+use cal_model::desk::{Desk, DeskError, Front};
+use http_edge::message::Message;
+use http_edge::response::response_bytes;
+use io_edge::clock::Clock;
+use session_doc::Site;
+use std::alloc::{AllocError, Global};
+
+/// The bytes of the response to a message, behind which the connection ends or doesn't.
+///
+/// The clock is read where the message is a JMAP request of a user, and a front is added for each call that the desk answered.
+/// Takes memory for the response.
+pub(crate) fn answer<D: Desk, C: Clock>(
+    alloc: Global,
+    site: &Site,
+    message: &Message,
+    close: bool,
+    desk: &mut D,
+    clock: &mut C,
+    fronts: &mut Vec<Front>,
+) -> Result<Vec<u8>, DeskError>
+    requires { (D.shown desk.old).accounts ≡ length site.now.accounts }
+    ensures { Answers site.now close (message_shown message.now) (C.moments clock.old) (C.moments clock.new) fronts.old.items fronts.new.items (D.shown desk.old) (D.shown desk.new) result }
+{
+    match route_of(alloc, site, message, close) {
+        Ok(Route::Direct(response)) => match response_bytes(alloc, &response) {
+            Ok(bytes) => Ok(bytes),
+            Err(_) => Err(DeskError::NoMemory),
+        },
+        Ok(Route::Api(user)) => answer_api(alloc, site, user, message, close, desk, clock, fronts),
+        Err(_) => Err(DeskError::NoMemory),
+    }
+}
+
+// The bytes of the response to a JMAP request of this user.
+fn answer_api<D: Desk, C: Clock>(
+    alloc: Global,
+    site: &Site,
+    user: u32,
+    message: &Message,
+    close: bool,
+    desk: &mut D,
+    clock: &mut C,
+    fronts: &mut Vec<Front>,
+) -> Result<Vec<u8>, DeskError>
+    requires accounts { (D.shown desk.old).accounts ≡ length site.now.accounts }
+    requires there { user < length site.now.users }
+    requires routed { route site.now close (message_shown message.now) ≡ api user }
+    ensures { Answers site.now close (message_shown message.now) (C.moments clock.old) (C.moments clock.new) fronts.old.items fronts.new.items (D.shown desk.old) (D.shown desk.new) result }
+{
+    let told = clock.now();
+    let moment = clamped_moment(&told);
+    let body = message.body.as_slice();
+    let reply = match reply_to(alloc, body, site.user(user), desk, &moment, fronts) {
+        Ok(reply) => reply,
+        Err(error) => return Err(error),
+    };
+    match reply_bytes(alloc, &reply, close) {
+        Ok(bytes) => Ok(bytes),
+        Err(_) => Err(DeskError::NoMemory),
+    }
+}
+
+// The bytes of the response that shows a reply.
+fn reply_bytes(alloc: Global, reply: &Reply, close: bool) -> Result<Vec<u8>, AllocError>
+    ensures { IfOk result (λ v. v.items ≡ response_text (reply_response close reply.now)) }
+{
+    if reply.is_refusal {
+        response_bytes(alloc, &with_problem(alloc, &reply.tree, close)?)
+    } else {
+        response_bytes(alloc, &success(alloc, &reply.tree, close)?)
+    }
+}

@@ -1,0 +1,8 @@
+//! Connections: from the bytes of messages to the bytes of their responses, over any source, sink, desk and clock.
+#![tactic(auto)]
+
+mod answer;
+pub mod moment;
+pub mod reply;
+mod route;
+pub mod serve;

@@ -1,0 +1,87 @@
+//! The reply to the body of a request.
+ghost use Rattle.std.specs.Prelude.{◌≡◌, ◌<◌, All};
+ghost use Rattle.cal_model.specs.Batches.Asked.{asked_by};
+ghost use Rattle.cal_model.specs.Batches.Reply.{asked_in};
+ghost use Rattle.cal_model.specs.TreeData.{data_of};
+ghost use Rattle.conn_serve.specs.Answering.{IsRefusal, IsReply};
+
+use batch_exec::problem::problem_tree;
+use batch_exec::run::run_batch;
+use cal_model::desk::{Desk, DeskError, Front};
+use cal_model::request::{BatchError, Limit, RequestError};
+use cal_model::tree::Tree;
+use cal_model::user::User;
+use json_edge::read::{ReadError, read_tree};
+use std::alloc::Global;
+
+/// The most bytes of a request (RFC 8620 section 2, `maxSizeRequest`).
+pub const MAX_SIZE_REQUEST: usize = 10_000_000;
+
+/// What a request came to.
+#[derive(Drop)]
+pub struct Reply {
+    /// The response (RFC 8620 section 3.4), or the problem of a request that is refused as a whole (section 3.6.1).
+    pub tree: Tree,
+    /// Whether the request is refused as a whole.
+    pub is_refusal: bool,
+}
+
+/// Answers bytes as a request of a user, on the accounts of a desk, at a moment in seconds of UTC from 1970.
+///
+/// A front is added for each call that the desk answered, in order. `PassSpent` comes only where the desk made as many calls as it
+/// may. At both errors the calls that were answered stay in the accounts' histories, and their fronts are in the list.
+pub fn reply_to<D: Desk>(
+    alloc: Global,
+    bytes: &[u8],
+    user: &User,
+    desk: &mut D,
+    moment: &i64,
+    fronts: &mut Vec<Front>,
+) -> Result<Reply, DeskError>
+    requires { All (λ g. g.account < (D.shown desk.old).accounts) user.now.grants }
+    ensures { IsReply user.now moment.now (asked_in bytes.now) fronts.old.items fronts.new.items (D.shown desk.old) (D.shown desk.new) result }
+{
+    if bytes.len() > MAX_SIZE_REQUEST {
+        return refusal(alloc, RequestError::Limit(Limit::SizeRequest));
+    }
+    match read_tree(alloc, bytes) {
+        Ok(request) => reply_to_tree(alloc, request, user, desk, moment, fronts),
+        Err(ReadError::NotJson) => refusal(alloc, RequestError::NotJson),
+        Err(ReadError::NotWhole) => refusal(alloc, RequestError::NotRequest),
+        Err(ReadError::NoMemory) => Err(DeskError::NoMemory),
+    }
+}
+
+fn reply_to_tree<D: Desk>(
+    alloc: Global,
+    request: Tree,
+    user: &User,
+    desk: &mut D,
+    moment: &i64,
+    fronts: &mut Vec<Front>,
+) -> Result<Reply, DeskError>
+    requires { All (λ g. g.account < (D.shown desk.old).accounts) user.now.grants }
+    ensures { IsReply user.now moment.now (asked_by (data_of request)) fronts.old.items fronts.new.items (D.shown desk.old) (D.shown desk.new) result }
+{
+    match run_batch(alloc, request, user, desk, *moment, fronts) {
+        Ok(tree) => Ok(Reply {
+            tree,
+            is_refusal: false,
+        }),
+        Err(BatchError::Refused(error)) => refusal(alloc, error),
+        Err(BatchError::PassSpent) => Err(DeskError::PassSpent),
+        Err(BatchError::NoMemory) => Err(DeskError::NoMemory),
+    }
+}
+
+fn refusal(alloc: Global, error: RequestError) -> Result<Reply, DeskError>
+    ensures { IsRefusal error result }
+{
+    match problem_tree(alloc, error) {
+        Ok(tree) => Ok(Reply {
+            tree,
+            is_refusal: true,
+        }),
+        Err(_) => Err(DeskError::NoMemory),
+    }
+}

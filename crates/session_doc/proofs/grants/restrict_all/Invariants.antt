@@ -1,0 +1,7 @@
+use Rattle.std.proofs.Common.{◌≡◌, drop, map}
+use Rattle.cal_model.specs.Sites.Configuration.{restrict_all}
+use Rattle.cal_model.specs.TreeData.{data_of}
+use Rattle.session_doc.proofs.grants.restrict_all.Given as goal
+
+abbrev pub invariant-loop-id : goal.invariant-loop-id
+invariant-loop-id l = restrict_all (map data_of (drop l.id-index l.ids)) l.grants.items ≡ restrict_all (map data_of l.ids) l.fn.grants.items

@@ -1,0 +1,14 @@
+-- The zones at the head of a list of JSON values.
+use Rattle.std.specs.Prelude.{List, [], ◌∷◌, Option, Some, None}
+use Rattle.cal_model.specs.Data.{Data}
+use Rattle.cal_model.specs.Sites.Configuration.{zone_text}
+use Rattle.cal_model.specs.Sites.TimeZones.{ZoneText}
+
+abbrev pub before : Option ZoneText → List ZoneText → List ZoneText
+before None zones = []
+before (Some zone) zones = zone ∷ zones
+
+-- the names and rules of the items up to the first that isn't of that form
+abbrev pub leading_zones : List Data → List ZoneText
+leading_zones [] = []
+leading_zones (d ∷ ds) = before (zone_text d) (leading_zones ds)

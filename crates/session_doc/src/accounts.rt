@@ -1,0 +1,77 @@
+//! The field `accounts`.
+ghost use Rattle.std.specs.Prelude.{◌≡◌, ◌≤◌, [], IfErr, IfOk, Ok, length, map};
+ghost use Rattle.cal_model.specs.Sites.Configuration.{account_in, accounts_in, has_account, is_good_account, read_behind};
+ghost use Rattle.cal_model.specs.TreeData.{data_of};
+ghost use Rattle.cal_model.specs.declared.site.Field.TheVariants.{Accounts};
+ghost use Rattle.session_doc.specs.Reports.{ReportsField};
+
+use crate::account::Account;
+use crate::configuration_error::ConfigurationError;
+use crate::parts::{list_at, text_at};
+use cal_model::site::Field;
+use cal_model::text::Text;
+use cal_model::tree::Tree;
+use std::alloc::{AllocError, Global};
+use time_text::read_id;
+
+/// The most accounts of a site.
+const MOST_ACCOUNTS: usize = 16;
+
+/// The accounts: 1 to 16, each with an id, which is an Id (RFC 8620 section 1.2) of no other, and a name. Takes memory for them.
+pub(crate) fn read_accounts(alloc: Global, tree: &Tree) -> Result<Vec<Account>, ConfigurationError>
+    ensures ok { IfOk result (λ accounts. accounts_in (data_of tree.now) ≡ Ok accounts.items) }
+    ensures err { IfErr result (λ error. ReportsField Accounts error (accounts_in (data_of tree.now))) }
+{
+    let Some(items) = list_at(tree, "accounts") else {
+        return Err(bad(0));
+    };
+    if items.is_empty() || items.len() > MOST_ACCOUNTS {
+        return Err(bad(0));
+    }
+    read_each(alloc, items)
+}
+
+fn read_each(alloc: Global, items: &[Tree]) -> Result<Vec<Account>, ConfigurationError>
+    requires { length items.now ≤ 16 }
+    ensures ok { IfOk result (λ accounts. read_behind account_in [] (map data_of items.now) ≡ Ok accounts.items) }
+    ensures err { IfErr result (λ error. ReportsField Accounts error (read_behind account_in [] (map data_of items.now))) }
+{
+    let mut accounts = Vec::with_capacity(alloc, items.len())?;
+    for item in items {
+        let Some(account) = read_account(&accounts, item)? else {
+            return Err(bad(accounts.len() as u32));
+        };
+        accounts.push(account)?;
+    }
+    Ok(accounts)
+}
+
+// The account that an item tells of, where it may stand behind these.
+fn read_account(earlier: &[Account], item: &Tree) -> Result<Option<Account>, AllocError>
+    ensures { IfOk result (λ account. account ≡ account_in earlier.now (data_of item.now)) }
+{
+    let (Some(id), Some(name)) = (text_at(item, "id"), text_at(item, "name")) else {
+        return Ok(None);
+    };
+    if !read_id(id.as_str().as_bytes()) || has_account(earlier, id) {
+        return Ok(None);
+    }
+    Ok(Some(Account::new(id.copy()?, name.copy()?)))
+}
+
+fn has_account(accounts: &[Account], id: &Text) -> bool
+    ensures { result ≡ has_account accounts.now id.now }
+{
+    accounts
+        .iter()
+        .any(|account| account.id().as_str() == id.as_str())
+}
+
+fn bad(index: u32) -> ConfigurationError
+    ensures { result ≡ ConfigurationError.Bad Accounts index }
+{
+    ConfigurationError::Bad {
+        field: Field::Accounts,
+        index,
+    }
+}

@@ -1,0 +1,65 @@
+//! The capabilities of the server and of its accounts.
+ghost use Rattle.std.specs.Prelude.{◌≡◌, [], IfOk, pos};
+ghost use Rattle.cal_model.specs.Data.{members_of, object, whole};
+ghost use Rattle.cal_model.specs.Sites.SessionObject.{account_capabilities, capabilities, core_capability};
+ghost use Rattle.cal_model.specs.TreeData.{data_of};
+
+use cal_model::method::{AVAILABILITY, CALENDARS, CORE};
+use cal_model::num::Num;
+use cal_model::text::Text;
+use cal_model::tree::{Tree, TreeList, TreeObject};
+use std::alloc::{AllocError, Global};
+
+/// The capabilities of the server (RFC 8620 section 2, draft JMAP for Calendars). Takes memory for them.
+pub(crate) fn capabilities(alloc: Global) -> Result<Tree, AllocError>
+    ensures { IfOk result (λ tree. data_of tree ≡ capabilities) }
+{
+    let members = vec![in alloc;
+        (CALENDARS, no_members(alloc)),
+        (CORE, core_capability(alloc)?),
+        (AVAILABILITY, no_members(alloc)),
+    ]?;
+    Tree::object(alloc, members)
+}
+
+/// The capabilities of an account. Takes memory for them.
+pub(crate) fn account_capabilities(alloc: Global) -> Result<Tree, AllocError>
+    ensures { IfOk result (λ tree. data_of tree ≡ account_capabilities) }
+{
+    let members = vec![in alloc;
+        (CALENDARS, no_members(alloc)),
+        (AVAILABILITY, no_members(alloc)),
+    ]?;
+    Tree::object(alloc, members)
+}
+
+// The limits of the server.
+fn core_capability(alloc: Global) -> Result<Tree, AllocError>
+    ensures { IfOk result (λ tree. data_of tree ≡ core_capability) }
+{
+    let collation = Tree::Text(Text::from_str(alloc, "i;octet")?);
+    let collations = Tree::List(TreeList::new(vec![in alloc; collation]?));
+    let members = vec![in alloc;
+        ("collationAlgorithms", collations),
+        ("maxCallsInRequest", number(16)),
+        ("maxConcurrentRequests", number(16)),
+        ("maxConcurrentUpload", number(0)),
+        ("maxObjectsInGet", number(500)),
+        ("maxObjectsInSet", number(500)),
+        ("maxSizeRequest", number(10_000_000)),
+        ("maxSizeUpload", number(0)),
+    ]?;
+    Tree::object(alloc, members)
+}
+
+fn number(value: u32) -> Tree
+    ensures { data_of result ≡ whole (pos value) }
+{
+    Tree::Whole(Num::new(value as i128))
+}
+
+fn no_members(alloc: Global) -> Tree
+    ensures { data_of result ≡ object (members_of []) }
+{
+    Tree::Object(TreeObject::new(Vec::new(alloc)))
+}

@@ -1,0 +1,166 @@
+//! The field `users`.
+ghost use Rattle.std.specs.Prelude.{◌≡◌, ◌≤◌, ◌&&◌, [], IfErr, IfOk, Ok, codes, length, map, not, option_map};
+ghost use Rattle.std.specs.List.{list_all, list_any};
+ghost use Rattle.std.specs.Char.{is_ascii_graphic};
+ghost use Rattle.std.specs.Str.{bytes_eq};
+ghost use Rattle.cal_model.specs.Http.Fields.{is_token};
+ghost use Rattle.cal_model.specs.Parts.{text_at};
+ghost use Rattle.cal_model.specs.Sites.Configuration.{is_good_token, is_good_user_name, passing, read_behind, user_in, users_in};
+ghost use Rattle.cal_model.specs.Sites.TimeZones.{is_name};
+ghost use Rattle.cal_model.specs.TreeData.{data_of};
+ghost use Rattle.cal_model.specs.declared.site.Field.TheVariants.{Users};
+ghost use Rattle.session_doc.specs.Reports.{ReportsField};
+
+use crate::account::Account;
+use crate::configuration_error::ConfigurationError;
+use crate::grants::read_grants;
+use crate::parts::{list_at, text_at};
+use crate::site_user::SiteUser;
+use cal_model::site::Field;
+use cal_model::text::Text;
+use cal_model::tree::Tree;
+use cal_model::user::User;
+use std::alloc::{AllocError, Global};
+
+/// The most users of a site.
+const MOST_USERS: usize = 64;
+
+/// The most bytes of a user's name, and of a token.
+const MOST_BYTES: usize = 255;
+
+/// The users: 1 to 64, each with a name of 1 to 255 bytes and a token of 1 to 255 bytes from `!` to `~`, both of no
+/// other, and the accounts that the user may use. Takes memory for them.
+pub(crate) fn read_users(
+    alloc: Global,
+    accounts: &[Account],
+    tree: &Tree,
+) -> Result<Vec<SiteUser>, ConfigurationError>
+    requires { length accounts.now ≤ 16 }
+    ensures ok { IfOk result (λ users. users_in accounts.now (data_of tree.now) ≡ Ok users.items) }
+    ensures err { IfErr result (λ error. ReportsField Users error (users_in accounts.now (data_of tree.now))) }
+{
+    let Some(items) = list_at(tree, "users") else {
+        return Err(bad(0));
+    };
+    if items.is_empty() || items.len() > MOST_USERS {
+        return Err(bad(0));
+    }
+    read_each(alloc, accounts, items)
+}
+
+fn read_each(
+    alloc: Global,
+    accounts: &[Account],
+    items: &[Tree],
+) -> Result<Vec<SiteUser>, ConfigurationError>
+    requires few_accounts { length accounts.now ≤ 16 }
+    requires few { length items.now ≤ 64 }
+    ensures ok { IfOk result (λ users. read_behind (user_in accounts.now) [] (map data_of items.now) ≡ Ok users.items) }
+    ensures err { IfErr result (λ error. ReportsField Users error (read_behind (user_in accounts.now) [] (map data_of items.now))) }
+{
+    let mut users = Vec::with_capacity(alloc, items.len())?;
+    for item in items {
+        let Some(user) = read_user(alloc, accounts, &users, item)? else {
+            return Err(bad(users.len() as u32));
+        };
+        users.push(user)?;
+    }
+    Ok(users)
+}
+
+// The user that an item tells of, where one may stand behind these.
+fn read_user(
+    alloc: Global,
+    accounts: &[Account],
+    earlier: &[SiteUser],
+    item: &Tree,
+) -> Result<Option<SiteUser>, AllocError>
+    requires { length accounts.now ≤ 16 }
+    ensures { IfOk result (λ user. user ≡ user_in accounts.now earlier.now (data_of item.now)) }
+{
+    let Some(name) = good_name(earlier, item) else {
+        return Ok(None);
+    };
+    let Some(token) = good_token(earlier, item) else {
+        return Ok(None);
+    };
+    let Some(grants) = read_grants(alloc, accounts, item)? else {
+        return Ok(None);
+    };
+    let user = User {
+        name: name.copy()?,
+        grants,
+    };
+    Ok(Some(SiteUser::new(token.copy()?, user)))
+}
+
+// The name of the user that an item tells of, where it may stand behind these.
+fn good_name<'a>(earlier: &[SiteUser], item: &'a Tree) -> Option<&'a Text>
+    ensures { option_map (λ name. name.now) result ≡ passing (is_good_user_name earlier.now) (text_at (codes "name") (data_of item.now)) }
+{
+    let Some(name) = text_at(item, "name") else {
+        return None;
+    };
+    if is_name(name) && !has_name(earlier, name) {
+        Some(name)
+    } else {
+        None
+    }
+}
+
+fn is_name(name: &Text) -> bool
+    ensures { result ≡ is_name name.now }
+{
+    !name.as_str().is_empty() && name.as_str().len() <= MOST_BYTES
+}
+
+fn has_name(users: &[SiteUser], name: &Text) -> bool
+    ensures { result ≡ list_any (λ u. bytes_eq u.user.name name.now) users.now }
+{
+    users
+        .iter()
+        .any(|user| user.user().name.as_str() == name.as_str())
+}
+
+// The token of the user that an item tells of, where it may stand behind these.
+fn good_token<'a>(earlier: &[SiteUser], item: &'a Tree) -> Option<&'a Text>
+    ensures { option_map (λ token. token.now) result ≡ passing (is_good_token earlier.now) (text_at (codes "token") (data_of item.now)) }
+{
+    let Some(token) = text_at(item, "token") else {
+        return None;
+    };
+    if is_token(token.as_str().as_bytes()) && !has_token(earlier, token) {
+        Some(token)
+    } else {
+        None
+    }
+}
+
+fn is_token(text: &[u8]) -> bool
+    ensures { result ≡ is_token text.now }
+{
+    !text.is_empty() && text.len() <= MOST_BYTES && are_graphic(text)
+}
+
+fn are_graphic(bytes: &[u8]) -> bool
+    ensures { result ≡ list_all is_ascii_graphic bytes.now }
+{
+    bytes.iter().all(|byte| byte.is_ascii_graphic())
+}
+
+fn has_token(users: &[SiteUser], token: &Text) -> bool
+    ensures { result ≡ list_any (λ u. bytes_eq u.token token.now) users.now }
+{
+    users
+        .iter()
+        .any(|user| user.token().as_str() == token.as_str())
+}
+
+fn bad(index: u32) -> ConfigurationError
+    ensures { result ≡ ConfigurationError.Bad Users index }
+{
+    ConfigurationError::Bad {
+        field: Field::Users,
+        index,
+    }
+}

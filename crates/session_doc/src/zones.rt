@@ -1,0 +1,82 @@
+//! The field `zones`.
+ghost use Rattle.std.specs.Prelude.{◌≡◌, ◌≤◌, [], IfErr, IfOk, Ok, length, map};
+ghost use Rattle.cal_model.specs.Sites.Configuration.{read_behind, zone_in, zone_text, zones_in};
+ghost use Rattle.cal_model.specs.TreeData.{data_of};
+ghost use Rattle.session_doc.specs.LeadingZones.{leading_zones};
+ghost use Rattle.session_doc.specs.Reports.{ReportsField};
+
+use crate::configuration_error::ConfigurationError;
+use crate::parts::{optional_list_at, text_at};
+use cal_model::site::Field;
+use cal_model::text::Text;
+use cal_model::tree::Tree;
+use std::alloc::{AllocError, Global};
+use zone_table::{ZoneError, Zones};
+
+/// The most zones of a site.
+const MOST_ZONES: usize = 64;
+
+/// The time zones: at most 64, each with a name and a rule. Takes memory for them.
+pub(crate) fn read_zones(alloc: Global, tree: &Tree) -> Result<Zones, ConfigurationError>
+    ensures ok { IfOk result (λ zones. zones_in (data_of tree.now) ≡ Ok zones) }
+    ensures err { IfErr result (λ error. ReportsField Field.Zones error (zones_in (data_of tree.now))) }
+{
+    let Some(items) = optional_list_at(tree, "zones") else {
+        return Err(bad(0));
+    };
+    if items.len() > MOST_ZONES {
+        return Err(bad(0));
+    }
+    read_each(alloc, items)
+}
+
+fn read_each(alloc: Global, items: &[Tree]) -> Result<Zones, ConfigurationError>
+    requires { length items.now ≤ 64 }
+    ensures ok { IfOk result (λ zones. read_behind zone_in [] (map data_of items.now) ≡ Ok zones) }
+    ensures err { IfErr result (λ error. ReportsField Field.Zones error (read_behind zone_in [] (map data_of items.now))) }
+{
+    let texts = leading_zones(alloc, items)?;
+    match Zones::read(alloc, &texts) {
+        Ok(zones) => {
+            if texts.len() < items.len() {
+                Err(bad(texts.len() as u32))
+            } else {
+                Ok(zones)
+            }
+        }
+        Err(ZoneError::BadZone { index }) => Err(bad(index)),
+        Err(ZoneError::NoMemory) => Err(ConfigurationError::NoMemory),
+    }
+}
+
+// The names and rules of the items up to the first that has no such form.
+fn leading_zones(alloc: Global, items: &[Tree]) -> Result<Vec<(Text, Text)>, AllocError>
+    ensures { IfOk result (λ zones. zones.items ≡ leading_zones (map data_of items.now)) }
+{
+    let mut zones = Vec::with_capacity(alloc, items.len())?;
+    for item in items {
+        let Some(zone) = zone_text(item)? else {
+            return Ok(zones);
+        };
+        zones.push(zone)?;
+    }
+    Ok(zones)
+}
+
+fn zone_text(item: &Tree) -> Result<Option<(Text, Text)>, AllocError>
+    ensures { IfOk result (λ zone. zone ≡ zone_text (data_of item.now)) }
+{
+    let (Some(name), Some(rule)) = (text_at(item, "name"), text_at(item, "rule")) else {
+        return Ok(None);
+    };
+    Ok(Some((name.copy()?, rule.copy()?)))
+}
+
+fn bad(index: u32) -> ConfigurationError
+    ensures { result ≡ ConfigurationError.Bad Field.Zones index }
+{
+    ConfigurationError::Bad {
+        field: Field::Zones,
+        index,
+    }
+}
