@@ -78,7 +78,14 @@ fn answer_to(
 {
     let mut desk = SoleDesk::open(alloc, site)?;
     let mut fronts = Vec::new(alloc);
-    match reply_to(alloc, bytes, site.user(user), &mut desk, moment, &mut fronts) {
+    match reply_to(
+        alloc,
+        bytes,
+        site.user(user),
+        &mut desk,
+        moment,
+        &mut fronts,
+    ) {
         Ok(reply) => {
             desk.all_entries_are_its_own();
             answer_of(alloc, &reply)

@@ -71,11 +71,7 @@ fn start_named(site: Site, name: &str) -> Result<Start, Status>
 }
 
 // The site of a configuration, or the one without.
-fn site_of<O: Opener>(
-    alloc: Global,
-    opener: &mut O,
-    config: Option<&str>,
-) -> Result<Site, Status>
+fn site_of<O: Opener>(alloc: Global, opener: &mut O, config: Option<&str>) -> Result<Site, Status>
     ensures files { O.files opener.new ≡ O.files opener.old }
     ensures how { SiteHow (O.files opener.old) (O.faults opener.old) (O.faults opener.new) (option_map (λ name. name.now) config.entry) result }
 {

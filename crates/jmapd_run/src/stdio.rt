@@ -22,9 +22,9 @@ pub(crate) fn run_stdio<S: Source, K: Sink, C: Clock>(
     clock: &mut C,
 ) -> Status
     ensures { RunsStdio (S.left input.old) (S.left input.new) (K.holds output.old) (K.holds output.new) (S.faults input.old) (S.faults input.new)
-            (K.faults output.old) (K.faults output.new) (C.moments clock.old) (C.moments clock.new) site.now result
+        (K.faults output.old) (K.faults output.new) (C.moments clock.old) (C.moments clock.new) site.now result
         ⊎ ((result ≡ NoMemory) × IsUntouched (S.left input.old) (S.left input.new) (K.holds output.old) (K.holds output.new) (S.faults input.old) (S.faults input.new)
-            (K.faults output.old) (K.faults output.new) (C.moments clock.old) (C.moments clock.new)) }
+        (K.faults output.old) (K.faults output.new) (C.moments clock.old) (C.moments clock.new)) }
 {
     let Ok(mut desk) = SoleDesk::open(alloc, site) else {
         return Status::NoMemory;
