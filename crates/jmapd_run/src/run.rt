@@ -3,7 +3,7 @@ ghost use Rattle.std.specs.Prelude.{◌≡◌, map, string_bytes};
 ghost use Rattle.jmapd_run.specs.Runs.{Runs};
 
 use crate::batch::run_batch;
-use crate::start::{Start, start};
+use crate::start::{Start, start_from};
 use crate::stdio::run_stdio;
 use cal_model::status::Status;
 use io_edge::clock::Clock;
@@ -30,7 +30,7 @@ pub fn run<O: Opener, S: Source, K: Sink, C: Clock>(
         (map string_bytes words.now) (O.files opener.old) (O.faults opener.old) (O.faults opener.new) result }
     ensures files { O.files opener.new ≡ O.files opener.old }
 {
-    match start(alloc, words, opener) {
+    match start_from(alloc, words, opener) {
         Ok(Start::Batch(site, user)) => run_batch(alloc, &site, user, input, output, clock),
         Ok(Start::Stdio(site)) => run_stdio(alloc, &site, input, output, clock),
         Err(status) => status,

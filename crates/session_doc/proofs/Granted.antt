@@ -1,5 +1,5 @@
 -- Every grant of a site is of an account of the site.
-use Rattle.std.proofs.Common.{◌≡◌, ℕ, ◌<◌, ◌≤◌, List, [], ◌∷◌, Bool, true, false, Option, Some, None, option_map, option_and_then, Result, Ok, Err, codes, All, length, position, refl, subst}
+use Rattle.std.proofs.Common.{arith, ◌≡◌, ℕ, ◌<◌, ◌≤◌, List, [], ◌∷◌, Bool, true, false, Option, Some, None, option_map, option_and_then, Result, Ok, Err, codes, All, length, position, refl, subst}
 use Rattle.std.proofs.lemmas.List.Elements.{All-cons, All-head, All-tail}
 use Rattle.std.proofs.lemmas.List.Quantifiers.{position-Some}
 use Rattle.std.proofs.lemmas.Option.{option_and_then_some}
@@ -9,7 +9,7 @@ use Rattle.cal_model.specs.Data.{Data, field}
 use Rattle.cal_model.specs.Parts.{as_text, list_at, text_at}
 use Rattle.cal_model.specs.Sites.Configuration.{SiteAccount, SiteUser, account_in, accounts_in, grant_in, grant_to, grants_in, has_grant, is_good_token, is_good_user_name, optional_list, passing, read_behind, restrict, restrict_all, user_grants, user_in, users_in}
 use Rattle.cal_model.specs.declared.user.Grant.{Grant}
-use Rattle.session_doc.proofs.ReadLists.{all_read, list_read, most_read}
+use Rattle.session_doc.proofs.ReadLists.{all_read, least_read, list_read, most_read}
 
 abbrev IsBelow : ℕ → Grant → Type 0
 IsBelow n g = g.account < n
@@ -85,6 +85,9 @@ module _ (accounts : List SiteAccount) where
 
   pub users_few : (d : Data) (us : List SiteUser) → users_in accounts d ≡ Ok us → length us ≤ 64
   users_few d us e = most_read (user_in accounts) 1 64 (list_at (codes "users") d) us e
+
+  pub users_some : (d : Data) (us : List SiteUser) → users_in accounts d ≡ Ok us → 0 < length us
+  users_some d us e = let some = least_read (user_in accounts) 1 64 (list_at (codes "users") d) us e in omega (arith, some)
 
   pub users_have : (d : Data) (us : List SiteUser) → users_in accounts d ≡ Ok us → All HasAccounts us
   users_have d us e =

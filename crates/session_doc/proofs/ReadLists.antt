@@ -26,15 +26,15 @@ module _ {X : Type 0} (read : List X → Data → Option X) where
     pub all_read : (ds : List Data) (xs : List X) → read_behind read [] ds ≡ Ok xs → All P xs
     all_read ds xs e = all_behind [] ds xs (All-nil P) e
 
-  pub list_read : (least most : ℕ) (o : Option (List Data)) (xs : List X) → read_list least most read o ≡ Ok xs → (ds : List Data) × (length ds ≤ most) × (read_behind read [] ds ≡ Ok xs)
+  pub list_read : (least most : ℕ) (o : Option (List Data)) (xs : List X) → read_list least most read o ≡ Ok xs → (ds : List Data) × (length ds ≤ most) × (read_behind read [] ds ≡ Ok xs) × (least ≤ length ds)
   list_read least most None xs e = cc
   list_read least most (Some ds) xs e = by_least (nat_le least (length ds)) refl
     where
-      by_most : (b : Bool) → nat_le (length ds) most ≡ b → nat_le least (length ds) ≡ true → (es : List Data) × (length es ≤ most) × (read_behind read [] es ≡ Ok xs)
-      by_most true m l = (ds, grind (arith, nat_tests), rw (l, m) at e)
+      by_most : (b : Bool) → nat_le (length ds) most ≡ b → nat_le least (length ds) ≡ true → (es : List Data) × (length es ≤ most) × (read_behind read [] es ≡ Ok xs) × (least ≤ length es)
+      by_most true m l = (ds, grind (arith, nat_tests), rw (l, m) at e, grind (arith, nat_tests))
       by_most false m l = let f = rw (l, m) at e in cc
 
-      by_least : (b : Bool) → nat_le least (length ds) ≡ b → (es : List Data) × (length es ≤ most) × (read_behind read [] es ≡ Ok xs)
+      by_least : (b : Bool) → nat_le least (length ds) ≡ b → (es : List Data) × (length es ≤ most) × (read_behind read [] es ≡ Ok xs) × (least ≤ length es)
       by_least true l = by_most (nat_le (length ds) most) refl l
       by_least false l = let f = rw l at e in cc
 
@@ -42,3 +42,8 @@ module _ {X : Type 0} (read : List X → Data → Option X) where
   most_read least most o xs e =
       let it = list_read least most o xs e in
       omega (arith, each_read [] it.0 xs it.2, it.1)
+
+  pub least_read : (least most : ℕ) (o : Option (List Data)) (xs : List X) → read_list least most read o ≡ Ok xs → least ≤ length xs
+  least_read least most o xs e =
+      let it = list_read least most o xs e in
+      omega (arith, each_read [] it.0 xs it.2, it.3)

@@ -23,7 +23,7 @@ pub struct Site {
 }
 
 impl Model for Site {
-    ghost use Rattle.std.specs.Prelude.{◌≤◌, length};
+    ghost use Rattle.std.specs.Prelude.{◌<◌, ◌≤◌, length};
     ghost use Rattle.std.specs.Arc.{arc_value};
     ghost use Rattle.cal_model.specs.Sites.Configuration.{HasItsAccounts, Site as Described};
 
@@ -31,7 +31,7 @@ impl Model for Site {
 
     ghost view = { λ a. record { base_url = a.base_url; accounts = a.accounts.items; users = a.users.items; zones = arc_value a.zones } };
 
-    ghost invariant = { λ a. (length a.accounts.items ≤ 16) × (length a.users.items ≤ 64) × HasItsAccounts (record { base_url = a.base_url; accounts = a.accounts.items; users = a.users.items; zones = arc_value a.zones }) };
+    ghost invariant = { λ a. (length a.accounts.items ≤ 16) × (0 < length a.users.items) × (length a.users.items ≤ 64) × HasItsAccounts (record { base_url = a.base_url; accounts = a.accounts.items; users = a.users.items; zones = arc_value a.zones }) };
 }
 
 impl Site {
@@ -43,6 +43,7 @@ impl Site {
         zones: Arc<Zones>,
     ) -> Site
         requires few_accounts { length accounts.items ≤ 16 }
+        requires some_users { 0 < length users.items }
         requires few_users { length users.items ≤ 64 }
         requires granted { HasItsAccounts (record { base_url = base_url; accounts = accounts.items; users = users.items; zones = arc_value zones }) }
         ensures { result ≡ record { base_url = base_url; accounts = accounts.items; users = users.items; zones = arc_value zones } }

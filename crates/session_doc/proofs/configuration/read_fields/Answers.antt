@@ -1,7 +1,7 @@
 use Rattle.std.proofs.Common.{◌≡◌, ◌∙◌, Ok, ap, sym}
 use Rattle.cal_model.specs.Sites.Configuration.{users_in}
 use Rattle.cal_model.specs.TreeData.{data_of}
-use Rattle.session_doc.proofs.Granted.{accounts_few, users_few, users_have}
+use Rattle.session_doc.proofs.Granted.{accounts_few, users_few, users_have, users_some}
 use Rattle.session_doc.proofs.configuration.read_fields.Goals as goal
 
 pub read_users-requires : goal.read_users-requires
@@ -12,6 +12,9 @@ new-requires-2-clause-few_accounts c = accounts_few (data_of c.args.tree.now) c.
 
 pub new-requires-2-clause-few_users : goal.new-requires-2-clause-few_users
 new-requires-2-clause-few_users c = users_few c.deref.result.now (data_of c.args.tree.now) c.in_ok-users.users.items c.in_ok-users.ensures.ok
+
+pub new-requires-2-clause-some_users : goal.new-requires-2-clause-some_users
+new-requires-2-clause-some_users c = users_some c.deref.result.now (data_of c.args.tree.now) c.in_ok-users.users.items c.in_ok-users.ensures.ok
 
 pub new-requires-2-clause-granted : goal.new-requires-2-clause-granted
 new-requires-2-clause-granted c =
