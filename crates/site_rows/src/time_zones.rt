@@ -96,10 +96,10 @@ fn other_than_named(
     if !is_listed(zones, pairs) {
         return other(alloc, "a table of other zones");
     }
-    if !all_at(answer, "has", |name| zones.has(name)) {
+    if !all_at(zones, answer, "has", true) {
         return other(alloc, "a table without a zone of `has`");
     }
-    if !all_at(answer, "lacks", |name| !zones.has(name)) {
+    if !all_at(zones, answer, "lacks", false) {
         return other(alloc, "a table with a zone of `lacks`");
     }
     Ok(None)
@@ -114,11 +114,11 @@ fn is_listed(zones: &Zones, pairs: &[(Text, Text)]) -> bool {
         })
 }
 
-/// Whether this holds of each text of the list at a key, which has texts alone.
-fn all_at(object: &TreeObject, key: &str, holds: impl Fn(&Text) -> bool) -> bool {
+/// Whether the zones have each name of the list at a key, or have none of them.
+fn all_at(zones: &Zones, object: &TreeObject, key: &str, has_them: bool) -> bool {
     match object.get(key) {
         Some(Tree::List(names)) => names.items().iter().all(|name| match name {
-            Tree::Text(name) => holds(name),
+            Tree::Text(name) => zones.has(name) == has_them,
             _ => false,
         }),
         _ => false,
