@@ -6,11 +6,14 @@ ghost use Rattle.std.specs.Prelude.{◌≡◌, true, false};
 use cal_model::status::Status;
 use io_edge::memory_clock::StillClock;
 use io_edge::memory_opener::SureOpener;
-use io_edge::memory_sink::SureSink;
-use io_edge::memory_source::SureSource;
+use io_edge::memory_sink::MemSink;
+use io_edge::memory_source::MemSource;
 use jmapd_run::run::run;
+use row_table::line::unrolled;
+use row_table::row::{Row, read_rows};
+use row_table::tally::Tally;
 use std::alloc::{AllocError, Global};
-use std::io::{self, BufRead, BufReader};
+use std::io;
 
 /// 2024-01-01T00:00:00Z.
 const CLOCK: StillClock = StillClock {
@@ -20,55 +23,30 @@ const CLOCK: StillClock = StillClock {
 /// How the answer to a request begins that is refused as a whole (RFC 8620 section 3.6.1).
 const PROBLEM: &str = "{\"detail\":";
 
-/// A request, and the answer that it is to get.
-#[derive(Drop)]
-struct Row {
-    /// What the request shows.
-    subject: String,
-    request: String,
-    answer: String,
-}
+/// How many bytes are given at once.
+const PIECE: usize = 50;
 
-/// The rows of the table on standard input.
-///
-/// A line that begins with `#` says what the requests after it show, an empty line says nothing, and of the others each
-/// second one is the answer to the request before it.
-fn read_rows(rt: &HostRuntime) -> io::Result<Vec<Row>> {
-    let alloc = rt.alloc();
-    let mut rows = Vec::new(alloc);
-    let mut subject = String::new(alloc);
-    let mut asked = None;
-    for line in BufReader::new(alloc, rt.reader())?.lines(alloc) {
-        let line = line?;
-        if line.starts_with("#") {
-            subject = line;
-        } else if !line.is_empty() {
-            match asked.take() {
-                None => asked = Some(line),
-                Some(request) => rows.push(Row {
-                    subject: subject.clone()?,
-                    request,
-                    answer: line,
-                })?,
-            }
-        }
-    }
-    Ok(rows)
-}
+/// The most bytes of a request whose input and output fail.
+const MOST_FAILING: usize = 5000;
 
 /// How `batch` ended, and what it wrote to.
 #[derive(Drop)]
 struct Outcome {
     status: Status,
-    output: SureSink,
+    output: MemSink,
 }
 
-/// What `batch` does with a request.
-fn outcome_of(alloc: Global, request: &str) -> Result<Outcome, AllocError> {
+/// What `batch` does with a request, where these calls of `take` and of `give` fail.
+fn outcome_of(
+    alloc: Global,
+    request: &str,
+    failing_takes: Vec<u64>,
+    failing_gives: Vec<u64>,
+) -> Result<Outcome, AllocError> {
     let words = vec![in alloc; String::from_str(alloc, "batch")?]?;
     let mut opener = SureOpener::new(alloc, Vec::new(alloc));
-    let mut input = SureSource::new(request.as_bytes().to_vec(alloc)?);
-    let mut output = SureSink::new(alloc);
+    let mut input = MemSource::new(request.as_bytes().to_vec(alloc)?, PIECE, failing_takes);
+    let mut output = MemSink::new(alloc, failing_gives);
     let mut clock = CLOCK;
     let status = run(
         alloc,
@@ -93,36 +71,68 @@ fn status_of(is_problem: bool) -> Status
     }
 }
 
-/// Whether `batch` wrote this answer with a line feed, and ended as it has to with it.
+/// Whether `batch` wrote this answer with a line feed, and ended as it has to with it. Of one that begins with `...` the end is shown.
 fn has_answered(outcome: &Outcome, answer: &str) -> bool {
-    let status = status_of(answer.starts_with(PROBLEM));
-    match outcome.output.bytes() {
-        Some([text @ .., b'\n']) => text == answer.as_bytes() && outcome.status == status,
-        _ => false,
-    }
+    let Some([text @ .., b'\n']) = outcome.output.bytes() else {
+        return false;
+    };
+    let is_answer = match answer.strip_prefix("...") {
+        Some(end) => text.ends_with(end.as_bytes()),
+        None => text == answer.as_bytes(),
+    };
+    is_answer && outcome.status == status_of(text.starts_with(PROBLEM.as_bytes()))
 }
 
-/// Tells of an answer that isn't that of the table.
-fn tell(rt: &HostRuntime, row: &Row, outcome: &Outcome) -> io::Result<()> {
-    let written = String::from_utf8_lossy(rt.alloc(), outcome.output.bytes().unwrap_or_default())?;
-    println!(rt; "{}", row.subject)?;
-    println!(rt; "request: {}", row.request)?;
-    println!(rt; "table:   {}", row.answer)?;
-    println!(rt; "written: {written}")
+/// Whether `batch` wrote nothing and ended so.
+fn has_failed(outcome: &Outcome, status: Status) -> bool {
+    outcome.status == status && outcome.output.bytes() == Some(b"".as_slice())
+}
+
+/// What came of a row, where it isn't what the table has.
+fn other_than(alloc: Global, row: &Row) -> Result<Option<String>, AllocError> {
+    let (Some(request), Some(answer)) = (
+        unrolled(alloc, row.asked.as_str())?,
+        unrolled(alloc, row.answer.as_str())?,
+    ) else {
+        return Ok(Some(String::from_str(alloc, "the row can't be read")?));
+    };
+    let outcome = outcome_of(alloc, request.as_str(), Vec::new(alloc), Vec::new(alloc))?;
+    if !has_answered(&outcome, answer.as_str()) {
+        let written = outcome.output.bytes().unwrap_or_default();
+        return Ok(Some(String::from_utf8_lossy(alloc, written)?));
+    }
+    other_at_faults(alloc, request.as_str())
+}
+
+/// What came where the input fails at one `take` after the other, or the output at its first `give`.
+fn other_at_faults(alloc: Global, request: &str) -> Result<Option<String>, AllocError> {
+    if request.len() > MOST_FAILING {
+        return Ok(None);
+    }
+    let takes = request.len().div_ceil(PIECE) + 1;
+    for take in 0..takes as u64 {
+        let failing = vec![in alloc; take]?;
+        let outcome = outcome_of(alloc, request, failing, Vec::new(alloc))?;
+        if !has_failed(&outcome, Status::ReadFault) {
+            return Ok(Some(format!(in alloc; "no read fault at take {take}")?));
+        }
+    }
+    let failing = vec![in alloc; 0]?;
+    let outcome = outcome_of(alloc, request, Vec::new(alloc), failing)?;
+    if !has_failed(&outcome, Status::WriteFault) {
+        return Ok(Some(String::from_str(alloc, "no write fault")?));
+    }
+    Ok(None)
 }
 
 fn main(rt: HostRuntime) -> io::Result<()> {
-    let rows = read_rows(&rt)?;
-    let mut wrong = 0u64;
-    for row in &rows {
-        let outcome = outcome_of(rt.alloc(), row.request.as_str())?;
-        if !has_answered(&outcome, row.answer.as_str()) {
-            tell(&rt, row, &outcome)?;
-            wrong = wrong.saturating_add(1);
+    let mut tally = Tally::new();
+    for row in &read_rows(&rt)? {
+        let other = other_than(rt.alloc(), row)?;
+        if let Some(other) = &other {
+            row.tell(&rt, other.as_str())?;
         }
+        tally.count(other.is_none());
     }
-    println!(rt;
-        "{} requests, {wrong} of them with another answer than the table's",
-        rows.len()
-    )
+    println!(rt; "{tally}")
 }

@@ -112,7 +112,7 @@ fn texts_at(
     Ok(Some(texts))
 }
 
-/// The bytes of a text, those of the parts of a list one behind the other, and the compact text of an object.
+/// The bytes of a text, those of the parts of a list one behind the other, the byte of a number, and the compact text of an object.
 pub fn bytes_of(alloc: Global, value: &Tree) -> Result<Vec<u8>, AllocError> {
     let Tree::List(parts) = value else {
         return part_bytes(alloc, value);
@@ -127,6 +127,7 @@ pub fn bytes_of(alloc: Global, value: &Tree) -> Result<Vec<u8>, AllocError> {
 fn part_bytes(alloc: Global, part: &Tree) -> Result<Vec<u8>, AllocError> {
     match part {
         Tree::Text(text) => text.as_str().as_bytes().to_vec(alloc),
+        Tree::Whole(byte) => vec![in alloc; u8::try_from(byte.get()).unwrap_or(0)],
         part => tree_text(alloc, part),
     }
 }

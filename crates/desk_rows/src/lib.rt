@@ -1,8 +1,6 @@
-//! Worked examples of what desks and accounts answer, and of what `jmapd batch` writes, a module a subject.
+//! Worked examples of what desks and accounts answer, a module a subject.
 #![tactic(auto)]
 
-#[cfg(test)]
-mod batches;
 #[cfg(test)]
 mod connections;
 #[cfg(test)]

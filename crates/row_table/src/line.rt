@@ -2,13 +2,15 @@
 use cal_model::tree::Tree;
 use json_edge::read::{ReadError, read_tree};
 use std::alloc::{AllocError, Global};
+use std::fmt::Write;
 
 /// The most times that a text stands.
-const MOST_TIMES: u32 = 1_000_000;
+const MOST_TIMES: u32 = 10_000_000;
 
-/// The text of a line, in which a number, a blank and a text between backquotes stand for the text so many times.
+/// The text of a line, in which a number, a blank and a text between backquotes stand for the text so many times; `%` in the text stands
+/// for which time it is, from 1.
 ///
-/// None where something else stands between backquotes, or a number above 1,000,000. Takes memory for the text.
+/// None where something else stands between backquotes, or a number above 10,000,000. Takes memory for the text.
 pub fn unrolled(alloc: Global, line: &str) -> Result<Option<String>, AllocError> {
     let mut text = String::new(alloc);
     for (place, part) in line.split('`').enumerate() {
@@ -29,9 +31,33 @@ fn repeated(alloc: Global, part: &str) -> Result<Option<String>, AllocError> {
         return Ok(None);
     };
     match times.parse::<u32>() {
-        Ok(times) if times <= MOST_TIMES => Ok(Some(text.repeat(alloc, times as usize)?)),
+        Ok(times) if times <= MOST_TIMES => {
+            if text.contains('%') {
+                Ok(Some(counted(alloc, text, times)?))
+            } else {
+                Ok(Some(text.repeat(alloc, times as usize)?))
+            }
+        }
         _ => Ok(None),
     }
+}
+
+fn counted(alloc: Global, text: &str, times: u32) -> Result<String, AllocError> {
+    let mut all = String::new(alloc);
+    for turn in 0..times {
+        push_counted(&mut all, text, turn + 1)?;
+    }
+    Ok(all)
+}
+
+fn push_counted(all: &mut String, text: &str, turn: u32) -> Result<(), AllocError> {
+    for (place, part) in text.split('%').enumerate() {
+        if place > 0 {
+            write!(all, "{turn}")?;
+        }
+        all.push_str(part)?;
+    }
+    Ok(())
 }
 
 /// The JSON value of the text of a line, where it is one whose numbers are whole. Takes memory for it.
