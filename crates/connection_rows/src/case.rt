@@ -127,7 +127,7 @@ pub fn bytes_of(alloc: Global, value: &Tree) -> Result<Vec<u8>, AllocError> {
 fn part_bytes(alloc: Global, part: &Tree) -> Result<Vec<u8>, AllocError> {
     match part {
         Tree::Text(text) => text.as_str().as_bytes().to_vec(alloc),
-        Tree::Whole(byte) => vec![in alloc; u8::try_from(byte.get()).unwrap_or(0)],
+        Tree::Whole(byte) => Ok(vec![in alloc; u8::try_from(byte.get()).unwrap_or(0)]?),
         part => tree_text(alloc, part),
     }
 }
