@@ -45,7 +45,7 @@ module _ {site : Site} {most : ℕ} {b n h0 h1 : Option (List ℕ)} {s0 s1 k0 k1
     holds : Holds most s.taken (messages_of s.turns) s.left ending
     holds = (
       subst (λ (l : List Turn). Reads s.taken (messages_of l) s.left) all_turns s.in_order,
-      subst (λ (k : ℕ). EndsAs most k (messages_of s.turns) s.left ending) (sym (length-map s.turns (λ (t : Turn). t.message))) w.ends
+      subst (λ (k : ℕ). EndsAs most k (messages_of s.turns) s.left ending) (sym (length-map s.turns (λ (t : Turn). t.message))) w.ends,
     )
 
     all_answered : IfSome b (λ bytes. HoldsFurther most bytes (messages_of s.turns) ending) → AllAnswered site most b n h0 h1 c0 c1 d0 d1 f i s.left ending text
