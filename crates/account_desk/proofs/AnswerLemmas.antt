@@ -1,5 +1,5 @@
 -- Answers look at the changes of a history and at nothing else of it.
-use Rattle.std.proofs.Common.{◌≡◌, ℕ, ℤ, suc, List, [], ◌∷◌, Option, Some, None, length, map, flat_map, refl, sym, ap, ◌∙◌}
+use Rattle.std.proofs.Common.{◌≡◌, ℕ, suc, List, [], ◌∷◌, Option, Some, None, length, map, flat_map, refl, sym, ap, ◌∙◌}
 use Rattle.std.proofs.lemmas.List.{length-map}
 use Rattle.cal_model.specs.Answer.{Form, get_calendars, create_plain, not_built, form_of, answer, answer_to, added, added_by_form, entries_from, unless_error, get_found, refused}
 use Rattle.cal_model.specs.Base.{Base}

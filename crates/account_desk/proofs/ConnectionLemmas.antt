@@ -1,20 +1,18 @@
 -- Equal messages on histories with equal changes have equal responses.
-use Rattle.std.proofs.Common.{◌≡◌, ℕ, ℤ, zero, suc, List, [], ◌∷◌, ◌++◌, Bool, Option, Some, None, map, refl, sym, ap, ◌∙◌, subst, append_assoc}
+use Rattle.std.proofs.Common.{◌≡◌, ℕ, ℤ, zero, suc, List, [], ◌∷◌, ◌++◌, Bool, Option, Some, None, refl, sym, ap, ◌∙◌, subst}
 use Rattle.cal_model.specs.Base.{Base}
-use Rattle.cal_model.specs.Batches.Asked.{Asked}
 use Rattle.cal_model.specs.Batches.Reply.{Replies, asked_in, clamped}
 use Rattle.cal_model.specs.Batches.Session.{Made}
-use Rattle.cal_model.specs.Data.{Data}
 use Rattle.cal_model.specs.Headline.{fresh_desk}
 use Rattle.cal_model.specs.History.{changes_of}
 use Rattle.cal_model.specs.Http.Messages.{Message}
-use Rattle.cal_model.specs.Http.Responses.{Response, response_text}
+use Rattle.cal_model.specs.Http.Responses.{response_text}
 use Rattle.cal_model.specs.Http.Routes.{Route, api, direct, route}
 use Rattle.cal_model.specs.Http.Turns.{AllFit, Fits, FitsApi, FitsDirect, Ticked, Turn, all_bytes, all_made, all_moments, api_response, at_once, by_calls, closes, messages_of}
 use Rattle.cal_model.specs.Sites.Configuration.{Site, user_at}
 use Rattle.cal_model.specs.declared.entry.Entry.{Entry}
 use Rattle.account_desk.specs.Determined.{ConnectionsAreDetermined}
-use Rattle.account_desk.proofs.PlayLemmas.{Played, after, after-append, none_yet, played, played_first, played_rest}
+use Rattle.account_desk.proofs.PlayLemmas.{Played, after, none_yet, played, played_first, played_rest}
 use Rattle.account_desk.proofs.ReplyLemmas.{SameChanges, same_replies}
 
 -- a clock that was to give these moments gave those first

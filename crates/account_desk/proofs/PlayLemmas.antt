@@ -1,5 +1,5 @@
 -- Calls played one after the other, each at what those before it added.
-use Rattle.std.proofs.Common.{◌≡◌, ◌≢◌, ℕ, ℤ, ◌+◌, ◌≤◌, ◌==◌, List, [], ◌∷◌, ◌++◌, length, take, flat_map, refl, sym, ap, ◌∙◌, subst, arith, length-append, append_assoc, eq-eqb, ne_eqb, if◌then◌else◌}
+use Rattle.std.proofs.Common.{◌≡◌, ◌≢◌, ℕ, ◌+◌, ◌==◌, List, [], ◌∷◌, ◌++◌, length, take, flat_map, refl, sym, ap, ◌∙◌, subst, arith, length-append, append_assoc, eq-eqb, ne_eqb, if◌then◌else◌}
 use Rattle.std.proofs.Math.Seq.{take-append_seam}
 use mathlib.Core.Logic.{dite}
 use native.Mathlib.Decide.{ℕ_discrete}
@@ -95,9 +95,9 @@ module _ (base : ℕ → Base) (whole : ℕ → List Entry) (upto : ℕ → ℕ)
   fill_next : (now : ℕ → List Entry) (m : Made) (ms : List Made) → ((k : ℕ) → Fills k (now k) (on k (m ∷ ms))) → (k : ℕ) → Fills k (next base now m k) (on k ms)
   fill_next now m ms left k =
       dite (ℕ_discrete k m.account)
-          (λ e. subst (λ (j : ℕ). Fills j (next base now m j) (on j ms)) (sym e)
-              (rw (eq-eqb m.account m.account refl) (filled now m (on m.account ms) (subst (Fills m.account (now m.account)) (on_same m ms) (left m.account)))))
-          (λ other. rw (ne_eqb k m.account other) (subst (Fills k (now k)) (on_other k m ms other) (left k)))
+      (λ e. subst (λ (j : ℕ). Fills j (next base now m j) (on j ms)) (sym e)
+      (rw (eq-eqb m.account m.account refl) (filled now m (on m.account ms) (subst (Fills m.account (now m.account)) (on_same m ms) (left m.account)))))
+      (λ other. rw (ne_eqb k m.account other) (subst (Fills k (now k)) (on_other k m ms other) (left k)))
 
   played_full : (now : ℕ → List Entry) (ms : List Made) → ((k : ℕ) → Fills k (now k) (on k ms)) → Played base now ms
   played_full now [] left = tt

@@ -1,11 +1,11 @@
 -- Equal requests on histories with equal changes have equal replies, and leave histories with equal changes.
-use Rattle.std.proofs.Common.{◌≡◌, ◌≢◌, ℕ, ℤ, ◌==◌, List, [], ◌∷◌, ◌++◌, Bool, true, false, Option, Some, None, flat_map, map, refl, sym, ap, ◌∙◌, subst, append-nil, if◌then◌else◌}
+use Rattle.std.proofs.Common.{◌≡◌, ℕ, ℤ, ◌==◌, List, [], ◌∷◌, ◌++◌, Bool, true, false, Option, Some, None, flat_map, map, refl, sym, ap, ◌∙◌, subst, append-nil, if◌then◌else◌}
 use Rattle.std.proofs.lemmas.List.{map-append}
 use Rattle.std.proofs.lemmas.Grind.{flat_map-append}
 use Rattle.cal_model.specs.Answer.{answer, added}
 use Rattle.cal_model.specs.Base.{Base}
 use Rattle.cal_model.specs.Batches.Asked.{Asked, asked, refused}
-use Rattle.cal_model.specs.Batches.Batch.{Fit, FollowsFrom, Step, created_in, error_response, given_ids, made_in, meaning_after, reply_response, response_object, response_with, response_with_ids, responses_in}
+use Rattle.cal_model.specs.Batches.Batch.{Fit, FollowsFrom, Step, created_in, error_response, given_ids, made_in, meaning_after, reply_response, response_with, response_with_ids, responses_in}
 use Rattle.cal_model.specs.Batches.Meaning.{Meaning, refuses, echoes, calls, meaning_of_method}
 use Rattle.cal_model.specs.Batches.Methods.{method_used}
 use Rattle.cal_model.specs.Batches.Reply.{Replies}
@@ -14,14 +14,10 @@ use Rattle.cal_model.specs.Data.{Data}
 use Rattle.cal_model.specs.Headline.{fresh_desk}
 use Rattle.cal_model.specs.History.{changes_of}
 use Rattle.cal_model.specs.Parts.{some_of}
-use Rattle.cal_model.specs.declared.call.Call.{Call}
-use Rattle.cal_model.specs.declared.call.MethodError.{MethodError}
 use Rattle.cal_model.specs.declared.call.Reply.{Reply}
-use Rattle.cal_model.specs.declared.entry.Change.{Change}
 use Rattle.cal_model.specs.declared.entry.Entry.{Entry}
 use Rattle.cal_model.specs.declared.request.Invocation.{Invocation}
 use Rattle.cal_model.specs.declared.request.Request.{Request}
-use Rattle.cal_model.specs.declared.response.Response.{Response}
 use Rattle.cal_model.specs.declared.tree.Tree.TheVariants.{Object}
 use Rattle.cal_model.specs.declared.user.User.{User}
 use Rattle.account_desk.specs.Determined.{RepliesAreDetermined}
@@ -168,12 +164,12 @@ module _ (base : ℕ → Base) (user : User) (moment : ℤ) (now now' : ℕ → 
       all_alike base user r moment now now' [] [] f.0 f'.0 same refl refl (sym f.1 ∙ f'.1) f.2 f'.2 (subst (Played base now) f.3 p) (subst (Played base now') f'.3 p') in (
         f.4 ∙ ((λ i. response_with_ids r.created_ids (led.created i) (led.responses i)) ∙ sym f'.4),
         λ k. subst (λ (l : List Made). changes_of (after base now l k) ≡ changes_of (after base now' ms' k)) (sym f.3)
-        (subst (λ (l : List Made). changes_of (after base now (made_in f.0) k) ≡ changes_of (after base now' l k)) (sym f'.3) (led.same_after k)),
+            (subst (λ (l : List Made). changes_of (after base now (made_in f.0) k) ≡ changes_of (after base now' l k)) (sym f'.3) (led.same_after k)),
       )
   same_replies (refused e) ms ms' x y f f' p p' = (
     f.1 ∙ sym f'.1,
     λ k. subst (λ (l : List Made). changes_of (after base now l k) ≡ changes_of (after base now' ms' k)) (sym f.0)
-    (subst (λ (l : List Made). changes_of (now k) ≡ changes_of (after base now' l k)) (sym f'.0) (same k)),
+        (subst (λ (l : List Made). changes_of (now k) ≡ changes_of (after base now' l k)) (sym f'.0) (same k)),
   )
 
 pub replies_determined : RepliesAreDetermined
