@@ -1,5 +1,5 @@
 -- What a connection comes to where neither its source nor its sink fails and its desk may make more calls.
-use Rattle.std.specs.Prelude.{◌≡◌, ℕ, ℤ, ◌<◌, List, [], ◌++◌, Option, IfSome, length, ⊤}
+use Rattle.std.specs.Prelude.{◌≡◌, ◌≢◌, ℕ, ℤ, ◌<◌, List, [], ◌++◌, Option, Some, IfSome, length, ⊤}
 use Rattle.std.specs.Io.KnownBytes.{Consumes, IsAtEnd}
 use Rattle.cal_model.specs.Batches.Session.{Shown}
 use Rattle.cal_model.specs.Http.Messages.{Message}
@@ -53,3 +53,30 @@ abbrev pub ReadFaultsComeLast : Type 0
 ReadFaultsComeLast = (site : Site) (most : ℕ) (before now held0 held1 : Option (List ℕ)) (s0 s1 k0 k1 : ℕ) (c0 c1 : Option (ℕ → ℤ)) (d0 d1 : Shown) (fronts : List Front) (n : ℕ)
     → (s : Serves site most before now held0 held1 s0 s1 k0 k1 c0 c1 d0 d1 fronts n end.ReadFault)
     → (ms : List Message) (left : List ℕ) (ending : Ending) → Holds most s.taken ms left ending → ending ≡ undecided
+
+-- A connection whose source had these bytes answered these messages and ended so. Neither source nor sink failed, the desk may make more calls, and it didn't end for want of memory.
+pub record IsFaultless (most : ℕ) (bytes : List ℕ) (ms : List Message) (e : ConnEnd) : Type 0 where
+  pub site : Site
+  pub now : Option (List ℕ)
+  pub held0 : Option (List ℕ)
+  pub held1 : Option (List ℕ)
+  pub s0 : ℕ
+  pub s1 : ℕ
+  pub k0 : ℕ
+  pub k1 : ℕ
+  pub c0 : Option (ℕ → ℤ)
+  pub c1 : Option (ℕ → ℤ)
+  pub d0 : Shown
+  pub d1 : Shown
+  pub fronts : List Front
+  pub n : ℕ
+  pub serves : Serves site most (Some bytes) now held0 held1 s0 s1 k0 k1 c0 c1 d0 d1 fronts n e
+  pub answered : messages_of serves.turns ≡ ms
+  pub read : Rose s0 s1 → ⊥
+  pub wrote : Rose k0 k1 → ⊥
+  pub may_call : d1.turns < most_turns
+  pub had_memory : e ≢ end.NoMemory
+
+-- its messages and its end are a function of the bytes, whatever the site, the sink, the desk and the clock are
+abbrev pub FaultlessConnectionsAreDetermined : Type 0
+FaultlessConnectionsAreDetermined = (most : ℕ) (bytes : List ℕ) (ms ns : List Message) (e f : ConnEnd) → IsFaultless most bytes ms e → IsFaultless most bytes ns f → (ms ≡ ns) × (e ≡ f)

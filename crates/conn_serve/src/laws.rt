@@ -1,5 +1,5 @@
 //! What follows of a connection that was served. Laws; they do nothing.
-ghost use Rattle.conn_serve.specs.Complete.{FaultlessConnectionsAreAnswered, ReadFaultsComeLast};
+ghost use Rattle.conn_serve.specs.Complete.{FaultlessConnectionsAreAnswered, FaultlessConnectionsAreDetermined, ReadFaultsComeLast};
 
 /// Where the counts of faults of source and sink did not rise and the desk may make more calls, a connection ended for want of memory, or all
 /// its messages were answered, with nothing else written, and it ended as its bytes do.
@@ -11,4 +11,10 @@ pub fn faultless_connections_are_answered()
 /// many, and behind them stands no head that is refused.
 pub fn read_faults_come_last()
     ensures { ReadFaultsComeLast }
+{}
+
+/// The messages and the end of a connection where nothing failed and memory sufficed are a function of the bytes that its source had, whatever
+/// its site, its sink, its desk and its clock are.
+pub fn faultless_connections_are_determined()
+    ensures { FaultlessConnectionsAreDetermined }
 {}
