@@ -1,14 +1,16 @@
-//! The program `jmapd`: runs the command that its words name over the system's streams and clock.
+//! The program `jmapd`: runs the command that its words name over the system's files, streams and clock.
 #![tactic(auto)]
 
 ghost use Rattle.std.specs.Prelude.{◌≡◌};
 ghost use Rattle.cal_model.specs.Statuses.{exit_status};
 
+use cal_model::site::Field;
 use cal_model::status::Status;
-use io_edge::memory_opener::SureOpener;
 use io_edge::streams::{ReaderSource, WriterSink};
 use io_edge::system_clock::SystemClock;
+use io_edge::system_files::SystemFiles;
 use jmapd_run::run::run;
+use std::alloc::Global;
 use std::process::ExitCode;
 use std::{env, io};
 
@@ -19,22 +21,43 @@ fn exit_code(status: Status) -> u8
         Status::Done => 0,
         Status::Refused => 1,
         Status::Usage => 2,
+        Status::Config { .. } => 3,
         Status::ReadFault => 4,
         Status::WriteFault => 5,
+        Status::OpenFault => 6,
         Status::NoMemory => 7,
+        Status::Cut => 8,
+    }
+}
+
+/// The name of a field of a configuration.
+fn field_name(field: Field) -> &'static str {
+    match field {
+        Field::Json => "json",
+        Field::BaseUrl => "baseUrl",
+        Field::Accounts => "accounts",
+        Field::Users => "users",
+        Field::Zones => "zones",
     }
 }
 
 /// The line on standard error that tells of every status but `Done`.
-fn message(status: Status) -> Option<&'static str> {
-    match status {
-        Status::Done => None,
-        Status::Refused => Some("jmapd: request refused"),
-        Status::Usage => Some("usage: jmapd batch|stdio|listen|workload [options]"),
-        Status::ReadFault => Some("jmapd: read fault"),
-        Status::WriteFault => Some("jmapd: write fault"),
-        Status::NoMemory => Some("jmapd: out of memory"),
-    }
+fn message(alloc: Global, status: Status) -> io::Result<String> {
+    let line = match status {
+        Status::Done => "",
+        Status::Refused => "jmapd: request refused",
+        Status::Usage => "usage: jmapd batch|stdio|listen|workload [options]",
+        Status::Config { field, index } => {
+            let field = field_name(field);
+            return Ok(format!(in alloc; "jmapd: configuration: {field} {index}")?);
+        }
+        Status::ReadFault => "jmapd: read fault",
+        Status::WriteFault => "jmapd: write fault",
+        Status::OpenFault => "jmapd: open fault",
+        Status::NoMemory => "jmapd: out of memory",
+        Status::Cut => "jmapd: connection cut",
+    };
+    Ok(String::from_str(alloc, line)?)
 }
 
 /// The words after the program's name.
@@ -52,7 +75,7 @@ fn main(rt: HostRuntime) -> ExitCode {
     let Ok(words) = words(&rt) else {
         return ExitCode::from(exit_code(Status::Usage));
     };
-    let mut opener = SureOpener::new(rt.alloc(), Vec::new(rt.alloc()));
+    let mut opener = SystemFiles::new(rt.alloc(), &rt);
     let mut input = ReaderSource::new(rt.reader());
     let mut output = WriterSink::new(io::writer(&rt));
     let mut clock = SystemClock::new(&rt);
@@ -64,8 +87,10 @@ fn main(rt: HostRuntime) -> ExitCode {
         &mut output,
         &mut clock,
     );
-    if let Some(line) = message(status) {
-        let _ = rt.eprintln(line);
+    if status != Status::Done
+        && let Ok(line) = message(rt.alloc(), status)
+    {
+        let _ = rt.eprintln(line.as_str());
     }
     ExitCode::from(exit_code(status))
 }

@@ -23,6 +23,11 @@ ReadHow what (Ok site) = what ≡ Ok site
 ReadHow what (Err (Config field index)) = what ≡ Err (record { field = field; index = index })
 ReadHow what (Err e) = e ≡ NoMemory
 
+-- the user of a name is looked for
+abbrev pub NamedHow : Site → List ℕ → Result Start Status → Type 0
+NamedHow site name (Ok start) = (user : ℕ) × (start_shown start ≡ starts.batch_for site user) × (user_named site name ≡ Some user)
+NamedHow site name (Err e) = (e ≡ Usage) × (user_named site name ≡ None)
+
 module _ (files : Option (List (List ℕ × List ℕ))) (o0 o1 : ℕ) where
   -- the configuration of a name
   abbrev pub LoadHow : List ℕ → Result Site Status → Type 0

@@ -1,5 +1,5 @@
 -- What the words of the command line and the configuration come to, before the input is read.
-use Rattle.std.specs.Prelude.{◌≡◌, ◌⊎◌, ℕ, List, [], ◌∷◌, Option, Some, None, Result, Ok, Err}
+use Rattle.std.specs.Prelude.{◌≡◌, ◌⊎◌, ℕ, List, Option, Some, None, Result, Ok, Err}
 use Rattle.cal_model.specs.Outside.{IsMissing, Loads, Rose}
 use Rattle.cal_model.specs.Sites.Configuration.{Fault, Site, built_in, configured, user_named}
 use Rattle.cal_model.specs.declared.site.Field.{Field}

@@ -1,6 +1,8 @@
 //! The command `batch`: one request and its answer.
-ghost use Rattle.std.specs.Prelude.{◌≡◌, ◌<◌, IfOk, length};
+ghost use Rattle.std.specs.Prelude.{◌≡◌, ◌<◌, ◌++◌, ◌∷◌, [], IfOk, length, if◌then◌else◌};
 ghost use Rattle.cal_model.specs.Headline.{IsAnswer};
+ghost use Rattle.cal_model.specs.Json.{text_of};
+ghost use Rattle.cal_model.specs.TreeData.{data_of};
 ghost use Rattle.jmapd_run.specs.Runs.{RunsBatch};
 
 use account_desk::sole_desk::SoleDesk;
@@ -76,8 +78,18 @@ fn answer_to(
 {
     let mut desk = SoleDesk::open(alloc, site)?;
     let mut fronts = Vec::new(alloc);
-    match reply_to(alloc, bytes, site.user(user), &mut desk, moment, &mut fronts) {
-        Ok(reply) => answer_of(alloc, &reply),
+    match reply_to(
+        alloc,
+        bytes,
+        site.user(user),
+        &mut desk,
+        moment,
+        &mut fronts,
+    ) {
+        Ok(reply) => {
+            desk.all_entries_are_its_own();
+            answer_of(alloc, &reply)
+        }
         // A desk that begins here makes at most 16 calls.
         Err(DeskError::PassSpent) => unreachable!(),
         Err(DeskError::NoMemory) => Err(AllocError),

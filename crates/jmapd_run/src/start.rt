@@ -1,7 +1,7 @@
 //! What the words of the command line and the configuration come to.
 ghost use Rattle.std.specs.Prelude.{◌≡◌, IfOk, map, option_map, string_bytes};
 ghost use Rattle.cal_model.specs.Sites.Configuration.{configured};
-ghost use Rattle.jmapd_run.specs.Shown.{BatchHow, HasItsUser, LoadHow, ReadHow, SiteHow, StartHow};
+ghost use Rattle.jmapd_run.specs.Shown.{BatchHow, HasItsUser, LoadHow, NamedHow, ReadHow, SiteHow, StartHow};
 
 use cal_model::status::Status;
 use command_line::command::{Command, read_command};
@@ -31,6 +31,7 @@ pub(crate) fn start_from<O: Opener>(
     opener: &mut O,
 ) -> Result<Start, Status>
     ensures how { StartHow (O.files opener.old) (O.faults opener.old) (O.faults opener.new) (map string_bytes words.now) result }
+    ensures files { O.files opener.new ≡ O.files opener.old }
     ensures user { IfOk result HasItsUser }
 {
     match read_command(alloc, words) {
@@ -48,12 +49,21 @@ fn start_batch<O: Opener>(
     user: Option<&str>,
 ) -> Result<Start, Status>
     ensures how { BatchHow (O.files opener.old) (O.faults opener.old) (O.faults opener.new) (option_map (λ name. name.now) config.entry) (option_map (λ name. name.now) user.entry) result }
+    ensures files { O.files opener.new ≡ O.files opener.old }
     ensures user { IfOk result HasItsUser }
 {
     let site = site_of(alloc, opener, config)?;
-    let Some(name) = user else {
-        return Ok(Start::Batch(site, 0));
-    };
+    match user {
+        Some(name) => start_named(site, name),
+        None => Ok(Start::Batch(site, 0)),
+    }
+}
+
+// One request, for the user of a name.
+fn start_named(site: Site, name: &str) -> Result<Start, Status>
+    ensures how { NamedHow site name.now result }
+    ensures user { IfOk result HasItsUser }
+{
     match site.user_named(name) {
         Some(number) => Ok(Start::Batch(site, number)),
         None => Err(Status::Usage),
@@ -61,12 +71,9 @@ fn start_batch<O: Opener>(
 }
 
 // The site of a configuration, or the one without.
-fn site_of<O: Opener>(
-    alloc: Global,
-    opener: &mut O,
-    config: Option<&str>,
-) -> Result<Site, Status>
-    ensures { SiteHow (O.files opener.old) (O.faults opener.old) (O.faults opener.new) (option_map (λ name. name.now) config.entry) result }
+fn site_of<O: Opener>(alloc: Global, opener: &mut O, config: Option<&str>) -> Result<Site, Status>
+    ensures files { O.files opener.new ≡ O.files opener.old }
+    ensures how { SiteHow (O.files opener.old) (O.faults opener.old) (O.faults opener.new) (option_map (λ name. name.now) config.entry) result }
 {
     match config {
         Some(name) => load_site(alloc, opener, name),
@@ -78,7 +85,8 @@ fn site_of<O: Opener>(
 }
 
 fn load_site<O: Opener>(alloc: Global, opener: &mut O, name: &str) -> Result<Site, Status>
-    ensures { LoadHow (O.files opener.old) (O.faults opener.old) (O.faults opener.new) name.now result }
+    ensures files { O.files opener.new ≡ O.files opener.old }
+    ensures how { LoadHow (O.files opener.old) (O.faults opener.old) (O.faults opener.new) name.now result }
 {
     match opener.load(name, MOST_LOADED) {
         Ok(bytes) => read_site(alloc, &bytes),

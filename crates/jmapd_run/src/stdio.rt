@@ -1,7 +1,7 @@
 //! The command `stdio`: one connection.
-ghost use Rattle.std.specs.Prelude.{◌≡◌, ◌⊎◌};
+ghost use Rattle.std.specs.Prelude.{◌≡◌, ◌≢◌, ◌⊎◌, Some};
 ghost use Rattle.cal_model.specs.declared.status.Status.TheVariants.{NoMemory};
-ghost use Rattle.jmapd_run.specs.Runs.{IsUntouched, RunsStdio};
+ghost use Rattle.jmapd_run.specs.Runs.{IsUntouched, RunsStdio, status_of};
 
 use account_desk::sole_desk::SoleDesk;
 use cal_model::served::ConnEnd;
@@ -22,21 +22,29 @@ pub(crate) fn run_stdio<S: Source, K: Sink, C: Clock>(
     clock: &mut C,
 ) -> Status
     ensures { RunsStdio (S.left input.old) (S.left input.new) (K.holds output.old) (K.holds output.new) (S.faults input.old) (S.faults input.new)
-            (K.faults output.old) (K.faults output.new) (C.moments clock.old) (C.moments clock.new) site.now result
+        (K.faults output.old) (K.faults output.new) (C.moments clock.old) (C.moments clock.new) site.now result
         ⊎ ((result ≡ NoMemory) × IsUntouched (S.left input.old) (S.left input.new) (K.holds output.old) (K.holds output.new) (S.faults input.old) (S.faults input.new)
-            (K.faults output.old) (K.faults output.new) (C.moments clock.old) (C.moments clock.new)) }
+        (K.faults output.old) (K.faults output.new) (C.moments clock.old) (C.moments clock.new)) }
 {
     let Ok(mut desk) = SoleDesk::open(alloc, site) else {
         return Status::NoMemory;
     };
     let served = serve_connection(alloc, site, input, output, &mut desk, clock);
-    match served.end {
+    desk.all_entries_are_its_own();
+    status_of(served.end)
+}
+
+// How the command ends, by how its connection ended. A desk over fresh accounts makes at most 160,000 calls, so its end isn't `PassSpent`.
+fn status_of(end: ConnEnd) -> Status
+    requires { end ≢ ConnEnd.PassSpent }
+    ensures { status_of end ≡ Some result }
+{
+    match end {
         ConnEnd::Closed | ConnEnd::CloseAsked => Status::Done,
         ConnEnd::BadHead(_) | ConnEnd::Truncated | ConnEnd::Quota => Status::Cut,
         ConnEnd::ReadFault => Status::ReadFault,
         ConnEnd::WriteFault => Status::WriteFault,
         ConnEnd::NoMemory => Status::NoMemory,
-        // A desk that begins here makes at most 160,000 calls.
         ConnEnd::PassSpent => unreachable!(),
     }
 }

@@ -1,0 +1,67 @@
+-- What was read, answered and put together is an answer.
+use Rattle.std.proofs.Common.{◌≡◌, ◌≤◌, ◌+◌, ◌++◌, ◌∷◌, [], ℕ, ℤ, List, Option, Bool, true, false, Result, Ok, Err, IfOk, length, ap, arith, subst, sym, ◌∙◌}
+use Rattle.std.specs.Io.KnownBytes.{Consumes, IsAtEnd}
+use Rattle.std.specs.Prelude.{if◌then◌else◌}
+use Rattle.cal_model.specs.Batches.Reply.{Replies, asked_in, clamped, max_size_request}
+use Rattle.cal_model.specs.Batches.Session.{Session, Shown}
+use Rattle.cal_model.specs.Headline.{Answers, IsAnswer, IsSole, fresh_desk}
+use Rattle.cal_model.specs.Json.{text_of}
+use Rattle.cal_model.specs.Outside.{Grows, Ticks}
+use Rattle.cal_model.specs.Sites.Configuration.{Site, user_at}
+use Rattle.cal_model.specs.TreeData.{data_of}
+use Rattle.cal_model.specs.declared.desk.DeskError.TheVariants.{PassSpent}
+use Rattle.cal_model.specs.declared.desk.Front.{Front}
+use Rattle.cal_model.specs.declared.status.Status.{Status}
+use Rattle.cal_model.specs.declared.status.Status.TheVariants.{Done, Refused}
+use Rattle.cal_model.specs.declared.user.User.{User}
+use Rattle.conn_serve.specs.Answering.{IsReply}
+use Rattle.conn_serve.specs.declared.reply.Reply.{Reply}
+use Rattle.jmapd_run.specs.Runs.{RunsBatch}
+use Rattle.jmapd_run.specs.declared.batch.Answer.{Answer}
+
+module _ (site : Site) (user : ℕ) (bytes : List ℕ) {u : User} {moment : ℤ} {f0 f1 : List Front} {d0 d1 : Shown} where
+  answered : (reply : Reply) (a : Answer) → u ≡ user_at site user → d0 ≡ fresh_desk site → IsSole d1 → IsReply u moment (asked_in bytes) f0 f1 d0 d1 (Ok reply)
+      → a.text.items ≡ text_of (data_of reply.tree) ++ 10 ∷ [] → a.is_refusal ≡ reply.is_refusal → IsAnswer site user moment bytes a.is_refusal a.text.items
+  answered reply a user_is fresh sole r text refusal = record {
+    made = r.made;
+    desk = d1;
+    session = subst (λ (d : Shown). Session d d1 r.made) fresh r.session;
+    sole = sole;
+    reply = data_of reply.tree;
+    replied = subst (λ (x : User). Replies x moment (asked_in bytes) r.made (data_of reply.tree)) user_is r.how.0;
+    refusal = r.how.1 ∙ sym refusal;
+    written = text;
+  }
+
+  pub answer_is : {E : Type 0} (reply : Reply) (r : Result Answer E) → u ≡ user_at site user → d0 ≡ fresh_desk site → IsSole d1 → IsReply u moment (asked_in bytes) f0 f1 d0 d1 (Ok reply)
+      → IfOk r (λ a. a.text.items ≡ text_of (data_of reply.tree) ++ 10 ∷ []) → IfOk r (λ a. a.is_refusal ≡ reply.is_refusal) → IfOk r (λ a. IsAnswer site user moment bytes a.is_refusal a.text.items)
+  answer_is reply (Ok a) user_is fresh sole replied text refusal = answered reply a user_is fresh sole replied text refusal
+  answer_is reply (Err e) user_is fresh sole replied text refusal = tt
+
+  -- a fresh desk has turns left for a request
+  pub never_spent : d0 ≡ fresh_desk site → IsReply u moment (asked_in bytes) f0 f1 d0 d1 (Err PassSpent) → ⊥
+  never_spent fresh r =
+      let none = ap (λ (d : Shown). d.turns) fresh in
+      let few = r.turns in
+      let spent = r.how.1 in
+      let bad : ⊥ = omega (arith, none, few, spent) in
+      bad
+
+module _ {site : Site} {user : ℕ} {left left' : Option (List ℕ)} {moments moments' : Option (ℕ → ℤ)} where
+  pub answers_with : (bytes slice text : List ℕ) (told moment : ℤ) (is_refusal : Bool)
+      → Consumes left left' bytes → length bytes ≤ max_size_request + 1 → (length bytes ≤ max_size_request → IsAtEnd left') → Ticks moments moments' told → slice ≡ bytes → moment ≡ clamped told
+      → IsAnswer site user moment slice is_refusal text → Answers site user left left' moments moments' is_refusal text
+  answers_with bytes slice text told moment is_refusal consumed most whole ticked same clamps answer = record {
+    bytes = bytes;
+    consumed = consumed;
+    most = most;
+    whole = whole;
+    moment = told;
+    ticked = ticked;
+    answer = subst (λ (y : ℤ × List ℕ). IsAnswer site user y.0 y.1 is_refusal text) (λ i. (clamps i, same i)) answer;
+  }
+
+  pub batch_ends : (held held' : Option (List ℕ)) (s0 s1 k0 k1 : ℕ) {status : Status} (is_refusal : Bool) (text : List ℕ) → status ≡ (if is_refusal then Refused else Done)
+      → Answers site user left left' moments moments' is_refusal text → Grows held held' text → RunsBatch left left' held held' s0 s1 k0 k1 moments moments' site user status
+  batch_ends held held' s0 s1 k0 k1 true text is answers grows = subst (RunsBatch left left' held held' s0 s1 k0 k1 moments moments' site user) (sym is) (text, answers, grows)
+  batch_ends held held' s0 s1 k0 k1 false text is answers grows = subst (RunsBatch left left' held held' s0 s1 k0 k1 moments moments' site user) (sym is) (text, answers, grows)
