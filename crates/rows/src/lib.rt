@@ -2,8 +2,6 @@
 #![tactic(auto)]
 
 #[cfg(test)]
-mod batches;
-#[cfg(test)]
 mod change_pages;
 #[cfg(test)]
 mod civil_dates;
@@ -12,18 +10,11 @@ mod command_lines;
 #[cfg(test)]
 mod congruences;
 #[cfg(test)]
-mod desks;
-#[cfg(test)]
 mod lock;
 #[cfg(test)]
 mod outside;
-pub mod pair_desk;
 #[cfg(test)]
 mod patches;
-#[cfg(test)]
-mod quotas;
 pub mod reporting_book;
 #[cfg(test)]
 mod system_files;
-pub mod words;
-pub mod zones;

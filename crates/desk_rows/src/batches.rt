@@ -1,5 +1,4 @@
 //! What `jmapd batch` writes, and how it ends.
-use crate::words::batch_words;
 use cal_model::status::Status;
 use io_edge::clock::Clock;
 use io_edge::memory_clock::StillClock;
@@ -24,7 +23,7 @@ fn run_batch<S: Source, K: Sink>(
     input: &mut S,
     output: &mut K,
 ) -> Result<Status, Fail> {
-    let words = batch_words(alloc)?;
+    let words = vec![in alloc; String::from_str(alloc, "batch")?]?;
     let mut opener = SureOpener::new(alloc, Vec::new(alloc));
     let mut clock = CLOCK;
     Ok(run(alloc, &words, &mut opener, input, output, &mut clock))

@@ -42,7 +42,7 @@ impl PairDesk {
 }
 
 impl Desk for PairDesk {
-    ghost use Rattle.rows.specs.Pair.{pair_shown};
+    ghost use Rattle.desk_rows.specs.Pair.{pair_shown};
 
     ghost shown = { λ d. pair_shown d.first d.second d.calls_left };
 

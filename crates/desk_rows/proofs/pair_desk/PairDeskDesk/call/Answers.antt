@@ -4,9 +4,9 @@ use Rattle.cal_model.specs.Lock.{most_turns}
 use Rattle.cal_model.specs.declared.call.Reply.{Reply}
 use Rattle.cal_model.specs.declared.desk.DeskError.{DeskError}
 use Rattle.cal_model.specs.declared.stamp.Stamp.{Stamp}
-use Rattle.rows.specs.Pair.{pair_shown}
-use Rattle.rows.proofs.PairLemmas.{second_called, stamp_next}
-use Rattle.rows.proofs.pair_desk.PairDeskDesk.call.Goals as goal
+use Rattle.desk_rows.specs.Pair.{pair_shown}
+use Rattle.desk_rows.proofs.PairLemmas.{second_called, stamp_next}
+use Rattle.desk_rows.proofs.pair_desk.PairDeskDesk.call.Goals as goal
 
 pub returns-else-account-eq0 : goal.returns-else-account-eq0
 returns-else-account-eq0 c =

@@ -9,7 +9,7 @@ use Rattle.cal_model.specs.declared.call.Reply.{Reply}
 use Rattle.cal_model.specs.declared.entry.Entry.{Entry}
 use Rattle.cal_model.specs.declared.stamp.Stamp.{Stamp}
 use Rattle.account_desk.specs.SoleDesk.{of_desk}
-use Rattle.rows.specs.Pair.{pair_shown}
+use Rattle.desk_rows.specs.Pair.{pair_shown}
 
 -- the stamp of the next call of a desk that makes so many calls more
 abbrev pub stamp_next : ℕ → ℤ → Stamp

@@ -1,0 +1,132 @@
+//! A row as it is read: how the program is run, and what is wanted of it.
+use cal_model::tree::{Tree, TreeObject};
+use json_edge::write::tree_text;
+use std::alloc::{AllocError, Global};
+
+/// A run of the program, and what is wanted of it.
+#[derive(Drop)]
+pub struct Case {
+    /// The words behind the program's name.
+    pub words: Vec<String>,
+    /// The messages of the input, one behind the other.
+    pub messages: Vec<Vec<u8>>,
+    /// The calls of `load` that fail, by number from 0.
+    pub failing_loads: Vec<u64>,
+    /// The status, as its name is written.
+    pub status: String,
+    /// The pieces of the output, one behind the other: one for each call of `give`.
+    pub responses: Vec<Vec<u8>>,
+}
+
+impl Case {
+    /// The case of two objects: one with `words`, `input` and maybe `failing_loads`, and one with `status` and `output`.
+    pub fn read(alloc: Global, asked: &Tree, answer: &Tree) -> Result<Option<Case>, AllocError> {
+        let (Tree::Object(asked), Tree::Object(answer)) = (asked, answer) else {
+            return Ok(None);
+        };
+        let (Some(Tree::Text(words)), Some(Tree::Text(status))) = (
+            asked.get("words"),
+            answer.get("status"),
+        ) else {
+            return Ok(None);
+        };
+        let Some(messages) = texts_at(alloc, asked, "input")? else {
+            return Ok(None);
+        };
+        let Some(responses) = texts_at(alloc, answer, "output")? else {
+            return Ok(None);
+        };
+        Ok(Some(Case {
+            words: words_of(alloc, words.as_str())?,
+            messages,
+            failing_loads: numbers_at(alloc, asked, "failing_loads")?,
+            status: String::from_str(alloc, status.as_str())?,
+            responses,
+        }))
+    }
+
+    /// Whether a connection is served: the words and the configuration are good.
+    pub fn is_connection(&self) -> bool {
+        match self.words.first() {
+            Some(word) => word.as_str() == "stdio"
+                && ["Done", "Cut"].contains(&self.status.as_str()),
+            None => false,
+        }
+    }
+
+    /// The bytes of the input.
+    pub fn input(&self, alloc: Global) -> Result<Vec<u8>, AllocError> {
+        joined(alloc, &self.messages)
+    }
+
+    /// The bytes of the first so many responses.
+    pub fn first_responses(&self, alloc: Global, count: usize) -> Result<Vec<u8>, AllocError> {
+        joined(alloc, &self.responses[..count.min(self.responses.len())])
+    }
+}
+
+/// These bytes, one behind the other.
+fn joined(alloc: Global, parts: &[Vec<u8>]) -> Result<Vec<u8>, AllocError> {
+    let mut all = Vec::new(alloc);
+    for part in parts {
+        all.extend_from_slice(part)?;
+    }
+    Ok(all)
+}
+
+/// The words between blanks.
+fn words_of(alloc: Global, line: &str) -> Result<Vec<String>, AllocError> {
+    let mut words = Vec::new(alloc);
+    for word in line.split(' ') {
+        words.push(String::from_str(alloc, word)?)?;
+    }
+    Ok(words)
+}
+
+/// The numbers of a list that may be absent.
+fn numbers_at(alloc: Global, object: &TreeObject, key: &str) -> Result<Vec<u64>, AllocError> {
+    let mut numbers = Vec::new(alloc);
+    if let Some(Tree::List(list)) = object.get(key) {
+        for item in list.items() {
+            if let Tree::Whole(number) = item {
+                numbers.push(u64::try_from(number.get()).unwrap_or(u64::MAX))?;
+            }
+        }
+    }
+    Ok(numbers)
+}
+
+/// The bytes of each item of a list.
+fn texts_at(
+    alloc: Global,
+    object: &TreeObject,
+    key: &str,
+) -> Result<Option<Vec<Vec<u8>>>, AllocError> {
+    let Some(Tree::List(list)) = object.get(key) else {
+        return Ok(None);
+    };
+    let mut texts = Vec::new(alloc);
+    for item in list.items() {
+        texts.push(bytes_of(alloc, item)?)?;
+    }
+    Ok(Some(texts))
+}
+
+/// The bytes of a text, those of the parts of a list one behind the other, and the compact text of an object.
+pub fn bytes_of(alloc: Global, value: &Tree) -> Result<Vec<u8>, AllocError> {
+    let Tree::List(parts) = value else {
+        return part_bytes(alloc, value);
+    };
+    let mut bytes = Vec::new(alloc);
+    for part in parts.items() {
+        bytes.extend_from_slice(&part_bytes(alloc, part)?)?;
+    }
+    Ok(bytes)
+}
+
+fn part_bytes(alloc: Global, part: &Tree) -> Result<Vec<u8>, AllocError> {
+    match part {
+        Tree::Text(text) => text.as_str().as_bytes().to_vec(alloc),
+        part => tree_text(alloc, part),
+    }
+}

@@ -1,0 +1,122 @@
+//! Runs of the program over memory.
+ghost use Rattle.std.specs.Prelude.{◌<◌};
+
+use crate::case::Case;
+use cal_model::status::Status;
+use io_edge::memory_clock::StillClock;
+use io_edge::memory_opener::MemOpener;
+use io_edge::memory_sink::MemSink;
+use io_edge::memory_source::MemSource;
+use jmapd_run::run::run;
+use row_table::field::field_name;
+use std::alloc::{AllocError, Global};
+
+/// 2024-01-01T00:00:00Z.
+const CLOCK: StillClock = StillClock {
+    moment: 1_704_067_200,
+};
+
+/// The files of the opener, by name.
+pub type Files = Vec<(String, Vec<u8>)>;
+
+/// How the input is given, and which calls fail, by number from 0.
+#[derive(Drop)]
+pub struct Way {
+    /// The most bytes that a `take` gives.
+    pub most: usize,
+    pub failing_takes: Vec<u64>,
+    pub failing_gives: Vec<u64>,
+    ghost some: { 0 < most },
+}
+
+impl Way {
+    /// Nothing fails.
+    pub fn in_pieces(alloc: Global, most: usize) -> Way
+        requires { 0 < most }
+    {
+        Way {
+            most,
+            failing_takes: Vec::new(alloc),
+            failing_gives: Vec::new(alloc),
+        }
+    }
+
+    /// One byte at a time, and this take fails.
+    pub fn with_failing_take(alloc: Global, call: u64) -> Result<Way, AllocError> {
+        Ok(Way {
+            most: 1,
+            failing_takes: vec![in alloc; call]?,
+            failing_gives: Vec::new(alloc),
+        })
+    }
+
+    /// This give fails.
+    pub fn with_failing_give(alloc: Global, call: u64) -> Result<Way, AllocError> {
+        Ok(Way {
+            most: usize::MAX,
+            failing_takes: Vec::new(alloc),
+            failing_gives: vec![in alloc; call]?,
+        })
+    }
+}
+
+/// How the program ended, and what it wrote to.
+#[derive(Drop)]
+pub struct Outcome {
+    pub status: String,
+    pub output: MemSink,
+}
+
+/// What comes of a run of these words over these bytes.
+pub fn outcome_of(
+    alloc: Global,
+    case: &Case,
+    files: &Files,
+    input: &[u8],
+    way: Way,
+) -> Result<Outcome, AllocError> {
+    let Way {
+        most,
+        failing_takes,
+        failing_gives,
+    } = way;
+    let mut opener = MemOpener::new(
+        alloc,
+        copied(alloc, files)?,
+        case.failing_loads.as_slice().to_vec(alloc)?,
+    );
+    let mut source = MemSource::new(input.to_vec(alloc)?, most, failing_takes);
+    let mut output = MemSink::new(alloc, failing_gives);
+    let mut clock = CLOCK;
+    let status = run(
+        alloc,
+        &case.words,
+        &mut opener,
+        &mut source,
+        &mut output,
+        &mut clock,
+    );
+    Ok(Outcome {
+        status: status_name(alloc, status)?,
+        output,
+    })
+}
+
+fn copied(alloc: Global, files: &Files) -> Result<Files, AllocError> {
+    let mut copies = Vec::new(alloc);
+    for (name, bytes) in files {
+        copies.push((name.clone()?, bytes.as_slice().to_vec(alloc)?))?;
+    }
+    Ok(copies)
+}
+
+/// The name of a status, with the field and the place where a configuration is refused.
+fn status_name(alloc: Global, status: Status) -> Result<String, AllocError> {
+    match status {
+        Status::Config { field, index } => {
+            let field = field_name(field);
+            format!(in alloc; "Config {field} {index}")
+        }
+        status => format!(in alloc; "{status:?}"),
+    }
+}

@@ -1,0 +1,47 @@
+//! The lines of a table.
+use cal_model::tree::Tree;
+use json_edge::read::{ReadError, read_tree};
+use std::alloc::{AllocError, Global};
+
+/// The most times that a text stands.
+const MOST_TIMES: u32 = 1_000_000;
+
+/// The text of a line, in which a number, a blank and a text between backquotes stand for the text so many times.
+///
+/// None where something else stands between backquotes, or a number above 1,000,000. Takes memory for the text.
+pub fn unrolled(alloc: Global, line: &str) -> Result<Option<String>, AllocError> {
+    let mut text = String::new(alloc);
+    for (place, part) in line.split('`').enumerate() {
+        if place % 2 == 0 {
+            text.push_str(part)?;
+        } else {
+            match repeated(alloc, part)? {
+                Some(part) => text.push_str(part.as_str())?,
+                None => return Ok(None),
+            }
+        }
+    }
+    Ok(Some(text))
+}
+
+fn repeated(alloc: Global, part: &str) -> Result<Option<String>, AllocError> {
+    let Some((times, text)) = part.split_once(' ') else {
+        return Ok(None);
+    };
+    match times.parse::<u32>() {
+        Ok(times) if times <= MOST_TIMES => Ok(Some(text.repeat(alloc, times as usize)?)),
+        _ => Ok(None),
+    }
+}
+
+/// The JSON value of the text of a line, where it is one whose numbers are whole. Takes memory for it.
+pub fn tree_in(alloc: Global, line: &str) -> Result<Option<Tree>, AllocError> {
+    let Some(text) = unrolled(alloc, line)? else {
+        return Ok(None);
+    };
+    match read_tree(alloc, text.as_str().as_bytes()) {
+        Ok(tree) => Ok(Some(tree)),
+        Err(ReadError::NotJson | ReadError::NotWhole) => Ok(None),
+        Err(ReadError::NoMemory) => Err(AllocError),
+    }
+}

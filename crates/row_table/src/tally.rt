@@ -1,0 +1,50 @@
+//! The count of rows.
+ghost use Rattle.std.specs.Prelude.{◌≡◌, ◌==◌, ◌+◌, ◌<◌, ◌^◌, true, false};
+
+use std::fmt;
+
+/// How many rows were tried, and how many of them had another answer than the table's.
+#[derive(Drop)]
+pub struct Tally {
+    rows: u64,
+    others: u64,
+}
+
+impl Tally {
+    /// No row was tried yet.
+    pub fn new() -> Tally
+        ensures rows { result.rows ≡ 0 }
+        ensures others { result.others ≡ 0 }
+    {
+        Tally { rows: 0, others: 0 }
+    }
+
+    /// Counts a row, whose answer was the table's or another. The counts stand at the last value of a `u64`.
+    pub fn count(&mut self, is_answered: bool)
+        ensures rows { self.old.rows + 1 < 2 ^ 64 → self.new.rows ≡ self.old.rows + 1 }
+        ensures answered { is_answered ≡ true → self.new.others ≡ self.old.others }
+        ensures other { is_answered ≡ false → self.old.others + 1 < 2 ^ 64 → self.new.others ≡ self.old.others + 1 }
+    {
+        self.rows = self.rows.saturating_add(1);
+        if !is_answered {
+            self.others = self.others.saturating_add(1);
+        }
+    }
+
+    /// Whether no row had another answer.
+    pub fn is_clean(&self) -> bool
+        ensures { result ≡ (self.now.others == 0) }
+    {
+        self.others == 0
+    }
+}
+
+impl fmt::Display for Tally {
+    fn fmt<W: fmt::Write>(&self, f: &mut fmt::Formatter<W>) -> fmt::Result {
+        let Tally { rows, others } = self;
+        write!(
+            f,
+            "{rows} rows, {others} of them with another answer than the table's"
+        )
+    }
+}
