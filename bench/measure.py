@@ -18,10 +18,10 @@ def contents(file):
     return file.read()
 
 
-def run_program(binary, request, answer):
+def run_program(binary, request, answer, *words):
     os.dup2(request.fileno(), 0)
     os.dup2(answer.fileno(), 1)
-    os.execv(binary, [binary, "batch"])
+    os.execv(binary, [binary, *(words or ["batch"])])
 
 
 def run_python(text, copy):

@@ -2,3 +2,4 @@ pub mod Replying
 pub mod Turning
 pub mod Messaging
 pub mod Standing
+pub mod Completeness

@@ -116,13 +116,16 @@ module _ (site : Site) (close : Bool) (message : Message) (user : ℕ) (told : �
           turn = turn_at message told r.made v.items;
           is = refl;
           told = told_one message told r.made v.items ticks r.fronts r.session r.turns;
-          how = (by_calls (record {
-            user = user;
-            routed = routed;
-            moment = told;
-            read = refl;
-            reply = data_of reply.tree;
-            replied = r.how.0;
-            shows = shows ∙ ap response_text (shown_reply close (asked_in message.body) reply r.how.1);
-          }), refl);
+          how = (
+            by_calls (record {
+              user = user;
+              routed = routed;
+              moment = told;
+              read = refl;
+              reply = data_of reply.tree;
+              replied = r.how.0;
+              shows = shows ∙ ap response_text (shown_reply close (asked_in message.body) reply r.how.1);
+            }),
+            refl,
+          );
         }

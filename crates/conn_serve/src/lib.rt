@@ -2,6 +2,7 @@
 #![tactic(auto)]
 
 mod answer;
+pub mod laws;
 pub mod moment;
 pub mod reply;
 mod route;

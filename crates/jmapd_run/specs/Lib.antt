@@ -1,3 +1,4 @@
 pub mod Starts
 pub mod Runs
 pub mod Shown
+pub mod Completes

@@ -2,6 +2,7 @@
 #![tactic(auto)]
 
 mod batch;
+pub mod laws;
 pub mod run;
 mod start;
 mod stdio;

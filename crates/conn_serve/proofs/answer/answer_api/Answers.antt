@@ -9,18 +9,18 @@ returns-in-Err g c =
     let moment = to_z w64 (of_z w64 c.clamped_moment-moment.result) in
     let clamps : moment ≡ clamped c.now-told.result = search rules in
     stopped c.args.site.now c.args.close (message_shown c.args.message.now) c.args.user c.now-told.result c.requires.routed
-        c.now-told.ensures c.user.ensures.value clamps c.as_slice-body.ensures c.in-Err.error c.in-Err.ensures
+    c.now-told.ensures c.user.ensures.value clamps c.as_slice-body.ensures c.in-Err.error c.in-Err.ensures
 
 pub returns-in-Ok-reply_bytes : goal.returns-in-Ok-reply_bytes
 returns-in-Ok-reply_bytes g c =
     let moment = to_z w64 (of_z w64 c.clamped_moment-moment.result) in
     let clamps : moment ≡ clamped c.now-told.result = search rules in
     answered c.args.site.now c.args.close (message_shown c.args.message.now) c.args.user c.now-told.result c.requires.routed
-        c.now-told.ensures c.user.ensures.value clamps c.as_slice-body.ensures c.in-Ok.reply c.in-Ok-reply_bytes.bytes c.in-Ok.ensures c.in-Ok-reply_bytes.ensures
+    c.now-told.ensures c.user.ensures.value clamps c.as_slice-body.ensures c.in-Ok.reply c.in-Ok-reply_bytes.bytes c.in-Ok.ensures c.in-Ok-reply_bytes.ensures
 
 pub returns : goal.returns
 returns g c =
     let moment = to_z w64 (of_z w64 c.clamped_moment-moment.result) in
     let clamps : moment ≡ clamped c.now-told.result = search rules in
     unwritten c.args.site.now c.args.close (message_shown c.args.message.now) c.args.user c.now-told.result c.requires.routed
-        c.now-told.ensures c.user.ensures.value clamps c.as_slice-body.ensures c.in-Ok.reply c.in-Ok.ensures
+    c.now-told.ensures c.user.ensures.value clamps c.as_slice-body.ensures c.in-Ok.reply c.in-Ok.ensures

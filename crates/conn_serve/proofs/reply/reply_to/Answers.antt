@@ -19,4 +19,3 @@ returns-in-Err-NotJson g c = refused_reply c.refusal-in-Err-NotJson.result (as_r
 
 pub returns-in-Err-NotWhole : goal.returns-in-Err-NotWhole
 returns-in-Err-NotWhole g c = refused_reply c.refusal-in-Err-NotWhole.result (as_read c.args.bytes.now (search rules) ∙ ap asked_by_reading (c.in-Err-NotWhole.ensures.not_whole (search rules))) c.refusal-in-Err-NotWhole.ensures
-

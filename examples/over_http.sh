@@ -1,0 +1,35 @@
+#!/usr/bin/env bash
+# Talks to `jmapd stdio` by curl, over TCP on one kept connection: the session object, a `Calendar/set` and a `Calendar/get`. The answers are
+# compared with examples/over_http.answers. socat relays one connection of a port to the program's standard streams.
+#
+#     examples/over_http.sh [PATH_OF_THE_PROGRAM]        PORT=8080 by default
+set -u
+cd "$(dirname "$0")/.." || exit 1
+program=${1:-crates/jmapd/out/jmapd}
+port=${PORT:-8080}
+
+for tool in curl socat; do
+    if ! command -v "$tool" >/dev/null; then
+        echo "examples/over_http.sh: skipped, since $tool isn't here"
+        exit 0
+    fi
+done
+if ! [ -x "$program" ]; then
+    (cd crates/jmapd && rt run -- batch <../../examples/first.json >/dev/null) || exit 1
+fi
+
+socat "TCP-LISTEN:$port,bind=127.0.0.1,reuseaddr" EXEC:"$program stdio --config examples/site.json" &
+relay=$!
+trap 'kill "$relay" 2>/dev/null' EXIT
+
+shown='%{stderr}%{http_code} %{content_type}, %{num_connects} new connections\n%{stdout}\n'
+common=(--silent --show-error --max-time 20 --retry 20 --retry-connrefused --retry-delay 1 -H 'Authorization: Bearer t-ann' -w "$shown")
+answers=$(curl "${common[@]}" "http://127.0.0.1:$port/.well-known/jmap" \
+    --next "${common[@]}" --data-binary @examples/set.json "http://127.0.0.1:$port/jmap" \
+    --next "${common[@]}" --data-binary @examples/get.json "http://127.0.0.1:$port/jmap") || exit 1
+if diff <(printf '%s\n' "$answers") examples/over_http.answers; then
+    echo 'examples/over_http.sh: the answers are those of examples/over_http.answers'
+else
+    echo 'examples/over_http.sh: other answers than those of examples/over_http.answers'
+    exit 1
+fi
