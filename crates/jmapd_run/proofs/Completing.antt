@@ -1,6 +1,5 @@
 -- A run in which nothing fails does its work.
 use Rattle.std.proofs.Common.{◌≡◌, ℕ, ℤ, List, Option, Some, None, Result, Ok, Err, inl, inr, take, sym, ap, ◌∙◌, subst, option_map}
-use Rattle.std.specs.Prelude.{unwrap_or}
 use Rattle.cal_model.specs.Batches.Session.{Shown}
 use Rattle.cal_model.specs.Http.Serving.{Serves}
 use Rattle.cal_model.specs.Outside.{Rose, file_named}
@@ -12,17 +11,12 @@ use Rattle.cal_model.specs.declared.served.ConnEnd.TheVariants as end
 use Rattle.cal_model.specs.declared.status.Status.{Status}
 use Rattle.cal_model.specs.declared.status.Status.TheVariants.{Config, Cut, Done, NoMemory, OpenFault, ReadFault, Refused, Usage, WriteFault}
 use Rattle.command_line.specs.Commands.{Command, batch, command_of}
+use Rattle.jmapd_run.proofs.StartLemmas.{Files, some_same}
 use Rattle.jmapd_run.specs.Completes.{FaultlessRunsWork, HasUser, HasWorked, IsAccepted}
 use Rattle.jmapd_run.specs.Runs.{RunsFrom, RunsStdio, status_of}
 use Rattle.jmapd_run.specs.Starts.{IsLoaded, IsSite, IsStart, Start, batch_for, configuration_of, misconfigured, not_opened, stdio_of, usage}
 
-abbrev Files : Type 0
-Files = List (List ℕ × List ℕ)
-
 -- ---- the configuration
-
-some_same : {X : Type 0} (x y : X) → Some x ≡ Some y → x ≡ y
-some_same x y e = ap (λ o. unwrap_or o x) e
 
 -- what was loaded is the file's front
 loaded_is : {what : Result Site Fault} (files : Files) (o0 o1 : ℕ) (name bytes : List ℕ) → file_named files name ≡ Some bytes → IsLoaded (Some files) o0 o1 name what → configured (take 1000001 bytes) ≡ what

@@ -2,3 +2,5 @@ pub mod Answering
 pub mod Connecting
 pub mod Starting
 pub mod Completing
+pub mod StartLemmas
+pub mod OutputLemmas

@@ -2,3 +2,4 @@ pub mod Starts
 pub mod Runs
 pub mod Shown
 pub mod Completes
+pub mod Determined
