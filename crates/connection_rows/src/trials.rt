@@ -1,12 +1,11 @@
 //! The ways in which a case is tried.
-ghost use Rattle.std.specs.Prelude.{◌≡◌, ◌<◌, count_by};
-ghost use Rattle.std.specs.Prelude.{nat_le};
+ghost use Rattle.std.specs.Prelude.{◌≡◌, count_by, nat_le};
 
 use crate::case::Case;
 use crate::runs::{Files, Outcome, Way, outcome_of};
 use std::alloc::{AllocError, Global};
 
-/// The most bytes of an input whose takes fail one after the other.
+/// The most bytes of an input whose takes and gives fail one after the other.
 const MOST_FAILING: usize = 1500;
 
 /// What a run is to come to.
@@ -25,28 +24,36 @@ pub fn other_than_wanted(
     files: &Files,
 ) -> Result<Option<String>, AllocError> {
     let input = case.input(alloc)?;
-    for way in Vec::from_array(
-        alloc,
-        [
-            Way::in_pieces(alloc, usize::MAX),
-            Way::in_pieces(alloc, 1),
-            Way::in_pieces(alloc, 7),
-        ],
-    )? {
-        let outcome = outcome_of(alloc, case, files, &input, way)?;
+    let other = other_in_pieces(alloc, case, files, &input)?;
+    if other.is_some() || !case.is_connection() || input.len() > MOST_FAILING {
+        return Ok(other);
+    }
+    match other_at_takes(alloc, case, files, &input)? {
+        Some(other) => Ok(Some(other)),
+        None => other_at_gives(alloc, case, files, &input),
+    }
+}
+
+/// The input is given in one piece, and in small pieces: the row is answered.
+fn other_in_pieces(
+    alloc: Global,
+    case: &Case,
+    files: &Files,
+    input: &[u8],
+) -> Result<Option<String>, AllocError> {
+    let ways = [
+        Way::in_pieces(alloc, usize::MAX),
+        Way::in_pieces(alloc, 1),
+        Way::in_pieces(alloc, 7),
+    ];
+    for way in Vec::from_array(alloc, ways)? {
+        let outcome = outcome_of(alloc, case, files, input, way)?;
         let other = other_than(alloc, case, &outcome, &undisturbed(case))?;
         if other.is_some() {
             return Ok(other);
         }
     }
-    if !case.is_connection() {
-        return Ok(None);
-    }
-    let other = other_at_takes(alloc, case, files, &input)?;
-    if other.is_some() {
-        return Ok(other);
-    }
-    other_at_gives(alloc, case, files, &input)
+    Ok(None)
 }
 
 /// What the row has.
@@ -83,9 +90,6 @@ fn other_at_takes(
     files: &Files,
     input: &[u8],
 ) -> Result<Option<String>, AllocError> {
-    if input.len() > MOST_FAILING {
-        return Ok(None);
-    }
     let ends = ends_of(alloc, &case.messages)?;
     let closes = is_closing(case);
     for taken in 0..=input.len() {
@@ -115,9 +119,6 @@ fn other_at_gives(
     files: &Files,
     input: &[u8],
 ) -> Result<Option<String>, AllocError> {
-    if input.len() > MOST_FAILING {
-        return Ok(None);
-    }
     for given in 0..case.responses.len() {
         let way = Way::with_failing_give(alloc, given as u64)?;
         let outcome = outcome_of(alloc, case, files, input, way)?;

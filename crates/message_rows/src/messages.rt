@@ -61,7 +61,7 @@ pub fn try_input(
     wanted: &[Given],
     findings: &mut Findings,
 ) -> Result<(), AllocError> {
-    try_in_pieces(alloc, input, usize::MAX, wanted, findings)?;
+    try_in_pieces(alloc, input, input.len() + 1, wanted, findings)?;
     try_in_pieces(alloc, input, 1, wanted, findings)?;
     try_in_pieces(alloc, input, 7, wanted, findings)?;
     if input.len() <= MOST_CUT {

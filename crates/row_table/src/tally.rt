@@ -40,6 +40,10 @@ impl Tally {
 }
 
 impl fmt::Display for Tally {
+    ghost use Rattle.std.specs.Prelude.{◌++◌, Some, codes, decimal};
+
+    ghost output = { λ tally. Some (decimal tally.rows ++ (codes " rows, " ++ (decimal tally.others ++ codes " of them with another answer than the table's"))) };
+
     fn fmt<W: fmt::Write>(&self, f: &mut fmt::Formatter<W>) -> fmt::Result {
         let Tally { rows, others } = self;
         write!(
