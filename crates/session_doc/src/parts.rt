@@ -29,13 +29,13 @@ pub(crate) fn list_at<'a>(tree: &'a Tree, key: &str) -> Option<&'a [Tree]>
     }
 }
 
-/// The items of the list at a key, and none where there is no value at it. `null` is no list. Takes no memory.
+/// The items of the list at a key, and none where there is no value at it, or `null`. Takes no memory.
 #[tactic(auto, using(cal_model::specs::Data::items_back))]
 pub(crate) fn optional_list_at<'a>(tree: &'a Tree, key: &str) -> Option<&'a [Tree]>
     ensures { option_map (λ items. map data_of items.now) result ≡ optional_list (field key.now (data_of tree.now)) }
 {
     match tree.get(key) {
-        None => Some(&[]),
+        None | Some(Tree::Null) => Some(&[]),
         Some(Tree::List(list)) => Some(list.items().as_slice()),
         Some(_) => None,
     }

@@ -3,7 +3,7 @@ use Rattle.std.specs.Prelude.{ℕ, ◌<◌, ◌&&◌, All, slice_index_or, List,
 use Rattle.std.specs.List.{list_any}
 use Rattle.std.specs.Result.{result_ok}
 use Rattle.std.specs.Str.{bytes_eq}
-use Rattle.cal_model.specs.Data.{Data, object, field}
+use Rattle.cal_model.specs.Data.{Data, null, object, field}
 use Rattle.cal_model.specs.Http.Fields.{is_token}
 use Rattle.cal_model.specs.Id.{is_id}
 use Rattle.cal_model.specs.Json.{Reading, value, reading}
@@ -111,9 +111,10 @@ abbrev pub restrict_all : List Data → List Grant → Option (List Grant)
 restrict_all [] gs = Some gs
 restrict_all (d ∷ ds) gs = option_and_then (restrict_all ds) (option_and_then (λ id. restrict id gs) (as_text d))
 
--- the items of a list that may be absent
+-- the items of a list that may be absent, as null is
 abbrev pub optional_list : Option Data → Option (List Data)
 optional_list None = Some []
+optional_list (Some null) = Some []
 optional_list (Some d) = as_list d
 
 -- the accounts that a user may use, and which of them for reading alone
