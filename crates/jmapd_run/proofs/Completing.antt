@@ -1,74 +1,19 @@
 -- A run in which nothing fails does its work.
-use Rattle.std.proofs.Common.{◌≡◌, ℕ, ℤ, List, Option, Some, None, Result, Ok, Err, inl, inr, take, sym, ap, ◌∙◌, subst, option_map}
+use Rattle.std.proofs.Common.{◌≡◌, ℕ, ℤ, List, Option, Some, None, Ok, inl, inr, take, sym, ap, ◌∙◌, subst, option_map}
 use Rattle.cal_model.specs.Batches.Session.{Shown}
 use Rattle.cal_model.specs.Http.Serving.{Serves}
-use Rattle.cal_model.specs.Outside.{Rose, file_named}
-use Rattle.cal_model.specs.Sites.Configuration.{Fault, Site, configured, user_named}
+use Rattle.cal_model.specs.Outside.{Rose}
+use Rattle.cal_model.specs.Sites.Configuration.{Site, configured}
 use Rattle.cal_model.specs.declared.desk.Front.{Front}
-use Rattle.cal_model.specs.declared.site.Field.{Field}
 use Rattle.cal_model.specs.declared.served.ConnEnd.{ConnEnd}
 use Rattle.cal_model.specs.declared.served.ConnEnd.TheVariants as end
 use Rattle.cal_model.specs.declared.status.Status.{Status}
 use Rattle.cal_model.specs.declared.status.Status.TheVariants.{Config, Cut, Done, NoMemory, OpenFault, ReadFault, Refused, Usage, WriteFault}
-use Rattle.command_line.specs.Commands.{Command, batch, command_of}
-use Rattle.jmapd_run.proofs.StartLemmas.{Files, some_same}
+use Rattle.command_line.specs.Commands.{Command, batch, stdio}
+use Rattle.jmapd_run.proofs.StartLemmas.{Files, batch_start, site_of, some_same, start_is, start_of_command, stdio_start, user_is}
 use Rattle.jmapd_run.specs.Completes.{FaultlessRunsWork, HasUser, HasWorked, IsAccepted}
 use Rattle.jmapd_run.specs.Runs.{RunsFrom, RunsStdio, status_of}
-use Rattle.jmapd_run.specs.Starts.{IsLoaded, IsSite, IsStart, Start, batch_for, configuration_of, misconfigured, not_opened, stdio_of, usage}
-
--- ---- the configuration
-
--- what was loaded is the file's front
-loaded_is : {what : Result Site Fault} (files : Files) (o0 o1 : ℕ) (name bytes : List ℕ) → file_named files name ≡ Some bytes → IsLoaded (Some files) o0 o1 name what → configured (take 1000001 bytes) ≡ what
-loaded_is files o0 o1 name bytes there l =
-    let same : take 1000001 bytes ≡ l.0 = some_same (take 1000001 bytes) l.0 (sym (ap (option_map (take 1000001)) there) ∙ l.1) in
-    ap configured same ∙ l.2
-
--- a configuration that was accepted isn't refused, nor missing
-not_refused : (files : Files) (o0 o1 : ℕ) (name : List ℕ) (site : Site) (fault : Fault) → IsAccepted files (Some name) site → IsLoaded (Some files) o0 o1 name (Err fault) → ⊥
-not_refused files o0 o1 name site fault a l =
-    let e : Ok site ≡ Err fault = sym a.2 ∙ loaded_is files o0 o1 name a.0 a.1 l in
-    cc
-
--- the site that was read is the accepted one
-same_site : (files : Files) (o0 o1 : ℕ) (config : Option (List ℕ)) (site other : Site) → IsAccepted files config site → IsSite (Some files) o0 o1 config other → other ≡ site
-same_site files o0 o1 None site other a s = s.0 ∙ sym a
-same_site files o0 o1 (Some name) site other a l =
-    let e : Ok site ≡ Ok other = sym a.2 ∙ loaded_is files o0 o1 name a.0 a.1 l in
-    cc
-
-module _ (words : List (List ℕ)) (files : Files) (o0 o1 : ℕ) (command : Command) (site : Site) (is : command_of words ≡ Some command) (accepted : IsAccepted files (configuration_of command) site) where
-  accepted_by : (c : Command) (name : List ℕ) → command_of words ≡ Some c → configuration_of c ≡ Some name → IsAccepted files (Some name) site
-  accepted_by c name e f =
-      let same : command ≡ c = some_same command c (sym is ∙ e) in
-      subst (λ (x : Option (List ℕ)). IsAccepted files x site) (ap configuration_of same ∙ f) accepted
-
-  -- the opener has the file
-  opened : (c : Command) (name : List ℕ) → command_of words ≡ Some c → configuration_of c ≡ Some name → file_named files name ≡ None → ⊥
-  opened c name e f none =
-      let a = accepted_by c name e f in
-      let bad : Some a.0 ≡ None = sym a.1 ∙ none in
-      cc
-
-  -- the user is there
-  named : (config : Option (List ℕ)) (name : List ℕ) (other : Site) → HasUser site command → command_of words ≡ Some (batch config (Some name)) → IsSite (Some files) o0 o1 config other → user_named other name ≡ None → ⊥
-  named config name other has e s none =
-      let same : command ≡ batch config (Some name) = some_same command (batch config (Some name)) (sym is ∙ e) in
-      let there = subst (HasUser site) same has in
-      let site_is : other ≡ site = same_site files o0 o1 config site other (subst (λ (c : Command). IsAccepted files (configuration_of c) site) same accepted) s in
-      let bad : Some there.0 ≡ None = sym there.1 ∙ (ap (λ (x : Site). user_named x name) (sym site_is) ∙ none) in
-      cc
-
-  no_usage : HasUser site command → IsStart (Some files) o0 o1 words usage → ⊥
-  no_usage has (inl h) = let bad : Some command ≡ None = sym is ∙ h.0 in cc
-  no_usage has (inr h) = named h.0 h.1 h.2 has h.3 h.4 h.5
-
-  no_open_fault : (Rose o0 o1 → ⊥) → IsStart (Some files) o0 o1 words not_opened → ⊥
-  no_open_fault quiet (c, name, e, f, inl missing) = opened c name e f missing
-  no_open_fault quiet (c, name, e, f, inr rose) = quiet rose
-
-  no_bad_field : (f : Field) (i : ℕ) → IsStart (Some files) o0 o1 words (misconfigured f i) → ⊥
-  no_bad_field f i h = not_refused files o0 o1 h.1 site (record { field = f; index = i }) (accepted_by h.0 h.1 h.2 h.3) h.4
+use Rattle.jmapd_run.specs.Starts.{Start, batch_for, configuration_of, stdio_of}
 
 -- ---- the commands
 
@@ -101,15 +46,27 @@ module _ (left left' held held' : Option (List ℕ)) (s0 s1 k0 k1 : ℕ) (moment
   stdio_works : (site : Site) (status : Status) → RunsStdio left left' held held' s0 s1 k0 k1 moments moments' site status → HasWorked status
   stdio_works site status r = served site status _ r.desk r.fronts r.requests r.end r.serves r.ended
 
-  works_from : (words : List (List ℕ)) (files : Files) (o0 o1 : ℕ) (command : Command) (site : Site) → command_of words ≡ Some command → IsAccepted files (configuration_of command) site → HasUser site command → (Rose o0 o1 → ⊥)
-      → (start : Start) (status : Status) → IsStart (Some files) o0 o1 words start → RunsFrom left left' held held' s0 s1 k0 k1 moments moments' start status → HasWorked status
-  works_from words files o0 o1 command site is accepted has quiet usage status h r = absurd (no_usage words files o0 o1 command site is accepted has h)
-  works_from words files o0 o1 command site is accepted has quiet not_opened status h r = absurd (no_open_fault words files o0 o1 command site is accepted quiet h)
-  works_from words files o0 o1 command site is accepted has quiet (misconfigured f i) status h r = absurd (no_bad_field words files o0 o1 command site is accepted f i h)
-  works_from words files o0 o1 command site is accepted has quiet (batch_for s u) status h r = batch_works s u status r
-  works_from words files o0 o1 command site is accepted has quiet (stdio_of s) status h r = stdio_works s status r
+-- ---- from the start on
+
+-- a configuration that is accepted comes to its site
+accepted_site : (files : Files) (config : Option (List ℕ)) (site : Site) → IsAccepted files config site → site_of files config ≡ Some (Ok site)
+accepted_site files None site a = ap (λ (x : Site). Some (Ok x)) (sym a)
+accepted_site files (Some name) site a = ap (option_map (λ b. configured (take 1000001 b))) a.1 ∙ ap (λ r. Some r) a.2
+
+module _ (left left' held held' : Option (List ℕ)) (s0 s1 k0 k1 : ℕ) (moments moments' : Option (ℕ → ℤ)) (read : Rose s0 s1 → ⊥) (written : Rose k0 k1 → ⊥) (files : Files) (site : Site) (start : Start) (status : Status)
+    (runs : RunsFrom left left' held held' s0 s1 k0 k1 moments moments' start status) where
+  runs_from : (other : Start) → start ≡ other → RunsFrom left left' held held' s0 s1 k0 k1 moments moments' other status
+  runs_from other is = subst (λ (x : Start). RunsFrom left left' held held' s0 s1 k0 k1 moments moments' x status) is runs
+
+  works : (command : Command) → IsAccepted files (configuration_of command) site → HasUser site command → start_of_command files (Some command) ≡ start → HasWorked status
+  works (batch config who) a has is =
+      let comes : start ≡ batch_for site has.0 = sym is ∙ (ap (λ x. batch_start x who) (accepted_site files config site a) ∙ user_is site who has.0 has.1) in
+      batch_works left left' held held' s0 s1 k0 k1 moments moments' read written site has.0 status (runs_from (batch_for site has.0) comes)
+  works (stdio config) a has is =
+      let comes : start ≡ stdio_of site = sym is ∙ ap stdio_start (accepted_site files (Some config) site a) in
+      stdio_works left left' held held' s0 s1 k0 k1 moments moments' read written site status (runs_from (stdio_of site) comes)
 
 pub faultless_runs_work : FaultlessRunsWork
 faultless_runs_work left left' held held' s0 s1 k0 k1 moments moments' words files o0 o1 status (inl h) command site is accepted has quiet read written =
-    works_from left left' held held' s0 s1 k0 k1 moments moments' read written words files o0 o1 command site is accepted has quiet h.0 status h.1 h.2
+    works left left' held held' s0 s1 k0 k1 moments moments' read written files site h.0 status h.2 command accepted has (ap (start_of_command files) (sym is) ∙ start_is words files o0 o1 quiet h.0 h.1)
 faultless_runs_work left left' held held' s0 s1 k0 k1 moments moments' words files o0 o1 status (inr h) command site is accepted has quiet read written = subst HasWorked (sym h.0) tt

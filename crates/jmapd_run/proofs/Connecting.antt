@@ -11,7 +11,7 @@ use Rattle.cal_model.specs.declared.status.Status.{Status}
 use Rattle.jmapd_run.specs.Runs.{RunsStdio, status_of}
 
 module _ {site : Site} {left left' held held' : Option (List ℕ)} {s0 s1 k0 k1 : ℕ} {moments moments' : Option (ℕ → ℤ)} {d0 d1 : Shown} {fronts : List Front} {n : ℕ} where
-  few_turns : {e : ConnEnd} → Serves site 10000 left left' held held' s0 s1 k0 k1 moments moments' d0 d1 fronts n e → d1.turns ≤ d0.turns + 160000
+  pub few_turns : {e : ConnEnd} → Serves site 10000 left left' held held' s0 s1 k0 k1 moments moments' d0 d1 fronts n e → d1.turns ≤ d0.turns + 160000
   few_turns s =
       let turns = s.told.turns in
       let all = length-append s.turns s.unwritten in

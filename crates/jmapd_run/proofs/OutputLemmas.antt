@@ -1,5 +1,5 @@
 -- Runs that are given the same write the same.
-use Rattle.std.proofs.Common.{◌≡◌, ◌≢◌, ◌+◌, ◌<◌, ◌≤◌, ◌++◌, ◌∷◌, [], ℕ, ℤ, List, Option, Some, None, Bool, true, false, inl, inr, length, length-append, take, refl, sym, ap, ◌∙◌, subst, append-nil, arith}
+use Rattle.std.proofs.Common.{◌≡◌, ◌≢◌, ◌+◌, ◌<◌, ◌≤◌, ◌++◌, ◌∷◌, [], ℕ, ℤ, List, Option, Some, None, Bool, true, false, inl, inr, length, take, refl, sym, ap, ◌∙◌, subst, append-nil, arith}
 use Rattle.std.proofs.Math.Nat.{lt_of_not-le}
 use Rattle.std.proofs.Math.Seq.{take-append_seam}
 use Rattle.std.proofs.lemmas.List.{take_all}
@@ -24,6 +24,7 @@ use Rattle.cal_model.specs.declared.status.Status.{Status}
 use Rattle.cal_model.specs.declared.status.Status.TheVariants.{Config, Cut, Done, NoMemory, OpenFault, ReadFault, Refused, Usage, WriteFault}
 use Rattle.conn_serve.proofs.Completeness.{faultless_determined}
 use Rattle.conn_serve.specs.Complete.{IsFaultless}
+use Rattle.jmapd_run.proofs.Connecting.{few_turns}
 use Rattle.jmapd_run.proofs.StartLemmas.{some_same, start_is}
 use Rattle.jmapd_run.specs.Determined.{IsFinished, OutputsAreDetermined}
 use Rattle.jmapd_run.specs.Runs.{Runs, RunsBatch, RunsFrom, RunsStdio, status_of}
@@ -112,15 +113,8 @@ closing _ = []
 
 module _ (site : Site) (input : List ℕ) (clock : ℕ → ℤ) {left : Option (List ℕ)} {moments : Option (ℕ → ℤ)} {s0 s1 k0 k1 : ℕ} {text : List ℕ} {status : Status}
     (r : RunsStdio (Some input) left (Some []) (Some text) s0 s1 k0 k1 (Some clock) moments site status) (read : Rose s0 s1 → ⊥) (wrote : Rose k0 k1 → ⊥) (m : status ≢ NoMemory) where
-  few_turns : r.desk.turns < most_turns
-  few_turns =
-      let s = r.serves in
-      let turns = s.told.turns in
-      let all = length-append s.turns s.unwritten in
-      let count = s.count in
-      let room = s.room in
-      let few : r.desk.turns ≤ 160000 = omega arith in
-      omega (arith, few)
+  may_call : r.desk.turns < most_turns
+  may_call = let few = few_turns r.serves in omega (arith, few)
 
   not_short : r.end ≢ end.NoMemory
   not_short e = m (sym (some_same NoMemory status (ap status_of (sym e) ∙ r.ended)))
@@ -145,7 +139,7 @@ module _ (site : Site) (input : List ℕ) (clock : ℕ → ℤ) {left : Option (
     answered = refl;
     read = read;
     wrote = wrote;
-    may_call = few_turns;
+    may_call = may_call;
     had_memory = not_short;
   }
 
@@ -168,7 +162,7 @@ module _ (site : Site) (input : List ℕ) (clock : ℕ → ℤ) {left : Option (
   tail_is end.Quota s h = s.how.closing
   tail_is end.ReadFault s h = absurd (read s.how.1)
   tail_is end.WriteFault s h = absurd (wrote s.how.2)
-  tail_is end.PassSpent s h = let spent = s.how.2 in absurd (omega (arith, spent, few_turns))
+  tail_is end.PassSpent s h = let spent = s.how.2 in absurd (omega (arith, spent, may_call))
   tail_is end.NoMemory s h = absurd (h refl)
 
   text_is : text ≡ all_bytes r.serves.turns ++ closing r.end

@@ -15,7 +15,7 @@ some_same x y e = ap (λ o. unwrap_or o x) e
 abbrev loaded : Files → List ℕ → Option (Result Site Fault)
 loaded files name = option_map (λ bytes. configured (take 1000001 bytes)) (file_named files name)
 
-abbrev site_of : Files → Option (List ℕ) → Option (Result Site Fault)
+abbrev pub site_of : Files → Option (List ℕ) → Option (Result Site Fault)
 site_of files None = Some (Ok built_in)
 site_of files (Some name) = loaded files name
 
@@ -23,18 +23,18 @@ abbrev by_user : Site → Option ℕ → Start
 by_user site None = usage
 by_user site (Some user) = batch_for site user
 
-abbrev batch_start : Option (Result Site Fault) → Option (List ℕ) → Start
+abbrev pub batch_start : Option (Result Site Fault) → Option (List ℕ) → Start
 batch_start None who = not_opened
 batch_start (Some (Err fault)) who = misconfigured fault.field fault.index
 batch_start (Some (Ok site)) None = batch_for site 0
 batch_start (Some (Ok site)) (Some name) = by_user site (user_named site name)
 
-abbrev stdio_start : Option (Result Site Fault) → Start
+abbrev pub stdio_start : Option (Result Site Fault) → Start
 stdio_start None = not_opened
 stdio_start (Some (Err fault)) = misconfigured fault.field fault.index
 stdio_start (Some (Ok site)) = stdio_of site
 
-abbrev start_of_command : Files → Option Command → Start
+abbrev pub start_of_command : Files → Option Command → Start
 start_of_command files None = usage
 start_of_command files (Some (batch config who)) = batch_start (site_of files config) who
 start_of_command files (Some (stdio config)) = stdio_start (loaded files config)
@@ -57,7 +57,7 @@ site_is files o0 o1 (Some name) site l = loaded_is files o0 o1 name (Ok site) l
 missing_is : (files : Files) (name : List ℕ) → file_named files name ≡ None → loaded files name ≡ None
 missing_is files name none = ap (option_map (λ bytes. configured (take 1000001 bytes))) none
 
-user_is : (site : Site) (who : Option (List ℕ)) (user : ℕ) → IsUser site who user → batch_start (Some (Ok site)) who ≡ batch_for site user
+pub user_is : (site : Site) (who : Option (List ℕ)) (user : ℕ) → IsUser site who user → batch_start (Some (Ok site)) who ≡ batch_for site user
 user_is site None user u = ap (batch_for site) (sym u)
 user_is site (Some name) user u = ap (by_user site) u
 
