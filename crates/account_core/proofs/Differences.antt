@@ -4,11 +4,11 @@ use Rattle.std.proofs.lemmas.List.Folds.{list_any-append}
 use Rattle.std.proofs.lemmas.Slice.Eq.{bytes_eq-Decides}
 use Rattle.std.specs.List.{list_any}
 use Rattle.std.specs.Str.{bytes_eq}
-use Rattle.cal_model.specs.Data.{Pair, object, members_of}
+use Rattle.model_json.specs.Data.{Pair, object, members_of}
 use Rattle.cal_model.specs.Gets.{different, is_asked_for, selected, with_text}
-use Rattle.cal_model.specs.Parts.{members_in}
-use Rattle.cal_model.specs.TreeData.{data_of}
-use Rattle.cal_model.specs.declared.tree.Tree.{Tree}
+use Rattle.model_json.specs.Parts.{members_in}
+use Rattle.model_json.specs.TreeData.{data_of}
+use Rattle.model_json.specs.declared.tree.Tree.{Tree}
 
 abbrev is_in : List (List ℕ) → List ℕ → Bool
 is_in texts k = list_any (λ t. bytes_eq t k) texts

@@ -4,11 +4,11 @@ use Rattle.std.proofs.lemmas.Bool.Decides.{nat_tests}
 use Rattle.std.proofs.lemmas.List.FromFn.{length-range_with_len}
 use Rattle.std.specs.List.{list_any, range_with_len}
 use Rattle.cal_model.specs.Calendar.{new_calendar}
-use Rattle.cal_model.specs.Data.{Data}
-use Rattle.cal_model.specs.History.{ids_at, ids_from, is_kind, next_number, with_id}
-use Rattle.cal_model.specs.declared.entry.Change.{Change}
-use Rattle.cal_model.specs.declared.entry.Kind.{Kind}
-use Rattle.cal_model.specs.declared.entry.Kind.TheVariants.{Calendar}
+use Rattle.model_json.specs.Data.{Data}
+use Rattle.model_history.specs.History.{ids_at, ids_from, is_kind, next_number, with_id}
+use Rattle.model_history.specs.declared.entry.Change.{Change}
+use Rattle.model_history.specs.declared.entry.Kind.{Kind}
+use Rattle.model_history.specs.declared.entry.Kind.TheVariants.{Calendar}
 
 -- one number more
 range_more : (a n : ℕ) → range_with_len a (suc n) ≡ range_with_len a n ++ (a + n) ∷ []

@@ -1,9 +1,9 @@
 -- Keys that stay in order.
 use Rattle.std.proofs.Common.{◌≡◌, ◌⊎◌, inl, inr, ⊎_elim, ℕ, List, [], ◌∷◌, Bool, true, false, filter, refl}
 use Rattle.std.proofs.lemmas.Bool.{and_from}
-use Rattle.cal_model.proofs.KeyOrder.{above_later, both}
-use Rattle.cal_model.specs.Data.{Data, Pair}
-use Rattle.cal_model.specs.ObjectKeys.{is_above, keys_rise}
+use Rattle.model_json.proofs.KeyOrder.{above_later, both}
+use Rattle.model_json.specs.Data.{Data, Pair}
+use Rattle.model_json.specs.ObjectKeys.{is_above, keys_rise}
 use Rattle.cal_model.specs.Sets.{Outcome, accepted, refused, created_member, not_created_member, of_each}
 
 above_kept : (f : Pair → Bool) (k : List ℕ) (p : Pair) (ps : List Pair) (b : Bool) → f p ≡ b → is_above k (p ∷ ps) ≡ true → is_above k (filter f ps) ≡ true → is_above k (filter f (p ∷ ps)) ≡ true

@@ -11,15 +11,15 @@ use Rattle.account_core.specs.declared.outcome.Outcome.TheVariants.{Accepted}
 use Rattle.account_core.specs.declared.tally.Tally.{Tally}
 use Rattle.cal_model.specs.Answer.{entry_of, entries_from}
 use Rattle.cal_model.specs.Calendar.{new_calendar}
-use Rattle.cal_model.specs.Data.{Pair}
-use Rattle.cal_model.specs.History.{changes_of, next_number, state_at}
+use Rattle.model_json.specs.Data.{Pair}
+use Rattle.model_history.specs.History.{changes_of, next_number, state_at}
 use Rattle.cal_model.specs.Sets.{Outcome, accepted, refused, changes_in, max_entries, max_size, outcome_of, outcomes, size_of, size_of_object, within_quota}
-use Rattle.cal_model.specs.declared.call.SetError.TheVariants.{OverQuota}
-use Rattle.cal_model.specs.declared.entry.Change.{Change}
-use Rattle.cal_model.specs.declared.entry.Entry.{Entry}
-use Rattle.cal_model.specs.declared.entry.Kind.{Kind}
-use Rattle.cal_model.specs.declared.entry.Kind.TheVariants.{Calendar}
-use Rattle.cal_model.specs.declared.stamp.Stamp.{Stamp}
+use Rattle.cal_model.specs.declared.set_error.SetError.TheVariants.{OverQuota}
+use Rattle.model_history.specs.declared.entry.Change.{Change}
+use Rattle.model_history.specs.declared.entry.Entry.{Entry}
+use Rattle.model_history.specs.declared.entry.Kind.{Kind}
+use Rattle.model_history.specs.declared.entry.Kind.TheVariants.{Calendar}
+use Rattle.model_history.specs.declared.stamp.Stamp.{Stamp}
 
 pub state_at_append : (cs ds : List Change) (kind : Kind) → state_at (cs ++ ds) kind ≡ state_at cs kind + state_at ds kind
 state_at_append cs ds kind = sum_by-append _ cs ds

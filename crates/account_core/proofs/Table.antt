@@ -2,10 +2,10 @@
 use Rattle.std.proofs.Common.{◌≡◌, ◌+◌, ℕ, List, [], ◌∷◌, Option, add-one, drop, flat_map, map, refl, sym, ap, ◌∙◌}
 use Rattle.std.proofs.lemmas.List.Folds.{flat_map-map}
 use Rattle.std.specs.List.{range_with_len}
-use Rattle.cal_model.specs.History.{ids_at, live_at, object_at, some_object}
-use Rattle.cal_model.specs.declared.entry.Change.{Change}
-use Rattle.cal_model.specs.declared.entry.Kind.{Kind}
-use Rattle.cal_model.specs.declared.tree.Tree.{Tree}
+use Rattle.model_history.specs.History.{ids_at, live_at, object_at, some_object}
+use Rattle.model_history.specs.declared.entry.Change.{Change}
+use Rattle.model_history.specs.declared.entry.Kind.{Kind}
+use Rattle.model_json.specs.declared.tree.Tree.{Tree}
 
 map-rest : {X Y : Type 0} (f : X → Y) (xs : List X) → map f (drop 1 xs) ≡ drop 1 (map f xs)
 map-rest f [] = refl

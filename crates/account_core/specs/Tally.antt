@@ -1,10 +1,10 @@
 -- What is kept beside the entries of an account.
 use Rattle.std.specs.Prelude.{◌≡◌, List, length}
 use Rattle.std.specs.List.{range_with_len}
-use Rattle.cal_model.specs.History.{ids_at}
+use Rattle.model_history.specs.History.{ids_at}
 use Rattle.cal_model.specs.Sets.{size_of}
-use Rattle.cal_model.specs.declared.entry.Change.{Change}
-use Rattle.cal_model.specs.declared.entry.Kind.TheVariants.{Calendar}
+use Rattle.model_history.specs.declared.entry.Change.{Change}
+use Rattle.model_history.specs.declared.entry.Kind.TheVariants.{Calendar}
 use Rattle.account_core.specs.declared.tally.Tally.{Tally}
 
 -- the tally is that of these changes, whose calendars got the numbers from 1 on, in order

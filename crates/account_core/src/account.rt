@@ -2,12 +2,12 @@
 ghost use Rattle.std.specs.Prelude.{◌≡◌, ◌++◌, ◌≤◌, [], ℕ, List, Some, None, true, IfOk, OnOk, OnErr, flat_map, length, map};
 ghost use Rattle.std.specs.Arc.{arc_value};
 ghost use Rattle.cal_model.specs.Answer.{answer_to, entries_from, get_calendars, refused, set_answer};
-ghost use Rattle.cal_model.specs.Base.{Base};
+ghost use Rattle.model_history.specs.Base.{Base};
 ghost use Rattle.cal_model.specs.Gets.{are_calendar_properties};
-ghost use Rattle.cal_model.specs.History.{changes_of};
-ghost use Rattle.cal_model.specs.ObjectKeys.{HasOrderedKeys};
+ghost use Rattle.model_history.specs.History.{changes_of};
+ghost use Rattle.model_json.specs.ObjectKeys.{HasOrderedKeys};
 ghost use Rattle.cal_model.specs.Sets.{changes_in, outcomes};
-ghost use Rattle.cal_model.specs.TreeData.{pair_of};
+ghost use Rattle.model_json.specs.TreeData.{pair_of};
 
 use crate::entries::entries_of;
 use crate::found::{find_all, find_ids};
@@ -19,13 +19,13 @@ use crate::replay::live;
 use crate::reply::refusal;
 use crate::set_reply::set_reply;
 use crate::tally::Tally;
-use cal_model::book::Book;
-use cal_model::call::{Call, MethodError, Reply};
-use cal_model::entry::{Entry, Kind};
-use cal_model::lists::{Pairs, Texts};
-use cal_model::stamp::Stamp;
-use cal_model::text::Text;
-use cal_model::tree::Member;
+use model_history::book::Book;
+use model_call::call::{Call, MethodError, Reply};
+use model_history::entry::{Entry, Kind};
+use model_json::lists::{Pairs, Texts};
+use model_history::stamp::Stamp;
+use model_json::text::Text;
+use model_json::tree::Member;
 use std::alloc::{AllocError, Global};
 use std::marker::Model;
 use std::sync::Arc;
@@ -49,10 +49,10 @@ impl Model for Account {
     ghost use Rattle.std.specs.Arc.{arc_value};
     ghost use Rattle.std.specs.Coded.{codes};
     ghost use Rattle.account_core.specs.Tally.{Tallies};
-    ghost use Rattle.cal_model.specs.Base.{Base};
-    ghost use Rattle.cal_model.specs.DataCode.{data_code};
-    ghost use Rattle.cal_model.specs.History.{changes_of};
-    ghost use Rattle.cal_model.specs.declared.entry.Entry.{Entry};
+    ghost use Rattle.model_history.specs.Base.{Base};
+    ghost use Rattle.model_json.specs.DataCode.{data_code};
+    ghost use Rattle.model_history.specs.History.{changes_of};
+    ghost use Rattle.model_history.specs.declared.entry.Entry.{Entry};
 
     ghost Value = { Base × List Entry };
 

@@ -3,10 +3,10 @@ ghost use Rattle.std.specs.Prelude.{◌≡◌, IfOk, List, OnOk, if◌then◌els
 ghost use Rattle.std.specs.Str.{bytes_eq};
 ghost use Rattle.account_core.specs.IdsByKey.{id_at};
 ghost use Rattle.cal_model.specs.Gets.{created_id_at, different, resolved_id};
-ghost use Rattle.cal_model.specs.Parts.{behind_hash};
+ghost use Rattle.model_json.specs.Parts.{behind_hash};
 
 use crate::texts::note;
-use cal_model::text::Text;
+use model_json::text::Text;
 use std::alloc::{AllocError, Global};
 use std::collections::BTreeMap;
 

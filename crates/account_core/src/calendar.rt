@@ -1,16 +1,16 @@
 //! Calendars as they are stored.
 ghost use Rattle.std.specs.Prelude.{◌≡◌, IfOk, map, unwrap_or, codes};
 ghost use Rattle.cal_model.specs.Calendar.{calendar, new_calendar};
-ghost use Rattle.cal_model.specs.Data.{field, null};
-ghost use Rattle.cal_model.specs.Id.{id_text};
-ghost use Rattle.cal_model.specs.TreeData.{data_of};
-ghost use Rattle.cal_model.specs.declared.entry.Kind.TheVariants.{Calendar};
-ghost use Rattle.cal_model.specs.declared.tree.Tree.TheVariants.{Object};
+ghost use Rattle.model_json.specs.Data.{field, null};
+ghost use Rattle.model_history.specs.ObjectId.{id_text};
+ghost use Rattle.model_json.specs.TreeData.{data_of};
+ghost use Rattle.model_history.specs.declared.entry.Kind.TheVariants.{Calendar};
+ghost use Rattle.model_json.specs.declared.tree.Tree.TheVariants.{Object};
 
-use cal_model::entry::{Change, Kind};
-use cal_model::num::Num;
-use cal_model::text::Text;
-use cal_model::tree::Tree;
+use model_history::entry::{Change, Kind};
+use model_json::num::Num;
+use model_json::text::Text;
+use model_json::tree::Tree;
 use std::alloc::{AllocError, Global};
 
 /// The id of the calendar of a number.

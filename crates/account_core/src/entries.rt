@@ -5,8 +5,8 @@ ghost use Rattle.cal_model.specs.Answer.{entries_from};
 ghost use Rattle.cal_model.specs.Sets.{changes_in};
 
 use crate::outcome::Outcome;
-use cal_model::entry::Entry;
-use cal_model::stamp::Stamp;
+use model_history::entry::Entry;
+use model_history::stamp::Stamp;
 use std::alloc::{AllocError, Global};
 
 /// The entries of the changes of those that were accepted, in order.

@@ -1,19 +1,19 @@
 //! What a get of calendars finds (RFC 8620 section 5.1).
 ghost use Rattle.std.specs.Prelude.{◌≡◌, [], Some, IfOk, filter, flat_map, is_some, map, not, option_and_then, option_map};
 ghost use Rattle.cal_model.specs.Gets.{ids_not_found, object_with_id, objects_asked, selected};
-ghost use Rattle.cal_model.specs.History.{changes_of};
-ghost use Rattle.cal_model.specs.Id.{letter, object_number};
-ghost use Rattle.cal_model.specs.Parts.{some_of};
-ghost use Rattle.cal_model.specs.TreeData.{data_of};
-ghost use Rattle.cal_model.specs.declared.entry.Kind.TheVariants.{Calendar};
+ghost use Rattle.model_history.specs.History.{changes_of};
+ghost use Rattle.model_history.specs.ObjectId.{letter, object_number};
+ghost use Rattle.model_json.specs.Parts.{some_of};
+ghost use Rattle.model_json.specs.TreeData.{data_of};
+ghost use Rattle.model_history.specs.declared.entry.Kind.TheVariants.{Calendar};
 
 use crate::asked_ids::asked_ids;
 use crate::properties::{asked_properties, select};
 use crate::replay::object;
-use cal_model::entry::{Entry, Kind};
-use cal_model::lists::Texts;
-use cal_model::text::Text;
-use cal_model::tree::Tree;
+use model_history::entry::{Entry, Kind};
+use model_json::lists::Texts;
+use model_json::text::Text;
+use model_json::tree::Tree;
 use std::alloc::{AllocError, Global};
 use time_text::read_number;
 

@@ -1,19 +1,19 @@
 //! Replies to gets (RFC 8620 section 5.1).
 ghost use Rattle.std.specs.Prelude.{◌≡◌, [], IfOk, map};
 ghost use Rattle.cal_model.specs.Answer.{answered};
-ghost use Rattle.cal_model.specs.Data.{items_of, list, text};
+ghost use Rattle.model_json.specs.Data.{items_of, list, text};
 ghost use Rattle.cal_model.specs.Gets.{get_arguments};
-ghost use Rattle.cal_model.specs.History.{changes_of};
-ghost use Rattle.cal_model.specs.TreeData.{data_of};
+ghost use Rattle.model_history.specs.History.{changes_of};
+ghost use Rattle.model_json.specs.TreeData.{data_of};
 
 use crate::found::Found;
 use crate::replay::state;
 use crate::reply::state_tree;
-use cal_model::call::Reply;
-use cal_model::entry::{Entry, Kind};
-use cal_model::lists::Pairs;
-use cal_model::text::Text;
-use cal_model::tree::{Tree, TreeList};
+use model_call::call::Reply;
+use model_history::entry::{Entry, Kind};
+use model_json::lists::Pairs;
+use model_json::text::Text;
+use model_json::tree::{Tree, TreeList};
 use std::alloc::{AllocError, Global};
 
 fn text_list(alloc: Global, texts: Vec<Text>) -> Result<Tree, AllocError>

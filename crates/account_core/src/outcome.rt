@@ -1,7 +1,7 @@
 //! What comes of the creates of a set.
 
-use cal_model::call::SetError;
-use cal_model::entry::Change;
+use cal_model::set_error::SetError;
+use model_history::entry::Change;
 
 /// What comes of one create of a set (RFC 8620 section 5.3).
 #[derive(Drop)]

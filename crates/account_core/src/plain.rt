@@ -3,11 +3,11 @@ ghost use Rattle.std.specs.Prelude.{◌≡◌, map};
 ghost use Rattle.std.specs.List.{list_all};
 ghost use Rattle.cal_model.specs.Answer.{are_plain};
 ghost use Rattle.cal_model.specs.Calendar.{has_name_alone, is_name, is_plain_create};
-ghost use Rattle.cal_model.specs.ObjectKeys.{HasOrderedKeys};
-ghost use Rattle.cal_model.specs.Parts.{members_in};
-ghost use Rattle.cal_model.specs.TreeData.{data_of, pair_of};
+ghost use Rattle.model_json.specs.ObjectKeys.{HasOrderedKeys};
+ghost use Rattle.model_json.specs.Parts.{members_in};
+ghost use Rattle.model_json.specs.TreeData.{data_of, pair_of};
 
-use cal_model::tree::{Member, Tree};
+use model_json::tree::{Member, Tree};
 use time_text::read_id;
 
 /// The most creates of a call.
@@ -32,7 +32,7 @@ fn is_name_alone(members: &[Member]) -> bool
 }
 
 /// The members of an object; none of anything else. Takes no memory.
-#[tactic(auto, using(cal_model::specs::Data::pairs_back))]
+#[tactic(auto, using(model_json::specs::Data::pairs_back))]
 pub fn members_of(value: &Tree) -> &[Member]
     ensures value { map pair_of result.now ≡ members_in (data_of value.now) }
     ensures ordered { HasOrderedKeys (members_in (data_of value.now)) }

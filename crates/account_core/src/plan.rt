@@ -3,15 +3,15 @@ ghost use Rattle.std.specs.Prelude.{◌≡◌, ◌++◌, IfOk, List, flat_map, l
 ghost use Rattle.account_core.specs.Outcome.{outcome_in};
 ghost use Rattle.account_core.specs.Tally.{Tallies};
 ghost use Rattle.cal_model.specs.Sets.{changes_in, outcome_of, outcomes, size_of_object};
-ghost use Rattle.cal_model.specs.TreeData.{pair_of};
-ghost use Rattle.cal_model.specs.declared.entry.Change.{Change as AnyChange};
+ghost use Rattle.model_json.specs.TreeData.{pair_of};
+ghost use Rattle.model_history.specs.declared.entry.Change.{Change as AnyChange};
 
 use crate::calendar::creation;
 use crate::outcome::Outcome;
 use crate::tally::Tally;
-use cal_model::call::SetError;
-use cal_model::entry::Change;
-use cal_model::tree::Member;
+use cal_model::set_error::SetError;
+use model_history::entry::Change;
+use model_json::tree::Member;
 use json_edge::write::tree_text;
 use std::alloc::{AllocError, Global};
 

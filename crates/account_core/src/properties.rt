@@ -3,14 +3,14 @@ ghost use Rattle.std.specs.Prelude.{◌≡◌, IfOk, filter, map};
 ghost use Rattle.std.specs.List.{list_all};
 ghost use Rattle.cal_model.specs.Calendar.{is_calendar_property};
 ghost use Rattle.cal_model.specs.Gets.{are_calendar_properties, is_asked_for, selected};
-ghost use Rattle.cal_model.specs.TreeData.{data_of, pair_of};
-ghost use Rattle.cal_model.specs.declared.tree.Tree.{Tree as AnyTree};
+ghost use Rattle.model_json.specs.TreeData.{data_of, pair_of};
+ghost use Rattle.model_json.specs.declared.tree.Tree.{Tree as AnyTree};
 
 use crate::plain::members_of;
 use crate::texts::{different_texts, is_among};
-use cal_model::lists::Texts;
-use cal_model::text::Text;
-use cal_model::tree::{Member, Tree, TreeObject};
+use model_json::lists::Texts;
+use model_json::text::Text;
+use model_json::tree::{Member, Tree, TreeObject};
 use std::alloc::{AllocError, Global};
 
 /// Whether this is the name of a property of calendars.

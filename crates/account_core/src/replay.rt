@@ -1,10 +1,10 @@
 //! What a history says of the account's objects, by going over it.
 ghost use Rattle.std.specs.Prelude.{◌≡◌, ◌<◌, ◌+◌, ◌^◌, IfOk, map, option_map};
 ghost use Rattle.std.specs.List.{range_with_len};
-ghost use Rattle.cal_model.specs.History.{changes_of, ids_at, live_at, object_at, state_at};
+ghost use Rattle.model_history.specs.History.{changes_of, ids_at, live_at, object_at, state_at};
 
-use cal_model::entry::{Entry, Kind};
-use cal_model::tree::Tree;
+use model_history::entry::{Entry, Kind};
+use model_json::tree::Tree;
 use std::alloc::{AllocError, Global};
 
 /// The object of a kind and number, where it is live. Takes no memory.

@@ -1,13 +1,13 @@
 //! What replies have in common.
 ghost use Rattle.std.specs.Prelude.{◌≡◌, IfOk, decimal};
 ghost use Rattle.cal_model.specs.Answer.{refused};
-ghost use Rattle.cal_model.specs.declared.tree.Tree.TheVariants.{Text as text_tree};
+ghost use Rattle.model_json.specs.declared.tree.Tree.TheVariants.{Text as text_tree};
 
-use cal_model::call::{MethodError, Reply};
-use cal_model::entry::Entry;
-use cal_model::lists::Pairs;
-use cal_model::text::Text;
-use cal_model::tree::Tree;
+use model_call::call::{MethodError, Reply};
+use model_history::entry::Entry;
+use model_json::lists::Pairs;
+use model_json::text::Text;
+use model_json::tree::Tree;
 use std::alloc::{AllocError, Global};
 
 /// A number of changes as a text, as clients see a state (RFC 8620 section 5.1).

@@ -2,22 +2,23 @@
 ghost use Rattle.std.specs.Prelude.{◌≡◌, ◌<◌, ◌≤◌, ◌+◌, ◌^◌, ◌∷◌, [], IfOk, flat_map, length, map};
 ghost use Rattle.account_core.specs.Outcome.{outcome_in};
 ghost use Rattle.cal_model.specs.Answer.{set_answer};
-ghost use Rattle.cal_model.specs.Data.{lookup};
-ghost use Rattle.cal_model.specs.History.{changes_of, state_at};
-ghost use Rattle.cal_model.specs.ObjectKeys.{HasOrderedKeys};
+ghost use Rattle.model_json.specs.Data.{lookup};
+ghost use Rattle.model_history.specs.History.{changes_of, state_at};
+ghost use Rattle.model_json.specs.ObjectKeys.{HasOrderedKeys};
 ghost use Rattle.cal_model.specs.Sets.{accepted, changes_in, created_id, created_member, is_value, members_beyond, members_stored, not_created_member, object_or_null, of_each, refused, set_arguments, set_error};
-ghost use Rattle.cal_model.specs.TreeData.{data_of, pair_of};
+ghost use Rattle.model_json.specs.TreeData.{data_of, pair_of};
 
 use crate::calendar::calendar_id;
 use crate::outcome::Outcome;
 use crate::plain::members_of;
 use crate::replay::state;
 use crate::reply::state_tree;
-use cal_model::call::{Reply, SetError};
-use cal_model::entry::{Change, Entry, Kind};
-use cal_model::lists::Pairs;
-use cal_model::text::Text;
-use cal_model::tree::{Member, Tree, TreeObject};
+use cal_model::set_error::SetError;
+use model_call::call::Reply;
+use model_history::entry::{Change, Entry, Kind};
+use model_json::lists::Pairs;
+use model_json::text::Text;
+use model_json::tree::{Member, Tree, TreeObject};
 use std::alloc::{AllocError, Global};
 
 fn object_or_null_tree(members: Vec<Member>) -> Tree

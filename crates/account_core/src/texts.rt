@@ -4,7 +4,7 @@ ghost use Rattle.std.specs.List.{list_any};
 ghost use Rattle.std.specs.Str.{bytes_eq};
 ghost use Rattle.cal_model.specs.Gets.{different, with_text};
 
-use cal_model::text::Text;
+use model_json::text::Text;
 use std::alloc::{AllocError, Global};
 
 /// Whether a text is one of these. Takes no memory.

@@ -2,19 +2,19 @@
 use Rattle.std.proofs.Common.{◌≡◌, ℕ, suc, List, [], ◌∷◌, Option, Some, None, length, map, flat_map, refl, sym, ap, ◌∙◌}
 use Rattle.std.proofs.lemmas.List.{length-map}
 use Rattle.cal_model.specs.Answer.{Form, get_calendars, create_plain, not_built, form_of, answer, answer_to, added, added_by_form, entries_from, unless_error, get_found, refused}
-use Rattle.cal_model.specs.Base.{Base}
+use Rattle.model_history.specs.Base.{Base}
 use Rattle.cal_model.specs.Gets.{get_arguments, get_error, ids_not_found, objects_asked, selected}
-use Rattle.cal_model.specs.History.{changes_of}
+use Rattle.model_history.specs.History.{changes_of}
 use Rattle.cal_model.specs.Sets.{changes_in, created_id, of_each, outcomes, set_arguments}
-use Rattle.cal_model.specs.declared.call.Call.{Call}
-use Rattle.cal_model.specs.declared.call.MethodError.{MethodError}
-use Rattle.cal_model.specs.declared.call.Reply.{Reply}
-use Rattle.cal_model.specs.declared.call.Reply.{Reply}
-use Rattle.cal_model.specs.declared.entry.Change.{Change}
-use Rattle.cal_model.specs.declared.entry.Entry.{Entry}
-use Rattle.cal_model.specs.declared.entry.Kind.TheVariants.{Calendar}
-use Rattle.cal_model.specs.declared.stamp.Stamp.{Stamp}
-use Rattle.cal_model.specs.declared.tree.Tree.TheVariants.{Null}
+use Rattle.model_call.specs.declared.call.Call.{Call}
+use Rattle.model_call.specs.declared.call.MethodError.{MethodError}
+use Rattle.model_call.specs.declared.call.Reply.{Reply}
+use Rattle.model_call.specs.declared.call.Reply.{Reply}
+use Rattle.model_history.specs.declared.entry.Change.{Change}
+use Rattle.model_history.specs.declared.entry.Entry.{Entry}
+use Rattle.model_history.specs.declared.entry.Kind.TheVariants.{Calendar}
+use Rattle.model_history.specs.declared.stamp.Stamp.{Stamp}
+use Rattle.model_json.specs.declared.tree.Tree.TheVariants.{Null}
 
 -- the entries of changes have these changes
 changes_of_entries : (s : Stamp) (part : ℕ) (cs : List Change) → changes_of (entries_from s part cs) ≡ cs

@@ -1,16 +1,16 @@
 -- Equal messages on histories with equal changes have equal responses.
 use Rattle.std.proofs.Common.{◌≡◌, ℕ, ℤ, zero, suc, List, [], ◌∷◌, ◌++◌, Bool, Option, Some, None, refl, sym, ap, ◌∙◌, subst}
-use Rattle.cal_model.specs.Base.{Base}
-use Rattle.cal_model.specs.Batches.Reply.{Replies, asked_in, clamped}
-use Rattle.cal_model.specs.Batches.Session.{Made}
-use Rattle.cal_model.specs.Headline.{fresh_desk}
-use Rattle.cal_model.specs.History.{changes_of}
-use Rattle.cal_model.specs.Http.Messages.{Message}
-use Rattle.cal_model.specs.Http.Responses.{response_text}
-use Rattle.cal_model.specs.Http.Routes.{Route, api, direct, route}
-use Rattle.cal_model.specs.Http.Turns.{AllFit, Fits, FitsApi, FitsDirect, Ticked, Turn, all_bytes, all_made, all_moments, api_response, at_once, by_calls, closes, messages_of}
-use Rattle.cal_model.specs.Sites.Configuration.{Site, user_at}
-use Rattle.cal_model.specs.declared.entry.Entry.{Entry}
+use Rattle.model_history.specs.Base.{Base}
+use Rattle.model_batch.specs.Reply.{Replies, asked_in, clamped}
+use Rattle.model_batch.specs.Session.{Made}
+use Rattle.account_desk.specs.FreshDesk.{fresh_desk}
+use Rattle.model_history.specs.History.{changes_of}
+use Rattle.model_http.specs.Messages.{Message}
+use Rattle.model_http.specs.Responses.{response_text}
+use Rattle.model_connection.specs.Routes.{Route, api, direct, route}
+use Rattle.model_connection.specs.Turns.{AllFit, Fits, FitsApi, FitsDirect, Ticked, Turn, all_bytes, all_made, all_moments, api_response, at_once, by_calls, closes, messages_of}
+use Rattle.model_site.specs.Configuration.{Site, user_at}
+use Rattle.model_history.specs.declared.entry.Entry.{Entry}
 use Rattle.account_desk.specs.Determined.{ConnectionsAreDetermined}
 use Rattle.account_desk.proofs.PlayLemmas.{Played, after, none_yet, played, played_first, played_rest}
 use Rattle.account_desk.proofs.ReplyLemmas.{SameChanges, same_replies}

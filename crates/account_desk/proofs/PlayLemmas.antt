@@ -4,12 +4,12 @@ use Rattle.std.proofs.Math.Seq.{take-append_seam}
 use mathlib.Core.Logic.{dite}
 use native.Mathlib.Decide.{ℕ_discrete}
 use Rattle.cal_model.specs.Answer.{answer, added}
-use Rattle.cal_model.specs.Base.{Base}
-use Rattle.cal_model.specs.Batches.Session.{Made, Session, Shown, Stand, added_by, on, stamp_of}
-use Rattle.cal_model.specs.Headline.{IsSole, fresh_desk}
-use Rattle.cal_model.specs.Signed.{written_by}
-use Rattle.cal_model.specs.Sites.Configuration.{Site}
-use Rattle.cal_model.specs.declared.entry.Entry.{Entry}
+use Rattle.model_history.specs.Base.{Base}
+use Rattle.model_batch.specs.Session.{Made, Session, Shown, Stand, added_by, on, stamp_of}
+use Rattle.account_desk.specs.FreshDesk.{IsSole, fresh_desk}
+use Rattle.model_history.specs.Signed.{written_by}
+use Rattle.model_site.specs.Configuration.{Site}
+use Rattle.model_history.specs.declared.entry.Entry.{Entry}
 use Rattle.account_desk.proofs.TurnLemmas.{in_turn}
 
 -- the histories, with more at the end of one of them

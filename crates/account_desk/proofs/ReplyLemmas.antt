@@ -3,23 +3,23 @@ use Rattle.std.proofs.Common.{◌≡◌, ℕ, ℤ, ◌==◌, List, [], ◌∷◌
 use Rattle.std.proofs.lemmas.List.{map-append}
 use Rattle.std.proofs.lemmas.Grind.{flat_map-append}
 use Rattle.cal_model.specs.Answer.{answer, added}
-use Rattle.cal_model.specs.Base.{Base}
-use Rattle.cal_model.specs.Batches.Asked.{Asked, asked, refused}
-use Rattle.cal_model.specs.Batches.Batch.{Fit, FollowsFrom, Step, created_in, error_response, given_ids, made_in, meaning_after, reply_response, response_with, response_with_ids, responses_in}
-use Rattle.cal_model.specs.Batches.Meaning.{Meaning, refuses, echoes, calls, meaning_of_method}
-use Rattle.cal_model.specs.Batches.Methods.{method_used}
-use Rattle.cal_model.specs.Batches.Reply.{Replies}
-use Rattle.cal_model.specs.Batches.Session.{Made, stamp_of}
-use Rattle.cal_model.specs.Data.{Data}
-use Rattle.cal_model.specs.Headline.{fresh_desk}
-use Rattle.cal_model.specs.History.{changes_of}
-use Rattle.cal_model.specs.Parts.{some_of}
-use Rattle.cal_model.specs.declared.call.Reply.{Reply}
-use Rattle.cal_model.specs.declared.entry.Entry.{Entry}
-use Rattle.cal_model.specs.declared.request.Invocation.{Invocation}
-use Rattle.cal_model.specs.declared.request.Request.{Request}
-use Rattle.cal_model.specs.declared.tree.Tree.TheVariants.{Object}
-use Rattle.cal_model.specs.declared.user.User.{User}
+use Rattle.model_history.specs.Base.{Base}
+use Rattle.model_batch.specs.Asked.{Asked, asked, refused}
+use Rattle.model_batch.specs.Batch.{Fit, FollowsFrom, Step, created_in, error_response, given_ids, made_in, meaning_after, reply_response, response_with, response_with_ids, responses_in}
+use Rattle.model_batch.specs.Meaning.{Meaning, refuses, echoes, calls, meaning_of_method}
+use Rattle.model_call.specs.Methods.{method_used}
+use Rattle.model_batch.specs.Reply.{Replies}
+use Rattle.model_batch.specs.Session.{Made, stamp_of}
+use Rattle.model_json.specs.Data.{Data}
+use Rattle.account_desk.specs.FreshDesk.{fresh_desk}
+use Rattle.model_history.specs.History.{changes_of}
+use Rattle.model_json.specs.Parts.{some_of}
+use Rattle.model_call.specs.declared.call.Reply.{Reply}
+use Rattle.model_history.specs.declared.entry.Entry.{Entry}
+use Rattle.model_batch.specs.declared.request.Invocation.{Invocation}
+use Rattle.model_batch.specs.declared.request.Request.{Request}
+use Rattle.model_json.specs.declared.tree.Tree.TheVariants.{Object}
+use Rattle.model_core.specs.declared.user.User.{User}
 use Rattle.account_desk.specs.Determined.{RepliesAreDetermined}
 use Rattle.account_desk.proofs.AnswerLemmas.{same_answer, same_added}
 use Rattle.account_desk.proofs.PlayLemmas.{Played, adds, after, after-append, longer, next, none_yet, played, played_first, played_rest}

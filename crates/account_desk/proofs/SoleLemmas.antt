@@ -4,18 +4,18 @@ use Rattle.std.proofs.lemmas.List.{get_or-set_same, get_or-set_other, length-set
 use Rattle.std.proofs.lemmas.List.Elements.{All-set, All-get_or, filter-append}
 use mathlib.Core.Logic.{dite}
 use native.Mathlib.Decide.{ℕ_discrete}
-use Rattle.cal_model.proofs.Sessions.{all_written_by}
+use Rattle.model_batch.proofs.Sessions.{all_written_by}
 use Rattle.cal_model.specs.AddedEntries.{added_signed}
 use Rattle.cal_model.specs.Answer.{answer, added}
-use Rattle.cal_model.specs.Base.{Base}
-use Rattle.cal_model.specs.Batches.Session.{Called, StaysBeside}
-use Rattle.cal_model.specs.Headline.{no_base}
-use Rattle.cal_model.specs.Lock.{most_turns}
-use Rattle.cal_model.specs.Signed.{written_by}
-use Rattle.cal_model.specs.declared.call.Call.{Call}
-use Rattle.cal_model.specs.declared.call.Reply.{Reply}
-use Rattle.cal_model.specs.declared.entry.Entry.{Entry}
-use Rattle.cal_model.specs.declared.stamp.Stamp.{Stamp}
+use Rattle.model_history.specs.Base.{Base}
+use Rattle.model_batch.specs.Session.{Called, StaysBeside}
+use Rattle.account_desk.specs.FreshDesk.{no_base}
+use Rattle.model_history.specs.MostTurns.{most_turns}
+use Rattle.model_history.specs.Signed.{written_by}
+use Rattle.model_call.specs.declared.call.Call.{Call}
+use Rattle.model_call.specs.declared.call.Reply.{Reply}
+use Rattle.model_history.specs.declared.entry.Entry.{Entry}
+use Rattle.model_history.specs.declared.stamp.Stamp.{Stamp}
 use Rattle.account_desk.specs.SoleDesk.{IsSoleDesk, account_at, of_desk, shown_of}
 
 abbrev pub stamp_after : ℕ → ℤ → Stamp

@@ -1,10 +1,10 @@
 -- Calls fill a history to its end only where each begins where the one before ended.
 use Rattle.std.proofs.Common.{◌≡◌, ℕ, ◌+◌, ◌≤◌, length, List, [], ◌∷◌, flat_map, sym, ap, ◌∙◌, subst, arith, length-append, length-drop}
-use Rattle.cal_model.specs.Base.{Base}
-use Rattle.cal_model.specs.Batches.Session.{Made, Stand, Stands, added_by, on}
-use Rattle.cal_model.specs.Headline.{fresh_desk}
-use Rattle.cal_model.specs.Signed.{written_by}
-use Rattle.cal_model.specs.declared.entry.Entry.{Entry}
+use Rattle.model_history.specs.Base.{Base}
+use Rattle.model_batch.specs.Session.{Made, Stand, Stands, added_by, on}
+use Rattle.account_desk.specs.FreshDesk.{fresh_desk}
+use Rattle.model_history.specs.Signed.{written_by}
+use Rattle.model_history.specs.declared.entry.Entry.{Entry}
 use Rattle.account_desk.specs.InTurn.{AnsweredInTurn, InTurn}
 
 module _ (base : Base) (author : ℕ) (h : List Entry) where

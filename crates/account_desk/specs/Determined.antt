@@ -1,13 +1,13 @@
 -- Nothing of a reply is open where a desk has its accounts for itself.
 use Rattle.std.specs.Prelude.{◌≡◌, ℕ, ℤ, List, ◌++◌, Option, Some}
-use Rattle.cal_model.specs.Batches.Asked.{Asked}
-use Rattle.cal_model.specs.Batches.Reply.{Replies}
-use Rattle.cal_model.specs.Batches.Session.{Made, Session, Shown}
-use Rattle.cal_model.specs.Data.{Data}
-use Rattle.cal_model.specs.Headline.{IsSole, fresh_desk}
-use Rattle.cal_model.specs.Http.Turns.{AllFit, Ticked, Turn, all_bytes, all_made, all_moments, messages_of}
-use Rattle.cal_model.specs.Sites.Configuration.{Site}
-use Rattle.cal_model.specs.declared.user.User.{User}
+use Rattle.model_batch.specs.Asked.{Asked}
+use Rattle.model_batch.specs.Reply.{Replies}
+use Rattle.model_batch.specs.Session.{Made, Session, Shown}
+use Rattle.model_json.specs.Data.{Data}
+use Rattle.account_desk.specs.FreshDesk.{IsSole, fresh_desk}
+use Rattle.model_connection.specs.Turns.{AllFit, Ticked, Turn, all_bytes, all_made, all_moments, messages_of}
+use Rattle.model_site.specs.Configuration.{Site}
+use Rattle.model_core.specs.declared.user.User.{User}
 
 -- a reply to what was asked, on fresh accounts and with nobody else taking part
 pub record RepliesAlone (site : Site) (user : User) (moment : ℤ) (a : Asked) (reply : Data) : Type 0 where

@@ -1,10 +1,10 @@
 -- What a session comes to in which nobody else takes part.
 use Rattle.std.specs.Prelude.{◌≡◌, ℕ, ◌+◌, List, [], ◌∷◌, length}
-use Rattle.cal_model.specs.Base.{Base}
-use Rattle.cal_model.specs.Batches.Session.{Made, Session, Shown, added_by, on}
-use Rattle.cal_model.specs.Headline.{IsSole, fresh_desk}
-use Rattle.cal_model.specs.Sites.Configuration.{Site}
-use Rattle.cal_model.specs.declared.entry.Entry.{Entry}
+use Rattle.model_history.specs.Base.{Base}
+use Rattle.model_batch.specs.Session.{Made, Session, Shown, added_by, on}
+use Rattle.account_desk.specs.FreshDesk.{IsSole, fresh_desk}
+use Rattle.model_site.specs.Configuration.{Site}
+use Rattle.model_history.specs.declared.entry.Entry.{Entry}
 
 -- each call is answered at just the entries that the calls before it added, where so many went before the first
 abbrev pub InTurn : Base → ℕ → List Entry → ℕ → List Made → Type 0

@@ -1,3 +1,4 @@
+pub mod FreshDesk
 pub mod Determined
 pub mod InTurn
 pub mod SoleDesk

@@ -1,12 +1,12 @@
 //! A desk that has its accounts for itself.
 ghost use Rattle.std.specs.Prelude.{◌≡◌, ◌<◌, IfOk, length};
 ghost use Rattle.account_desk.specs.SoleDesk.{fresh_account, of_desk, shown_of};
-ghost use Rattle.cal_model.specs.Headline.{IsSole, fresh_desk};
+ghost use Rattle.account_desk.specs.FreshDesk.{IsSole, fresh_desk};
 
 use account_core::account::Account;
-use cal_model::book::Book;
-use cal_model::call::{Call, Reply};
-use cal_model::desk::{Desk, DeskError};
+use model_history::book::Book;
+use model_call::call::{Call, Reply};
+use model_batch::desk::{Desk, DeskError};
 use session_doc::Site;
 use std::alloc::{AllocError, Global};
 use std::marker::Model;
@@ -29,9 +29,9 @@ impl Model for SoleDesk {
     ghost use Rattle.std.specs.Prelude.{ℕ, List};
     ghost use Rattle.std.specs.Coded.{codes};
     ghost use Rattle.account_desk.specs.SoleDesk.{IsSoleDesk};
-    ghost use Rattle.cal_model.specs.Base.{Base};
-    ghost use Rattle.cal_model.specs.DataCode.{data_code};
-    ghost use Rattle.cal_model.specs.declared.entry.Entry.{Entry};
+    ghost use Rattle.model_history.specs.Base.{Base};
+    ghost use Rattle.model_json.specs.DataCode.{data_code};
+    ghost use Rattle.model_history.specs.declared.entry.Entry.{Entry};
 
     ghost Value = { List (Base × List Entry) × ℕ };
 

@@ -5,14 +5,14 @@ use Rattle.std.proofs.lemmas.List.{append_cancel_left}
 use mathlib.Core.Logic.{dite}
 use native.Mathlib.Decide.{ℕ_discrete}
 use Rattle.atomic_table.proofs.Lists.{at_longer, set_here, set_else}
-use Rattle.cal_model.specs.Base.{Base}
-use Rattle.cal_model.specs.Lock.{PassView, has_turn, has_read}
-use Rattle.cal_model.specs.Signed.{written_by, Begins, Extends}
-use Rattle.cal_model.specs.LockSteps.{having_read, having_added, having_split, split_off}
-use Rattle.cal_model.specs.Signed.{AreSigned}
-use Rattle.cal_model.specs.declared.entry.Entry.{Entry}
-use Rattle.cal_model.specs.declared.lock.Phase.{Phase}
-use Rattle.cal_model.specs.declared.lock.Phase.TheVariants.{Idle, Waits, Turn, Read, Done}
+use Rattle.model_history.specs.Base.{Base}
+use Rattle.account_lock.specs.Lock.{PassView, has_turn, has_read}
+use Rattle.model_history.specs.Signed.{written_by, Begins, Extends}
+use Rattle.account_lock.specs.LockSteps.{having_read, having_added, having_split, split_off}
+use Rattle.model_history.specs.Signed.{AreSigned}
+use Rattle.model_history.specs.declared.entry.Entry.{Entry}
+use Rattle.account_lock.specs.declared.lock.Phase.{Phase}
+use Rattle.account_lock.specs.declared.lock.Phase.TheVariants.{Idle, Waits, Turn, Read, Done}
 use Rattle.account_lock.specs.TicketRule.{At}
 use Rattle.account_lock.specs.HistoryRule.{TurnsUpTo, TurnsRise, Knows, HistoryHolds}
 use Rattle.account_lock.proofs.EntryLemmas.{written_by-append, written_by-own, written_by-other, written_by-below, AuthorsBelow-append, AuthorsBelow-more, TurnsUpTo-more, TurnsUpTo-append, TurnsRise-append}

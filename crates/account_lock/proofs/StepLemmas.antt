@@ -6,12 +6,13 @@ use mathlib.Core.Logic.{dite}
 use native.Mathlib.Decide.{ℕ_discrete}
 use Rattle.atomic_table.specs.Table.{State, Me, Step, step, keeps, takes, gives, stepped, Allows, Splits, opening}
 use Rattle.atomic_table.proofs.Lists.{at_longer, set_here, set_else, set_again}
-use Rattle.cal_model.specs.Base.{Base}
-use Rattle.cal_model.specs.Lock.{PassView, in_line, has_turn, has_read, most_turns}
-use Rattle.cal_model.specs.LockSteps.{with_ticket, with_turn, having_read, having_added, out_of_line, new_pass, having_split, split_off}
-use Rattle.cal_model.specs.Signed.{AreSigned, Extends}
-use Rattle.cal_model.specs.declared.entry.Entry.{Entry}
-use Rattle.cal_model.specs.declared.lock.Phase.TheVariants.{Idle, Waits, Turn, Read, Done}
+use Rattle.model_history.specs.Base.{Base}
+use Rattle.model_history.specs.MostTurns.{most_turns}
+use Rattle.account_lock.specs.Lock.{PassView, in_line, has_turn, has_read}
+use Rattle.account_lock.specs.LockSteps.{with_ticket, with_turn, having_read, having_added, out_of_line, new_pass, having_split, split_off}
+use Rattle.model_history.specs.Signed.{AreSigned, Extends}
+use Rattle.model_history.specs.declared.entry.Entry.{Entry}
+use Rattle.account_lock.specs.declared.lock.Phase.TheVariants.{Idle, Waits, Turn, Read, Done}
 use Rattle.account_lock.specs.HistoryRule.{Knows, TurnsUpTo, TurnsRise}
 use Rattle.account_lock.specs.Rule.{SlotHolds, RuleHolds}
 use Rattle.account_lock.specs.StepNews.{looked, read_count, added_entries, left_line}

@@ -5,10 +5,11 @@ use mathlib.Core.Logic.{dite}
 use native.Mathlib.Decide.{ℕ_discrete}
 use lib.ListN.{get_elem?}
 use Rattle.atomic_table.proofs.Lists.{at_longer, set_here, set_else}
-use Rattle.cal_model.specs.Lock.{PassView, in_line, has_turn, most_turns}
-use Rattle.cal_model.specs.LockSteps.{with_ticket, out_of_line, having_split, split_off}
-use Rattle.cal_model.specs.declared.lock.Phase.{Phase}
-use Rattle.cal_model.specs.declared.lock.Phase.TheVariants.{Idle, Waits, Turn, Read, Done}
+use Rattle.model_history.specs.MostTurns.{most_turns}
+use Rattle.account_lock.specs.Lock.{PassView, in_line, has_turn}
+use Rattle.account_lock.specs.LockSteps.{with_ticket, out_of_line, having_split, split_off}
+use Rattle.account_lock.specs.declared.lock.Phase.{Phase}
+use Rattle.account_lock.specs.declared.lock.Phase.TheVariants.{Idle, Waits, Turn, Read, Done}
 use Rattle.account_lock.specs.TicketRule.{At, TicketsHold, PassesHold}
 use Rattle.account_lock.proofs.ViewLemmas.{sum_by-set_view, sum_by-last_view, sum_by-most, each_set, each_last, at_inside, same_at}
 

@@ -5,7 +5,7 @@ use Rattle.std.proofs.lemmas.List.Sums.{sum_by-cons, sum_by-append}
 use mathlib.Core.Option.{some-injective, some-ne-none}
 use lib.ListN.{get_elem?}
 use Rattle.atomic_table.proofs.Lists.{at_set}
-use Rattle.cal_model.specs.Lock.{PassView}
+use Rattle.account_lock.specs.Lock.{PassView}
 use Rattle.account_lock.specs.TicketRule.{At}
 
 pub sum_by-set_view : (f : PassView → ℕ) (vs : List PassView) (i : ℕ) (v w : PassView) → At vs i v → sum_by f (set vs i w) + f v ≡ sum_by f vs + f w

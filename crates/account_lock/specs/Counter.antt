@@ -1,10 +1,10 @@
 -- A book of amounts, whose replies are their sum.
 use Rattle.std.specs.Prelude.{ℕ, ◌+◌, ◌==◌, ◌||◌, Bool, true, false, refl, List, [], ◌∷◌, length, min, None, if◌then◌else◌}
-use Rattle.cal_model.specs.Base.{Base}
-use Rattle.cal_model.specs.Signed.{AreSigned}
-use Rattle.cal_model.specs.declared.entry.Entry.{Entry}
-use Rattle.cal_model.specs.declared.entry.Kind.TheVariants.{Calendar}
-use Rattle.cal_model.specs.declared.stamp.Stamp.{Stamp}
+use Rattle.model_history.specs.Base.{Base}
+use Rattle.model_history.specs.Signed.{AreSigned}
+use Rattle.model_history.specs.declared.entry.Entry.{Entry}
+use Rattle.model_history.specs.declared.entry.Kind.TheVariants.{Calendar}
+use Rattle.model_history.specs.declared.stamp.Stamp.{Stamp}
 
 abbrev pub no_base : Base
 no_base = record { account_id = []; zones = [] }

@@ -1,3 +1,5 @@
+pub mod Lock
+pub mod LockSteps
 pub mod Counter
 pub mod HistoryRule
 pub mod Passes

@@ -1,11 +1,11 @@
 -- What contracts see of a pass, and what a call makes of it.
 use Rattle.std.specs.Prelude.{◌≡◌, ℕ, ◌+◌, ℤ, List, [], ◌++◌}
 use Rattle.atomic_table.specs.Seated.{TableId}
-use Rattle.cal_model.specs.Base.{Base}
-use Rattle.cal_model.specs.Lock.{PassView}
-use Rattle.cal_model.specs.declared.entry.Entry.{Entry}
-use Rattle.cal_model.specs.declared.stamp.Stamp.{Stamp}
-use Rattle.cal_model.specs.Signed.{Extends}
+use Rattle.model_history.specs.Base.{Base}
+use Rattle.account_lock.specs.Lock.{PassView}
+use Rattle.model_history.specs.declared.entry.Entry.{Entry}
+use Rattle.model_history.specs.declared.stamp.Stamp.{Stamp}
+use Rattle.model_history.specs.Signed.{Extends}
 
 -- a pass outside a call
 pub record PassState : Type 0 where

@@ -1,8 +1,8 @@
 //! A book of amounts, for tests of the lock.
 ghost use Rattle.std.specs.Prelude.{◌≡◌, []};
 
-use cal_model::book::Book;
-use cal_model::entry::{Change, Entry, Kind};
+use model_history::book::Book;
+use model_history::entry::{Change, Entry, Kind};
 use std::alloc::{AllocError, Global};
 use std::marker::Model;
 
@@ -26,8 +26,8 @@ pub struct CounterBook {
 impl Model for CounterBook {
     ghost use Rattle.std.specs.Prelude.{◌≡◌, ◌*◌, ◌≤◌, List, length};
     ghost use Rattle.std.specs.Coded.{codes};
-    ghost use Rattle.cal_model.specs.DataCode.{data_code};
-    ghost use Rattle.cal_model.specs.declared.entry.Entry.{Entry};
+    ghost use Rattle.model_json.specs.DataCode.{data_code};
+    ghost use Rattle.model_history.specs.declared.entry.Entry.{Entry};
     ghost use Rattle.account_lock.specs.Counter.{sum_of_ids, most_entries};
 
     ghost Value = { List Entry };

@@ -2,6 +2,7 @@
 #![tactic(auto)]
 
 pub mod counter;
+pub mod lock;
 pub mod locked;
 pub mod pass;
 mod rule;

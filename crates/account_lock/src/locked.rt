@@ -1,8 +1,8 @@
 //! The lock, and the calls of its passes.
 ghost use Rattle.std.specs.Prelude.{◌≡◌, ◌↔◌, ℕ, ◌+◌, ◌<◌, ◌≤◌, [], ◌∷◌, ◌++◌, Err, Some, IfOk, OnOk, OnErr, IfErr, vec_len, vec_capacity, slice_get};
-ghost use Rattle.cal_model.specs.Lock.{most_turns};
-ghost use Rattle.cal_model.specs.LockSteps.{having_read, having_added, new_pass};
-ghost use Rattle.cal_model.specs.declared.lock.Phase.TheVariants.{Idle, Turn};
+ghost use Rattle.model_history.specs.MostTurns.{most_turns};
+ghost use Rattle.account_lock.specs.LockSteps.{having_read, having_added, new_pass};
+ghost use Rattle.account_lock.specs.declared.lock.Phase.TheVariants.{Idle, Turn};
 ghost use Rattle.account_lock.specs.Passes.{PassState, IsAnswered, HasFailed, state_of, opened_pass};
 ghost use Rattle.account_lock.specs.StepNews.{IsSeatOf};
 ghost use Rattle.account_lock.specs.declared.locked.CallError.TheVariants.{PassSpent, NoMemory};
@@ -15,8 +15,8 @@ use crate::steps::{
 };
 use crate::view::View;
 use atomic_table::Table;
-use cal_model::book::Book;
-use cal_model::stamp::Stamp;
+use model_history::book::Book;
+use model_history::stamp::Stamp;
 use std::alloc::{AllocError, Global};
 use std::marker::{Brand, Model};
 use std::snapshot::Snapshot;

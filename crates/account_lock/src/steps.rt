@@ -1,9 +1,9 @@
 //! The eight kinds of step, each as a function.
 ghost use Rattle.std.specs.Prelude.{◌≡◌, ℕ, ◌+◌, ◌^◌, ◌<◌, [], ◌∷◌, ◌++◌, length};
-ghost use Rattle.cal_model.specs.Lock.{most_turns};
-ghost use Rattle.cal_model.specs.LockSteps.{with_ticket, having_read, having_added, out_of_line, having_split, split_off};
-ghost use Rattle.cal_model.specs.Signed.{AreSigned};
-ghost use Rattle.cal_model.specs.declared.lock.Phase.TheVariants.{Idle, Waits, Turn, Read, Done};
+ghost use Rattle.model_history.specs.MostTurns.{most_turns};
+ghost use Rattle.account_lock.specs.LockSteps.{with_ticket, having_read, having_added, out_of_line, having_split, split_off};
+ghost use Rattle.model_history.specs.Signed.{AreSigned};
+ghost use Rattle.account_lock.specs.declared.lock.Phase.TheVariants.{Idle, Waits, Turn, Read, Done};
 ghost use Rattle.account_lock.specs.StepNews.{IsSeatOf, HasBook, HasEmptySlot, HasTurn};
 
 use crate::rule::{
@@ -11,7 +11,7 @@ use crate::rule::{
 };
 use crate::view::View;
 use atomic_table::{Seat, Shared};
-use cal_model::book::Book;
+use model_history::book::Book;
 use std::snapshot::Snapshot;
 use std::sync::Wait;
 

@@ -1,11 +1,11 @@
 //! What holds of a lock between any two steps of any threads.
-ghost use Rattle.cal_model.specs.Lock.{IsTicketLock};
+ghost use Rattle.account_lock.specs.Lock.{IsTicketLock};
 ghost use Rattle.account_lock.specs.Rule.{lock_of};
 
 use crate::rule::LockRule;
 use crate::view::View;
 use atomic_table::TableRule;
-use cal_model::book::Book;
+use model_history::book::Book;
 use std::snapshot::Snapshot;
 
 /// Each state that the lock's table can be in between two steps, which are those that keep its rule, is a ticket lock,

@@ -8,9 +8,9 @@ pub struct View {}
 impl Model for View {
     ghost use Rattle.std.specs.Prelude.{[]};
     ghost use Rattle.std.specs.Coded.{codes};
-    ghost use Rattle.cal_model.specs.DataCode.{data_code};
-    ghost use Rattle.cal_model.specs.Lock.{PassView};
-    ghost use Rattle.cal_model.specs.LockSteps.{new_pass};
+    ghost use Rattle.model_json.specs.DataCode.{data_code};
+    ghost use Rattle.account_lock.specs.Lock.{PassView};
+    ghost use Rattle.account_lock.specs.LockSteps.{new_pass};
 
     ghost Value = { PassView };
 

@@ -1,12 +1,12 @@
 -- A call on an account is one more call of a session.
 use Rattle.std.proofs.Common.{◌≡◌, ℕ, ◌+◌, ◌≤◌, ℤ, List, [], ◌∷◌, ◌++◌, Ok, Err, refl, sym, ap, ◌∙◌, subst, arith, append-nil}
-use Rattle.cal_model.proofs.Sessions.{answers_once, made_of, missed, still}
-use Rattle.cal_model.specs.Batches.Session.{Called, Shown, Session}
-use Rattle.cal_model.specs.declared.call.Call.{Call}
-use Rattle.cal_model.specs.declared.call.Reply.{Reply}
-use Rattle.cal_model.specs.declared.desk.DeskError.{DeskError}
-use Rattle.cal_model.specs.declared.desk.DeskError.TheVariants.{NoMemory, PassSpent}
-use Rattle.cal_model.specs.declared.desk.Front.{Front}
+use Rattle.model_batch.proofs.Sessions.{answers_once, made_of, missed, still}
+use Rattle.model_batch.specs.Session.{Called, Shown, Session}
+use Rattle.model_call.specs.declared.call.Call.{Call}
+use Rattle.model_call.specs.declared.call.Reply.{Reply}
+use Rattle.model_batch.specs.declared.desk.DeskError.{DeskError}
+use Rattle.model_batch.specs.declared.desk.DeskError.TheVariants.{NoMemory, PassSpent}
+use Rattle.model_batch.specs.declared.desk.Front.{Front}
 use Rattle.batch_exec.specs.Stepping.{IsReply, Makes}
 
 pub asking_ok : {fronts fronts' : List Front} {s t : Shown} {account : ℕ} {call : Call} {reply : Reply} (moment w : ℤ) → Called s t account call w (Ok reply) → w ≡ moment

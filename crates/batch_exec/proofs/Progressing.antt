@@ -2,19 +2,19 @@
 use Rattle.std.proofs.Common.{◌≡◌, ℕ, ℤ, suc, ◌+◌, ◌≤◌, inl, inr, List, [], ◌∷◌, ◌++◌, length, map, flat_map, Result, Ok, Err, refl, sym, ap, ◌∙◌, subst, arith, append-nil, append_assoc, length-append}
 use Rattle.std.proofs.lemmas.Grind.{flat_map-append}
 use Rattle.std.proofs.lemmas.List.{map-append, length-map}
-use Rattle.cal_model.proofs.Sessions.{join, still}
-use Rattle.cal_model.specs.Batches.Batch.{Step, Fit, FollowsFrom, Progress, created_after, created_in, given_ids, made_in, meaning_after, responses_in}
-use Rattle.cal_model.specs.Batches.Meaning.{meaning_of_method}
-use Rattle.cal_model.specs.Batches.Methods.{method_used}
-use Rattle.cal_model.specs.Parts.{some_of}
-use Rattle.cal_model.specs.Batches.Session.{Made, Session, Shown, front_of}
-use Rattle.cal_model.specs.declared.desk.DeskError.{DeskError}
-use Rattle.cal_model.specs.declared.desk.DeskError.TheVariants.{NoMemory, PassSpent}
-use Rattle.cal_model.specs.declared.desk.Front.{Front}
-use Rattle.cal_model.specs.declared.request.Invocation.{Invocation}
-use Rattle.cal_model.specs.declared.request.Request.{Request}
-use Rattle.cal_model.specs.declared.response.Response.{Response}
-use Rattle.cal_model.specs.declared.user.User.{User}
+use Rattle.model_batch.proofs.Sessions.{join, still}
+use Rattle.model_batch.specs.Batch.{Step, Fit, FollowsFrom, Progress, created_after, created_in, given_ids, made_in, meaning_after, responses_in}
+use Rattle.model_batch.specs.Meaning.{meaning_of_method}
+use Rattle.model_call.specs.Methods.{method_used}
+use Rattle.model_json.specs.Parts.{some_of}
+use Rattle.model_batch.specs.Session.{Made, Session, Shown, front_of}
+use Rattle.model_batch.specs.declared.desk.DeskError.{DeskError}
+use Rattle.model_batch.specs.declared.desk.DeskError.TheVariants.{NoMemory, PassSpent}
+use Rattle.model_batch.specs.declared.desk.Front.{Front}
+use Rattle.model_batch.specs.declared.request.Invocation.{Invocation}
+use Rattle.model_batch.specs.declared.request.Request.{Request}
+use Rattle.model_batch.specs.declared.response.Response.{Response}
+use Rattle.model_core.specs.declared.user.User.{User}
 use Rattle.batch_exec.specs.Answering.{Going, Took, HasStopped, HasAnswered}
 use Rattle.batch_exec.specs.Stepping.{IsResponse, Makes, Takes}
 

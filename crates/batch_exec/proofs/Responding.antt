@@ -1,17 +1,17 @@
 -- What an invocation means, and what came of it, are a step.
 use Rattle.std.proofs.Common.{◌≡◌, ℕ, ℤ, inl, inr, List, ◌++◌, Some, None, Result, Ok, Err, refl, sym, ◌∙◌, subst, append-nil}
-use Rattle.cal_model.specs.Batches.Batch.{Step, FollowsFrom, reply_response}
-use Rattle.cal_model.specs.Batches.Calls.{created_in as created_with_call}
-use Rattle.cal_model.specs.Batches.Meaning.{Meaning, calls, meaning_of_method}
-use Rattle.cal_model.specs.Batches.Methods.{method_used}
-use Rattle.cal_model.specs.Batches.Session.{Made, Shown}
-use Rattle.cal_model.specs.declared.call.Call.{Call}
-use Rattle.cal_model.specs.declared.desk.DeskError.{DeskError}
-use Rattle.cal_model.specs.declared.desk.DeskError.TheVariants.{NoMemory, PassSpent}
-use Rattle.cal_model.specs.declared.desk.Front.{Front}
-use Rattle.cal_model.specs.declared.request.Invocation.{Invocation}
-use Rattle.cal_model.specs.declared.response.Response.{Response}
-use Rattle.cal_model.specs.declared.user.Grant.{Grant}
+use Rattle.model_batch.specs.Batch.{Step, FollowsFrom, reply_response}
+use Rattle.model_call.specs.Calls.{created_in as created_with_call}
+use Rattle.model_batch.specs.Meaning.{Meaning, calls, meaning_of_method}
+use Rattle.model_call.specs.Methods.{method_used}
+use Rattle.model_batch.specs.Session.{Made, Shown}
+use Rattle.model_call.specs.declared.call.Call.{Call}
+use Rattle.model_batch.specs.declared.desk.DeskError.{DeskError}
+use Rattle.model_batch.specs.declared.desk.DeskError.TheVariants.{NoMemory, PassSpent}
+use Rattle.model_batch.specs.declared.desk.Front.{Front}
+use Rattle.model_batch.specs.declared.request.Invocation.{Invocation}
+use Rattle.model_batch.specs.declared.response.Response.{Response}
+use Rattle.model_core.specs.declared.user.Grant.{Grant}
 use Rattle.batch_exec.specs.Stepping.{Answers, IsCallResponse, IsResponse, Takes}
 use Rattle.batch_exec.proofs.Asking.{unasked}
 

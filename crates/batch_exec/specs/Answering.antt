@@ -1,19 +1,19 @@
 -- What the invocations of a request lead to, one after the other.
 use Rattle.std.specs.Prelude.{◌≡◌, ℕ, ◌+◌, ◌≤◌, ℤ, List, [], length, Result, Ok, Err}
-use Rattle.cal_model.specs.Batches.Batch.{Step, Progress, created_after, response_object, responses_in}
-use Rattle.cal_model.specs.Lock.{most_turns}
-use Rattle.cal_model.specs.Batches.Session.{Shown}
-use Rattle.cal_model.specs.TreeData.{data_of}
-use Rattle.cal_model.specs.declared.desk.DeskError.{DeskError}
-use Rattle.cal_model.specs.declared.desk.DeskError.TheVariants.{PassSpent, NoMemory}
-use Rattle.cal_model.specs.declared.desk.Front.{Front}
-use Rattle.cal_model.specs.declared.request.BatchError.{BatchError}
-use Rattle.cal_model.specs.declared.request.BatchError.TheVariants.{Refused, PassSpent as PassSpent', NoMemory as NoMemory'}
-use Rattle.cal_model.specs.declared.request.Invocation.{Invocation}
-use Rattle.cal_model.specs.declared.request.Request.{Request}
-use Rattle.cal_model.specs.declared.response.Response.{Response}
-use Rattle.cal_model.specs.declared.tree.Tree.{Tree}
-use Rattle.cal_model.specs.declared.user.User.{User}
+use Rattle.model_batch.specs.Batch.{Step, Progress, created_after, response_object, responses_in}
+use Rattle.model_history.specs.MostTurns.{most_turns}
+use Rattle.model_batch.specs.Session.{Shown}
+use Rattle.model_json.specs.TreeData.{data_of}
+use Rattle.model_batch.specs.declared.desk.DeskError.{DeskError}
+use Rattle.model_batch.specs.declared.desk.DeskError.TheVariants.{PassSpent, NoMemory}
+use Rattle.model_batch.specs.declared.desk.Front.{Front}
+use Rattle.model_batch.specs.declared.request.BatchError.{BatchError}
+use Rattle.model_batch.specs.declared.request.BatchError.TheVariants.{Refused, PassSpent as PassSpent', NoMemory as NoMemory'}
+use Rattle.model_batch.specs.declared.request.Invocation.{Invocation}
+use Rattle.model_batch.specs.declared.request.Request.{Request}
+use Rattle.model_batch.specs.declared.response.Response.{Response}
+use Rattle.model_json.specs.declared.tree.Tree.{Tree}
+use Rattle.model_core.specs.declared.user.User.{User}
 use Rattle.batch_exec.specs.declared.batch.Answers.{Answers}
 
 module _ (user : User) (request : Request) (moment : ℤ) (fronts fronts' : List Front) (s t : Shown) where

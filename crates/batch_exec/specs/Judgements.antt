@@ -1,7 +1,7 @@
 -- What an invocation was found to mean, as a definition sees it.
 use Rattle.std.specs.Prelude.{ℕ, ◌<◌, List}
-use Rattle.cal_model.specs.Batches.Calls.{created_in}
-use Rattle.cal_model.specs.Batches.Meaning.{Meaning, refuses, echoes, calls}
+use Rattle.model_call.specs.Calls.{created_in}
+use Rattle.model_batch.specs.Meaning.{Meaning, refuses, echoes, calls}
 use Rattle.batch_exec.specs.declared.meaning.Judgement.{Judgement}
 use Rattle.batch_exec.specs.declared.meaning.Judgement.TheVariants.{Refused, Echo, Call}
 

@@ -1,20 +1,20 @@
 -- What one invocation of a request leads to.
 use Rattle.std.specs.Prelude.{◌≡◌, ℕ, ◌+◌, ◌≤◌, ◌⊎◌, ℤ, List, [], ◌∷◌, ◌++◌, map, Result, Ok, Err}
-use Rattle.cal_model.specs.Batches.Batch.{Step, FollowsFrom, created_in, reply_response}
-use Rattle.cal_model.specs.Batches.Calls.{created_in as created_with_call}
-use Rattle.cal_model.specs.Lock.{most_turns}
-use Rattle.cal_model.specs.Batches.Meaning.{meaning_of_method}
-use Rattle.cal_model.specs.Batches.Methods.{method_used}
-use Rattle.cal_model.specs.Parts.{some_of}
-use Rattle.cal_model.specs.Batches.Session.{Made, Shown, Session, front_of}
-use Rattle.cal_model.specs.declared.call.Call.{Call}
-use Rattle.cal_model.specs.declared.call.Reply.{Reply}
-use Rattle.cal_model.specs.declared.desk.DeskError.{DeskError}
-use Rattle.cal_model.specs.declared.desk.DeskError.TheVariants.{PassSpent, NoMemory}
-use Rattle.cal_model.specs.declared.desk.Front.{Front}
-use Rattle.cal_model.specs.declared.request.Invocation.{Invocation}
-use Rattle.cal_model.specs.declared.response.Response.{Response}
-use Rattle.cal_model.specs.declared.user.Grant.{Grant}
+use Rattle.model_batch.specs.Batch.{Step, FollowsFrom, created_in, reply_response}
+use Rattle.model_call.specs.Calls.{created_in as created_with_call}
+use Rattle.model_history.specs.MostTurns.{most_turns}
+use Rattle.model_batch.specs.Meaning.{meaning_of_method}
+use Rattle.model_call.specs.Methods.{method_used}
+use Rattle.model_json.specs.Parts.{some_of}
+use Rattle.model_batch.specs.Session.{Made, Shown, Session, front_of}
+use Rattle.model_call.specs.declared.call.Call.{Call}
+use Rattle.model_call.specs.declared.call.Reply.{Reply}
+use Rattle.model_batch.specs.declared.desk.DeskError.{DeskError}
+use Rattle.model_batch.specs.declared.desk.DeskError.TheVariants.{PassSpent, NoMemory}
+use Rattle.model_batch.specs.declared.desk.Front.{Front}
+use Rattle.model_batch.specs.declared.request.Invocation.{Invocation}
+use Rattle.model_batch.specs.declared.response.Response.{Response}
+use Rattle.model_core.specs.declared.user.Grant.{Grant}
 
 module _ (fronts fronts' : List Front) (s t : Shown) where
   -- these calls were answered, each with a front; at most one call was asked for

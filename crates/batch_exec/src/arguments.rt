@@ -1,12 +1,12 @@
 //! The arguments that calls give to methods.
 ghost use Rattle.std.specs.Prelude.{◌≡◌, is_some, map};
-ghost use Rattle.cal_model.specs.Batches.Arguments.{are_well_given, argument_of, has_shape, is_well_given};
-ghost use Rattle.cal_model.specs.Data.{lookup};
-ghost use Rattle.cal_model.specs.Parts.{all_some, as_object, as_text};
-ghost use Rattle.cal_model.specs.TreeData.{data_of};
+ghost use Rattle.model_call.specs.Arguments.{are_well_given, argument_of, has_shape, is_well_given};
+ghost use Rattle.model_json.specs.Data.{lookup};
+ghost use Rattle.model_json.specs.Parts.{all_some, as_object, as_text};
+ghost use Rattle.model_json.specs.TreeData.{data_of};
 
-use cal_model::method::{Argument, Method, Shape};
-use cal_model::tree::{Tree, TreeObject};
+use model_call::method::{Argument, Method, Shape};
+use model_json::tree::{Tree, TreeObject};
 
 /// Whether each argument that calls of a method have to give is there, and each that is there has its shape
 /// (RFC 8620 section 3.6.2).
@@ -38,7 +38,7 @@ fn is_well_given(argument: &Argument, arguments: &TreeObject) -> bool
     }
 }
 
-#[tactic(auto, using(cal_model::specs::Data::items_back))]
+#[tactic(auto, using(model_json::specs::Data::items_back))]
 fn has_shape(shape: Shape, value: &Tree) -> bool
     ensures { result ≡ has_shape shape (data_of value.now) }
 {

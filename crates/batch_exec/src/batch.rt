@@ -1,21 +1,21 @@
 //! The invocations of a request, one after the other, on the accounts of a desk.
 ghost use Rattle.std.specs.Prelude.{◌≡◌, ◌<◌, ◌++◌, [], All, IfOk, map, unwrap_or};
-ghost use Rattle.cal_model.specs.Batches.Batch.{error_response, error_type, reply_response};
-ghost use Rattle.cal_model.specs.Parts.{as_text};
-ghost use Rattle.cal_model.specs.Batches.Requests.{id_pair_of};
-ghost use Rattle.cal_model.specs.TreeData.{data_of, pair_of};
+ghost use Rattle.model_batch.specs.Batch.{error_response, error_type, reply_response};
+ghost use Rattle.model_json.specs.Parts.{as_text};
+ghost use Rattle.model_batch.specs.Requests.{id_pair_of};
+ghost use Rattle.model_json.specs.TreeData.{data_of, pair_of};
 ghost use Rattle.batch_exec.specs.Answering.{HasAnswered};
 ghost use Rattle.batch_exec.specs.Stepping.{IsCallResponse, IsReply, IsResponse};
 
 use crate::meaning::{Judgement, judge};
-use cal_model::call::{Call, MethodError, Reply};
-use cal_model::desk::{Desk, DeskError, Front};
-use cal_model::lists::{Pairs, Texts};
-use cal_model::request::{Invocation, Invocations};
-use cal_model::response::Response;
-use cal_model::text::Text;
-use cal_model::tree::{Member, Tree, TreeObject};
-use cal_model::user::User;
+use model_call::call::{Call, MethodError, Reply};
+use model_batch::desk::{Desk, DeskError, Front};
+use model_json::lists::{Pairs, Texts};
+use model_batch::request::{Invocation, Invocations};
+use model_batch::response::Response;
+use model_json::text::Text;
+use model_json::tree::{Member, Tree, TreeObject};
+use model_core::user::User;
 use std::alloc::{AllocError, Global};
 
 fn error_name(error: MethodError) -> &'static str

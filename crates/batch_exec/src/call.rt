@@ -1,19 +1,19 @@
 //! The calls on accounts that methods make of their arguments.
 ghost use Rattle.std.specs.Prelude.{◌≡◌, ◌≢◌, IfOk, Some, codes, option_map};
-ghost use Rattle.cal_model.specs.Batches.Calls.{argument, availability_call, call_of, changes_call, get_call, list_tree, number_argument, object_tree, query_call, query_changes_call, set_call, text_argument, truth_argument, zone_argument};
-ghost use Rattle.cal_model.specs.Edit.{ChangesOnlyAt};
-ghost use Rattle.cal_model.specs.Batches.Meaning.{grant_of};
-ghost use Rattle.cal_model.specs.Parts.{as_object, as_text, as_texts, as_truth, as_whole};
+ghost use Rattle.model_call.specs.Calls.{argument, availability_call, call_of, changes_call, get_call, list_tree, number_argument, object_tree, query_call, query_changes_call, set_call, text_argument, truth_argument, zone_argument};
+ghost use Rattle.model_json.specs.Edit.{ChangesOnlyAt};
+ghost use Rattle.model_batch.specs.Meaning.{grant_of};
+ghost use Rattle.model_json.specs.Parts.{as_object, as_text, as_texts, as_truth, as_whole};
 
 use crate::parts::{into_list, into_object, into_text, into_texts};
-use cal_model::call::Call;
-use cal_model::entry::Kind;
-use cal_model::lists::{Pairs, Texts};
-use cal_model::method::Method;
-use cal_model::num::Num;
-use cal_model::text::Text;
-use cal_model::tree::{Tree, TreeList, TreeObject};
-use cal_model::user::{Grant, Grants};
+use model_call::call::Call;
+use model_history::entry::Kind;
+use model_json::lists::{Pairs, Texts};
+use model_call::method::Method;
+use model_json::num::Num;
+use model_json::text::Text;
+use model_json::tree::{Tree, TreeList, TreeObject};
+use model_core::user::{Grant, Grants};
 use std::alloc::{AllocError, Global};
 
 /// The time zone where a call names none.

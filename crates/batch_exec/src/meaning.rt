@@ -1,20 +1,20 @@
 //! What an invocation means: an error, an answer without an account, or a call on an account.
 ghost use Rattle.std.specs.Prelude.{◌≡◌, ◌≢◌, All, ◌<◌, IfOk, ℕ};
-ghost use Rattle.cal_model.specs.Batches.Calls.{call_of};
-ghost use Rattle.cal_model.specs.Batches.Meaning.{meaning_of_arguments, meaning_of_call, meaning_of_method};
-ghost use Rattle.cal_model.specs.Batches.Methods.{is_set, method_used, uses};
-ghost use Rattle.cal_model.specs.Batches.References.{resolved};
+ghost use Rattle.model_call.specs.Calls.{call_of};
+ghost use Rattle.model_batch.specs.Meaning.{meaning_of_arguments, meaning_of_call, meaning_of_method};
+ghost use Rattle.model_call.specs.Methods.{is_set, method_used, uses};
+ghost use Rattle.model_batch.specs.References.{resolved};
 ghost use Rattle.batch_exec.specs.Judgements.{account_is_below, created_with, meaning_in};
 
 use crate::arguments::are_well_given;
 use crate::call::{call_from, grant_of};
-use cal_model::call::{Call, MethodError};
-use cal_model::lists::Pairs;
-use cal_model::method::Method;
-use cal_model::response::Response;
-use cal_model::text::Text;
-use cal_model::tree::TreeObject;
-use cal_model::user::User;
+use model_call::call::{Call, MethodError};
+use model_json::lists::Pairs;
+use model_call::method::Method;
+use model_batch::response::Response;
+use model_json::text::Text;
+use model_json::tree::TreeObject;
+use model_core::user::User;
 use result_refs::{ReferenceError, resolve};
 use std::alloc::{AllocError, Global};
 

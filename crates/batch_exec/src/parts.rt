@@ -1,11 +1,11 @@
 //! Values of a kind of JSON, moved out of trees.
 ghost use Rattle.std.specs.Prelude.{◌≡◌, IfOk, option_map};
-ghost use Rattle.cal_model.specs.Parts.{all_some, as_list, as_object, as_text, as_texts};
-ghost use Rattle.cal_model.specs.TreeData.{data_of};
+ghost use Rattle.model_json.specs.Parts.{all_some, as_list, as_object, as_text, as_texts};
+ghost use Rattle.model_json.specs.TreeData.{data_of};
 
-use cal_model::lists::Texts;
-use cal_model::text::Text;
-use cal_model::tree::{Tree, TreeList, TreeObject};
+use model_json::lists::Texts;
+use model_json::text::Text;
+use model_json::tree::{Tree, TreeList, TreeObject};
 use std::alloc::{AllocError, Global};
 
 /// The text that a tree is, where it is one. Takes no memory.
@@ -19,7 +19,7 @@ pub(crate) fn into_text(tree: Tree) -> Option<Text>
 }
 
 /// The list that a tree is, where it is one. Takes no memory.
-#[tactic(auto, using(cal_model::specs::Data::items_back))]
+#[tactic(auto, using(model_json::specs::Data::items_back))]
 pub(crate) fn into_list(tree: Tree) -> Option<TreeList>
     ensures { result ≡ as_list (data_of tree) }
 {
@@ -30,7 +30,7 @@ pub(crate) fn into_list(tree: Tree) -> Option<TreeList>
 }
 
 /// The object that a tree is, where it is one. Takes no memory.
-#[tactic(auto, using(cal_model::specs::Data::pairs_back))]
+#[tactic(auto, using(model_json::specs::Data::pairs_back))]
 pub(crate) fn into_object(tree: Tree) -> Option<TreeObject>
     ensures { result ≡ as_object (data_of tree) }
 {
@@ -41,7 +41,7 @@ pub(crate) fn into_object(tree: Tree) -> Option<TreeObject>
 }
 
 /// All texts of a list, where each of its items is one. Takes memory for the list, and copies no text.
-#[tactic(auto, using(cal_model::proofs::Appending::push_option))]
+#[tactic(auto, using(model_json::proofs::Appending::push_option))]
 pub(crate) fn into_texts(alloc: Global, list: TreeList) -> Result<Option<Texts>, AllocError>
     ensures { IfOk result (λ o. o ≡ all_some as_text list) }
 {

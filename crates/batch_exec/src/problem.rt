@@ -1,13 +1,13 @@
 //! Problems that tell why a whole request was refused.
 ghost use Rattle.std.specs.Prelude.{◌≡◌, IfOk};
-ghost use Rattle.cal_model.specs.Data.{text};
-ghost use Rattle.cal_model.specs.Batches.Problem.{limit_name, problem, problem_detail, problem_type};
-ghost use Rattle.cal_model.specs.TreeData.{data_of};
+ghost use Rattle.model_json.specs.Data.{text};
+ghost use Rattle.model_batch.specs.Problem.{limit_name, problem, problem_detail, problem_type};
+ghost use Rattle.model_json.specs.TreeData.{data_of};
 
-use cal_model::num::Num;
-use cal_model::request::{Limit, RequestError};
-use cal_model::text::Text;
-use cal_model::tree::Tree;
+use model_json::num::Num;
+use model_batch::request::{Limit, RequestError};
+use model_json::text::Text;
+use model_json::tree::Tree;
 use std::alloc::{AllocError, Global};
 
 /// The problem of a refused request (RFC 8620 section 3.6.1).

@@ -1,13 +1,13 @@
 //! The response to a request, as JSON.
 ghost use Rattle.std.specs.Prelude.{◌≡◌, [], IfOk, map};
-ghost use Rattle.cal_model.specs.Batches.Batch.{created_object, id_member, response_data, response_with_ids};
-ghost use Rattle.cal_model.specs.Edit.{put_all};
-ghost use Rattle.cal_model.specs.TreeData.{data_of};
-ghost use Rattle.cal_model.specs.declared.tree.Tree.TheVariants.{Object};
+ghost use Rattle.model_batch.specs.Batch.{created_object, id_member, response_data, response_with_ids};
+ghost use Rattle.model_json.specs.Edit.{put_all};
+ghost use Rattle.model_json.specs.TreeData.{data_of};
+ghost use Rattle.model_json.specs.declared.tree.Tree.TheVariants.{Object};
 
-use cal_model::response::Response;
-use cal_model::text::Text;
-use cal_model::tree::{Tree, TreeList, TreeObject};
+use model_batch::response::Response;
+use model_json::text::Text;
+use model_json::tree::{Tree, TreeList, TreeObject};
 use std::alloc::{AllocError, Global};
 
 /// One response: a name, arguments and the call's id (RFC 8620 section 3.4).

@@ -1,16 +1,16 @@
 //! A request, from its JSON to its response.
 ghost use Rattle.std.specs.Prelude.{◌≡◌, ◌<◌, ◌≤◌, [], All, IfOk, drop, length, unwrap_or};
 ghost use Rattle.batch_exec.specs.Answering.{IsRequestAnswered};
-ghost use Rattle.cal_model.specs.Batches.Batch.{IsBatch, response_with_ids};
-ghost use Rattle.cal_model.specs.TreeData.{data_of};
+ghost use Rattle.model_batch.specs.Batch.{IsBatch, response_with_ids};
+ghost use Rattle.model_json.specs.TreeData.{data_of};
 
 use crate::batch::{Answers, answer_all};
 use crate::request::request_from;
 use crate::response::response_tree;
-use cal_model::desk::{Desk, DeskError, Front};
-use cal_model::request::{BatchError, Request};
-use cal_model::tree::{Tree, TreeObject};
-use cal_model::user::User;
+use model_batch::desk::{Desk, DeskError, Front};
+use model_batch::request::{BatchError, Request};
+use model_json::tree::{Tree, TreeObject};
+use model_core::user::User;
 use std::alloc::{AllocError, Global};
 
 /// Answers a request, given as JSON, for a user, on the accounts of a desk, at a moment in seconds of UTC from 1970

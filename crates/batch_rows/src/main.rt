@@ -3,7 +3,7 @@
 
 ghost use Rattle.std.specs.Prelude.{◌≡◌, true, false};
 
-use cal_model::status::Status;
+use jmapd_run::status::Status;
 use io_edge::memory_clock::StillClock;
 use io_edge::memory_opener::SureOpener;
 use io_edge::memory_sink::MemSink;

@@ -2,12 +2,12 @@
 use Rattle.std.specs.Prelude.{ℕ, suc, List, [], ◌∷◌}
 use Rattle.std.proofs.Common.{refl}
 use Rattle.cal_model.specs.Answer.{Form, get_calendars, create_plain, not_built, form_of, added, added_by_form, entries_from}
-use Rattle.cal_model.specs.Base.{Base}
-use Rattle.cal_model.specs.Signed.{AreSigned}
-use Rattle.cal_model.specs.declared.call.Call.{Call}
-use Rattle.cal_model.specs.declared.entry.Change.{Change}
-use Rattle.cal_model.specs.declared.entry.Entry.{Entry}
-use Rattle.cal_model.specs.declared.stamp.Stamp.{Stamp}
+use Rattle.model_history.specs.Base.{Base}
+use Rattle.model_history.specs.Signed.{AreSigned}
+use Rattle.model_call.specs.declared.call.Call.{Call}
+use Rattle.model_history.specs.declared.entry.Change.{Change}
+use Rattle.model_history.specs.declared.entry.Entry.{Entry}
+use Rattle.model_history.specs.declared.stamp.Stamp.{Stamp}
 
 signed_from : (s : Stamp) (cs : List Change) (n : ℕ) → AreSigned s.author s.turn (entries_from s n cs)
 signed_from s [] n = tt

@@ -1,23 +1,23 @@
 -- What a call is answered at a history, and what it adds.
 use Rattle.std.specs.Prelude.{ℕ, suc, List, [], ◌∷◌, ◌&&◌, Bool, Option, Some, None, length, flat_map, map, if◌then◌else◌, nat_lt}
 use Rattle.std.specs.List.{list_all}
-use Rattle.cal_model.specs.Base.{Base}
+use Rattle.model_history.specs.Base.{Base}
 use Rattle.cal_model.specs.Calendar.{is_plain_create}
-use Rattle.cal_model.specs.Data.{Pair}
+use Rattle.model_json.specs.Data.{Pair}
 use Rattle.cal_model.specs.Gets.{get_arguments, get_error, ids_not_found, objects_asked, selected}
-use Rattle.cal_model.specs.History.{changes_of}
+use Rattle.model_history.specs.History.{changes_of}
 use Rattle.cal_model.specs.Sets.{Outcome, changes_in, created_id, of_each, outcomes, set_arguments}
-use Rattle.cal_model.specs.declared.call.Call.{Call}
-use Rattle.cal_model.specs.declared.call.Call.TheVariants.{Get, Set}
-use Rattle.cal_model.specs.declared.call.MethodError.{MethodError}
-use Rattle.cal_model.specs.declared.call.MethodError.TheVariants.{NotBuilt}
-use Rattle.cal_model.specs.declared.call.Reply.{Reply}
-use Rattle.cal_model.specs.declared.entry.Change.{Change}
-use Rattle.cal_model.specs.declared.entry.Entry.{Entry}
-use Rattle.cal_model.specs.declared.entry.Kind.TheVariants.{Calendar}
-use Rattle.cal_model.specs.declared.stamp.Stamp.{Stamp}
-use Rattle.cal_model.specs.declared.tree.Tree.{Tree}
-use Rattle.cal_model.specs.declared.tree.Tree.TheVariants.{Null}
+use Rattle.model_call.specs.declared.call.Call.{Call}
+use Rattle.model_call.specs.declared.call.Call.TheVariants.{Get, Set}
+use Rattle.model_call.specs.declared.call.MethodError.{MethodError}
+use Rattle.model_call.specs.declared.call.MethodError.TheVariants.{NotBuilt}
+use Rattle.model_call.specs.declared.call.Reply.{Reply}
+use Rattle.model_history.specs.declared.entry.Change.{Change}
+use Rattle.model_history.specs.declared.entry.Entry.{Entry}
+use Rattle.model_history.specs.declared.entry.Kind.TheVariants.{Calendar}
+use Rattle.model_history.specs.declared.stamp.Stamp.{Stamp}
+use Rattle.model_json.specs.declared.tree.Tree.{Tree}
+use Rattle.model_json.specs.declared.tree.Tree.TheVariants.{Null}
 
 -- the forms of call that are built: a get of calendars; a set that creates calendars, with a name and nothing else
 pub data Form : Type 0 where

@@ -1,12 +1,13 @@
 -- Calendars (draft JMAP for Calendars), and the creates that give a calendar's name and nothing else.
 use Rattle.std.specs.Prelude.{ℕ, pos, List, [], ◌∷◌, ◌&&◌, Bool, true, false, Some, is_some, length, codes, nat_lt, unwrap_or}
 use Rattle.std.specs.Str.{bytes_eq}
-use Rattle.cal_model.specs.Data.{Data, Pair, field, lookup, null, truth, whole, text}
-use Rattle.cal_model.specs.Id.{id_text, is_id}
-use Rattle.cal_model.specs.Parts.{members_in}
-use Rattle.cal_model.specs.declared.entry.Change.{Change}
-use Rattle.cal_model.specs.declared.entry.Kind.TheVariants.{Calendar}
-use Rattle.cal_model.specs.declared.tree.Tree.TheVariants.{Object}
+use Rattle.model_json.specs.Data.{Data, Pair, field, lookup, null, truth, whole, text}
+use Rattle.model_core.specs.Id.{is_id}
+use Rattle.model_history.specs.ObjectId.{id_text}
+use Rattle.model_json.specs.Parts.{members_in}
+use Rattle.model_history.specs.declared.entry.Change.{Change}
+use Rattle.model_history.specs.declared.entry.Kind.TheVariants.{Calendar}
+use Rattle.model_json.specs.declared.tree.Tree.TheVariants.{Object}
 
 -- calendar n, with this name and the defaults of all other properties
 abbrev pub calendar : ℕ → Data → List Pair

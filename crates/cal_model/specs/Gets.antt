@@ -3,18 +3,18 @@ use Rattle.std.specs.Prelude.{ℕ, List, [], ◌∷◌, ◌++◌, ◌||◌, Bool
 use Rattle.std.specs.List.{list_all, list_any}
 use Rattle.std.specs.Str.{bytes_eq}
 use Rattle.cal_model.specs.Calendar.{is_calendar_property}
-use Rattle.cal_model.specs.Data.{Data, text, list, object, Pair, items_of, members_of}
-use Rattle.cal_model.specs.History.{object_at, live_at}
-use Rattle.cal_model.specs.Id.{object_number, state_text}
-use Rattle.cal_model.specs.Parts.{behind_hash, members_in, some_of}
-use Rattle.cal_model.specs.TreeData.{data_of}
-use Rattle.cal_model.specs.declared.call.MethodError.{MethodError}
-use Rattle.cal_model.specs.declared.call.MethodError.TheVariants.{InvalidArguments, RequestTooLarge}
-use Rattle.cal_model.specs.declared.entry.Change.{Change}
-use Rattle.cal_model.specs.declared.entry.Kind.{Kind}
-use Rattle.cal_model.specs.declared.entry.Kind.TheVariants.{Calendar}
-use Rattle.cal_model.specs.declared.tree.Tree.{Tree}
-use Rattle.cal_model.specs.declared.tree.Tree.TheVariants.{Object}
+use Rattle.model_json.specs.Data.{Data, text, list, object, Pair, items_of, members_of}
+use Rattle.model_history.specs.History.{object_at, live_at}
+use Rattle.model_history.specs.ObjectId.{object_number, state_text}
+use Rattle.model_json.specs.Parts.{behind_hash, members_in, some_of}
+use Rattle.model_json.specs.TreeData.{data_of}
+use Rattle.model_call.specs.declared.call.MethodError.{MethodError}
+use Rattle.model_call.specs.declared.call.MethodError.TheVariants.{InvalidArguments, RequestTooLarge}
+use Rattle.model_history.specs.declared.entry.Change.{Change}
+use Rattle.model_history.specs.declared.entry.Kind.{Kind}
+use Rattle.model_history.specs.declared.entry.Kind.TheVariants.{Calendar}
+use Rattle.model_json.specs.declared.tree.Tree.{Tree}
+use Rattle.model_json.specs.declared.tree.Tree.TheVariants.{Object}
 
 -- the id of the object that was last created under a key
 abbrev pub created_id_at : List (List ℕ × List ℕ) → List ℕ → Option (List ℕ)

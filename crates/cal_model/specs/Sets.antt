@@ -2,19 +2,19 @@
 use Rattle.std.specs.Prelude.{ℕ, ◌+◌, List, [], ◌∷◌, ◌++◌, ◌||◌, Bool, false, not, Option, Some, None, option_map, unwrap_or, length, filter, flat_map, sum_by, codes, nat_lt, if◌then◌else◌}
 use Rattle.std.specs.List.{zip}
 use Rattle.cal_model.specs.Calendar.{new_calendar}
-use Rattle.cal_model.specs.Data.{Data, null, text, object, Pair, lookup, members_of}
-use Rattle.cal_model.specs.History.{next_number}
-use Rattle.cal_model.specs.Id.{id_text, state_text}
-use Rattle.cal_model.specs.Json.{text_of}
-use Rattle.cal_model.specs.Parts.{members_in}
-use Rattle.cal_model.specs.SameData.{same_data}
-use Rattle.cal_model.specs.TreeData.{data_of}
-use Rattle.cal_model.specs.declared.call.SetError.{SetError}
-use Rattle.cal_model.specs.declared.call.SetError.TheVariants.{OverQuota}
-use Rattle.cal_model.specs.declared.entry.Change.{Change}
-use Rattle.cal_model.specs.declared.entry.Kind.TheVariants.{Calendar}
-use Rattle.cal_model.specs.declared.tree.Tree.{Tree}
-use Rattle.cal_model.specs.declared.tree.Tree.TheVariants.{Object}
+use Rattle.model_json.specs.Data.{Data, null, text, object, Pair, lookup, members_of}
+use Rattle.model_history.specs.History.{next_number}
+use Rattle.model_history.specs.ObjectId.{id_text, state_text}
+use Rattle.model_json.specs.Json.{text_of}
+use Rattle.model_json.specs.Parts.{members_in}
+use Rattle.model_json.specs.SameData.{same_data}
+use Rattle.model_json.specs.TreeData.{data_of}
+use Rattle.cal_model.specs.declared.set_error.SetError.{SetError}
+use Rattle.cal_model.specs.declared.set_error.SetError.TheVariants.{OverQuota}
+use Rattle.model_history.specs.declared.entry.Change.{Change}
+use Rattle.model_history.specs.declared.entry.Kind.TheVariants.{Calendar}
+use Rattle.model_json.specs.declared.tree.Tree.{Tree}
+use Rattle.model_json.specs.declared.tree.Tree.TheVariants.{Object}
 
 -- what comes of one create, update or destroy
 pub data Outcome : Type 0 where

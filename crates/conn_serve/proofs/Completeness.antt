@@ -4,17 +4,17 @@ use Rattle.std.proofs.KnownBytes.{Consumes-whole}
 use Rattle.std.proofs.lemmas.List.{length-map}
 use Rattle.std.specs.Io.KnownBytes.{Consumes, IsAtEnd}
 use Rattle.std.specs.Prelude.{IfSome}
-use Rattle.cal_model.specs.Batches.Session.{Shown}
-use Rattle.cal_model.specs.Http.Messages.{Message}
-use Rattle.cal_model.specs.Http.Pipeline.{Ending, EndsAs, Reads, undecided, bad_head, close_asked, quota_spent}
-use Rattle.cal_model.specs.Http.Serving.{Serves, Whole}
-use Rattle.cal_model.specs.Http.Turns.{Told, Turn, all_bytes, messages_of}
-use Rattle.cal_model.specs.Lock.{most_turns}
-use Rattle.cal_model.specs.Outside.{Grows, Rose}
-use Rattle.cal_model.specs.Sites.Configuration.{Site}
-use Rattle.cal_model.specs.declared.desk.Front.{Front}
-use Rattle.cal_model.specs.declared.served.ConnEnd.{ConnEnd}
-use Rattle.cal_model.specs.declared.served.ConnEnd.TheVariants as end
+use Rattle.model_batch.specs.Session.{Shown}
+use Rattle.model_http.specs.Messages.{Message}
+use Rattle.model_http.specs.Pipeline.{Ending, EndsAs, Reads, undecided, bad_head, close_asked, quota_spent}
+use Rattle.model_connection.specs.Serving.{Serves, Whole}
+use Rattle.model_connection.specs.Turns.{Told, Turn, all_bytes, messages_of}
+use Rattle.model_history.specs.MostTurns.{most_turns}
+use Rattle.io_edge.specs.Outside.{Grows, Rose}
+use Rattle.model_site.specs.Configuration.{Site}
+use Rattle.model_batch.specs.declared.desk.Front.{Front}
+use Rattle.model_connection.specs.declared.served.ConnEnd.{ConnEnd}
+use Rattle.model_connection.specs.declared.served.ConnEnd.TheVariants as end
 use Rattle.conn_serve.specs.Complete.{AllAnswered, FaultlessConnectionsAreDetermined, IsFaultless, FaultlessConnectionsAreAnswered, Holds, ReadFaultsComeLast}
 use Rattle.http_edge.proofs.Pipelines.{determined, reads_more}
 use Rattle.http_edge.proofs.Stays.{refused_more}

@@ -2,22 +2,22 @@
 use Rattle.std.proofs.Common.{◌≡◌, ℕ, ℤ, zero, suc, ◌+◌, ◌≤◌, List, [], ◌∷◌, ◌++◌, Bool, Option, Some, None, Result, Ok, Err, inl, inr, Vec, map, refl, sym, ap, ◌∙◌, subst, arith, append-nil}
 use Rattle.std.specs.Prelude.{◌⊎◌}
 use Rattle.std.specs.declared.alloc.Global.{Global}
-use Rattle.cal_model.proofs.Sessions.{still}
-use Rattle.cal_model.specs.Batches.Asked.{Asked, asked, is_refused, refused}
-use Rattle.cal_model.specs.Batches.Reply.{BeginsReply, Replies, asked_in, clamped}
-use Rattle.cal_model.specs.Batches.Session.{Made, Session, Shown, front_of}
-use Rattle.cal_model.specs.Data.{Data}
-use Rattle.cal_model.specs.Http.Messages.{Message}
-use Rattle.cal_model.specs.Http.Responses.{Response, response_text}
-use Rattle.cal_model.specs.Http.Routes.{Route, api, direct, route}
-use Rattle.cal_model.specs.Http.Turns.{Begun, Told, Ticked, Turn, api_response, at_once, by_calls, called, moment_behind, uncalled}
-use Rattle.cal_model.specs.Outside.{Ticks}
-use Rattle.cal_model.specs.Sites.Configuration.{Site, user_at}
-use Rattle.cal_model.specs.TreeData.{data_of}
-use Rattle.cal_model.specs.declared.desk.DeskError.{DeskError}
-use Rattle.cal_model.specs.declared.desk.DeskError.TheVariants.{PassSpent, NoMemory}
-use Rattle.cal_model.specs.declared.desk.Front.{Front}
-use Rattle.cal_model.specs.declared.user.User.{User}
+use Rattle.model_batch.proofs.Sessions.{still}
+use Rattle.model_batch.specs.Asked.{Asked, asked, is_refused, refused}
+use Rattle.model_batch.specs.Reply.{BeginsReply, Replies, asked_in, clamped}
+use Rattle.model_batch.specs.Session.{Made, Session, Shown, front_of}
+use Rattle.model_json.specs.Data.{Data}
+use Rattle.model_http.specs.Messages.{Message}
+use Rattle.model_http.specs.Responses.{Response, response_text}
+use Rattle.model_connection.specs.Routes.{Route, api, direct, route}
+use Rattle.model_connection.specs.Turns.{Begun, Told, Ticked, Turn, api_response, at_once, by_calls, called, moment_behind, uncalled}
+use Rattle.io_edge.specs.Outside.{Ticks}
+use Rattle.model_site.specs.Configuration.{Site, user_at}
+use Rattle.model_json.specs.TreeData.{data_of}
+use Rattle.model_batch.specs.declared.desk.DeskError.{DeskError}
+use Rattle.model_batch.specs.declared.desk.DeskError.TheVariants.{PassSpent, NoMemory}
+use Rattle.model_batch.specs.declared.desk.Front.{Front}
+use Rattle.model_core.specs.declared.user.User.{User}
 use Rattle.conn_serve.proofs.Turning.{told_none}
 use Rattle.conn_serve.specs.Answering.{AnswerHow, Answers, IsReply, ReplyHow, reply_response}
 use Rattle.conn_serve.specs.declared.reply.Reply.{Reply}

@@ -2,29 +2,29 @@
 use Rattle.std.proofs.Common.{◌≡◌, ℕ, ℤ, ◌+◌, ◌≤◌, List, [], Bool, true, false, Option, Some, None, Result, Ok, Err, inl, inr, length, refl, sym, ap, ◌∙◌, subst, arith, append-nil, true≢false}
 use Rattle.std.proofs.lemmas.Bool.Decides.{nat_tests}
 use Rattle.std.specs.Prelude.{◌<◌, if◌then◌else◌, not, nat_lt}
-use Rattle.cal_model.proofs.Sessions.{still}
-use Rattle.cal_model.specs.Batches.Asked.{Asked, asked, asked_by, checked, is_refused, max_calls_in_request, refused}
-use Rattle.cal_model.specs.Batches.Methods.{is_capability}
+use Rattle.model_batch.proofs.Sessions.{still}
+use Rattle.model_batch.specs.Asked.{Asked, asked, asked_by, checked, is_refused, max_calls_in_request, refused}
+use Rattle.model_core.specs.Capabilities.{is_capability}
 use Rattle.std.specs.List.{list_all}
-use Rattle.cal_model.specs.Batches.Batch.{IsBatch, IsBegun, IsStopped, IsUntouched, Step, made_in}
-use Rattle.cal_model.specs.Batches.Reply.{BeginsReply, Replies, asked_by_reading, asked_in, max_size_request}
-use Rattle.cal_model.specs.Batches.Requests.{request_of}
-use Rattle.cal_model.specs.Json.{reading}
-use Rattle.cal_model.specs.declared.request.Limit.TheVariants.{CallsInRequest, SizeRequest}
-use Rattle.cal_model.specs.declared.request.RequestError.TheVariants.{Limit, UnknownCapability}
-use Rattle.cal_model.specs.Batches.Session.{Shown}
-use Rattle.cal_model.specs.Data.{Data}
-use Rattle.cal_model.specs.TreeData.{data_of}
-use Rattle.cal_model.specs.declared.desk.DeskError.{DeskError}
-use Rattle.cal_model.specs.declared.desk.DeskError.TheVariants.{PassSpent, NoMemory}
-use Rattle.cal_model.specs.declared.desk.Front.{Front}
-use Rattle.cal_model.specs.declared.request.BatchError.{BatchError}
-use Rattle.cal_model.specs.declared.request.BatchError.TheVariants as batch
-use Rattle.cal_model.specs.declared.request.Invocation.{Invocation}
-use Rattle.cal_model.specs.declared.request.Request.{Request}
-use Rattle.cal_model.specs.declared.request.RequestError.{RequestError}
-use Rattle.cal_model.specs.declared.tree.Tree.{Tree}
-use Rattle.cal_model.specs.declared.user.User.{User}
+use Rattle.model_batch.specs.Batch.{IsBatch, IsBegun, IsStopped, IsUntouched, Step, made_in}
+use Rattle.model_batch.specs.Reply.{BeginsReply, Replies, asked_by_reading, asked_in, max_size_request}
+use Rattle.model_batch.specs.Requests.{request_of}
+use Rattle.model_json.specs.Json.{reading}
+use Rattle.model_batch.specs.declared.request.Limit.TheVariants.{CallsInRequest, SizeRequest}
+use Rattle.model_batch.specs.declared.request.RequestError.TheVariants.{Limit, UnknownCapability}
+use Rattle.model_batch.specs.Session.{Shown}
+use Rattle.model_json.specs.Data.{Data}
+use Rattle.model_json.specs.TreeData.{data_of}
+use Rattle.model_batch.specs.declared.desk.DeskError.{DeskError}
+use Rattle.model_batch.specs.declared.desk.DeskError.TheVariants.{PassSpent, NoMemory}
+use Rattle.model_batch.specs.declared.desk.Front.{Front}
+use Rattle.model_batch.specs.declared.request.BatchError.{BatchError}
+use Rattle.model_batch.specs.declared.request.BatchError.TheVariants as batch
+use Rattle.model_batch.specs.declared.request.Invocation.{Invocation}
+use Rattle.model_batch.specs.declared.request.Request.{Request}
+use Rattle.model_batch.specs.declared.request.RequestError.{RequestError}
+use Rattle.model_json.specs.declared.tree.Tree.{Tree}
+use Rattle.model_core.specs.declared.user.User.{User}
 use Rattle.conn_serve.specs.Answering.{IsRefusal, IsReply}
 use Rattle.conn_serve.specs.declared.reply.Reply.{Reply}
 

@@ -5,19 +5,19 @@ use Rattle.std.proofs.lemmas.Grind.{flat_map-append}
 use Rattle.std.proofs.lemmas.List.{map-append}
 use Rattle.std.specs.Io.KnownBytes.{Consumes}
 use Rattle.std.specs.declared.alloc.Global.{Global}
-use Rattle.cal_model.proofs.OutsideLemmas.{Grows-nil, Grows-trans}
-use Rattle.cal_model.specs.Batches.Session.{Shown}
-use Rattle.cal_model.specs.Http.Messages.{Message, whole, BeginsWith, IsUndecided}
-use Rattle.cal_model.specs.Http.Pipeline.{AllOpen, Reads, bad_head, undecided}
-use Rattle.cal_model.specs.Http.Serving.{EndHow, Left, Serves, Whole, refusal_cut, refusal_text, response_cut}
-use Rattle.cal_model.specs.Http.Turns.{AllFit, Begun, Fits, Told, Turn, all_bytes, closes, messages_of}
-use Rattle.cal_model.specs.Outside.{Grows, GrowsByFront, Rose}
-use Rattle.cal_model.specs.Sites.Configuration.{Site}
-use Rattle.cal_model.specs.declared.desk.DeskError.{DeskError}
-use Rattle.cal_model.specs.declared.desk.DeskError.TheVariants as desk
-use Rattle.cal_model.specs.declared.desk.Front.{Front}
-use Rattle.cal_model.specs.declared.served.ConnEnd.{ConnEnd}
-use Rattle.cal_model.specs.declared.served.ConnEnd.TheVariants as end
+use Rattle.io_edge.proofs.OutsideLemmas.{Grows-nil, Grows-trans}
+use Rattle.model_batch.specs.Session.{Shown}
+use Rattle.model_http.specs.Messages.{Message, whole, BeginsWith, IsUndecided}
+use Rattle.model_http.specs.Pipeline.{AllOpen, Reads, bad_head, undecided}
+use Rattle.model_connection.specs.Serving.{EndHow, Left, Serves, Whole, refusal_cut, refusal_text, response_cut}
+use Rattle.model_connection.specs.Turns.{AllFit, Begun, Fits, Told, Turn, all_bytes, closes, messages_of}
+use Rattle.io_edge.specs.Outside.{Grows, GrowsByFront, Rose}
+use Rattle.model_site.specs.Configuration.{Site}
+use Rattle.model_batch.specs.declared.desk.DeskError.{DeskError}
+use Rattle.model_batch.specs.declared.desk.DeskError.TheVariants as desk
+use Rattle.model_batch.specs.declared.desk.Front.{Front}
+use Rattle.model_connection.specs.declared.served.ConnEnd.{ConnEnd}
+use Rattle.model_connection.specs.declared.served.ConnEnd.TheVariants as end
 use Rattle.conn_serve.proofs.Turning.{fit_more, told_join, told_none}
 use Rattle.conn_serve.specs.Answering.{AnswerHow, Answers}
 use Rattle.conn_serve.specs.Ending.{IsRefusalEnd, RefusalHow, end_for}

@@ -2,11 +2,11 @@
 use Rattle.std.proofs.Common.{◌≡◌, ℕ, ℤ, zero, suc, ◌+◌, List, [], ◌∷◌, ◌++◌, length, length-append, map, sym, refl, ap, ◌∙◌, subst, arith, append-nil, append_assoc, Option, Some, None}
 use Rattle.std.proofs.lemmas.List.{map-append}
 use Rattle.std.proofs.lemmas.Grind.{flat_map-append}
-use Rattle.cal_model.proofs.Sessions.{join, still}
-use Rattle.cal_model.specs.Batches.Session.{Session, Shown, front_of}
-use Rattle.cal_model.specs.Http.Turns.{AllFit, Fits, Ticked, Told, Turn, all_made, all_moments, closes, moment_behind}
-use Rattle.cal_model.specs.Sites.Configuration.{Site}
-use Rattle.cal_model.specs.declared.desk.Front.{Front}
+use Rattle.model_batch.proofs.Sessions.{join, still}
+use Rattle.model_batch.specs.Session.{Session, Shown, front_of}
+use Rattle.model_connection.specs.Turns.{AllFit, Fits, Ticked, Told, Turn, all_made, all_moments, closes, moment_behind}
+use Rattle.model_site.specs.Configuration.{Site}
+use Rattle.model_batch.specs.declared.desk.Front.{Front}
 
 behind_append : (ts us : List ℤ) (b c : ℕ → ℤ) → ((n : ℕ) → b n ≡ moment_behind us c n) → (n : ℕ) → moment_behind ts b n ≡ moment_behind (ts ++ us) c n
 behind_append [] us b c h n = h n

@@ -1,23 +1,23 @@
 -- How one body and one message are answered.
 use Rattle.std.specs.Prelude.{◌≡◌, ℕ, ◌+◌, ◌<◌, ◌≤◌, length, if◌then◌else◌, ◌⊎◌, ℤ, List, [], ◌∷◌, ◌++◌, Bool, true, Option, Result, Ok, Err, Vec, map}
 use Rattle.std.specs.declared.alloc.Global.{Global}
-use Rattle.cal_model.specs.Batches.Asked.{Asked, is_refused}
-use Rattle.cal_model.specs.Batches.Reply.{BeginsReply, Replies}
-use Rattle.cal_model.specs.Batches.Problem.{problem}
-use Rattle.cal_model.specs.Batches.Session.{Made, Session, Shown, front_of}
-use Rattle.cal_model.specs.Http.Messages.{Message}
-use Rattle.cal_model.specs.Http.Responses.{IsStatus, Response}
-use Rattle.cal_model.specs.Http.Routes as http
-use Rattle.cal_model.specs.Http.Turns.{Begun, Fits, Told, Turn}
-use Rattle.cal_model.specs.Json.{text_of}
-use Rattle.cal_model.specs.Lock.{most_turns}
-use Rattle.cal_model.specs.Sites.Configuration.{Site}
-use Rattle.cal_model.specs.TreeData.{data_of}
-use Rattle.cal_model.specs.declared.desk.DeskError.{DeskError}
-use Rattle.cal_model.specs.declared.desk.DeskError.TheVariants.{PassSpent, NoMemory}
-use Rattle.cal_model.specs.declared.desk.Front.{Front}
-use Rattle.cal_model.specs.declared.request.RequestError.{RequestError}
-use Rattle.cal_model.specs.declared.user.User.{User}
+use Rattle.model_batch.specs.Asked.{Asked, is_refused}
+use Rattle.model_batch.specs.Reply.{BeginsReply, Replies}
+use Rattle.model_batch.specs.Problem.{problem}
+use Rattle.model_batch.specs.Session.{Made, Session, Shown, front_of}
+use Rattle.model_http.specs.Messages.{Message}
+use Rattle.model_http.specs.Responses.{IsStatus, Response}
+use Rattle.model_connection.specs.Routes as http
+use Rattle.model_connection.specs.Turns.{Begun, Fits, Told, Turn}
+use Rattle.model_json.specs.Json.{text_of}
+use Rattle.model_history.specs.MostTurns.{most_turns}
+use Rattle.model_site.specs.Configuration.{Site}
+use Rattle.model_json.specs.TreeData.{data_of}
+use Rattle.model_batch.specs.declared.desk.DeskError.{DeskError}
+use Rattle.model_batch.specs.declared.desk.DeskError.TheVariants.{PassSpent, NoMemory}
+use Rattle.model_batch.specs.declared.desk.Front.{Front}
+use Rattle.model_batch.specs.declared.request.RequestError.{RequestError}
+use Rattle.model_core.specs.declared.user.User.{User}
 use Rattle.conn_serve.specs.declared.reply.Reply.{Reply}
 use Rattle.conn_serve.specs.declared.route.Route.{Route}
 use Rattle.conn_serve.specs.declared.route.Route.TheVariants.{Direct, Api}

@@ -1,17 +1,17 @@
 -- What a connection comes to where neither its source nor its sink fails and its desk may make more calls.
 use Rattle.std.specs.Prelude.{◌≡◌, ◌≢◌, ℕ, ℤ, ◌<◌, List, [], ◌++◌, Option, Some, IfSome, length, ⊤}
 use Rattle.std.specs.Io.KnownBytes.{Consumes, IsAtEnd}
-use Rattle.cal_model.specs.Batches.Session.{Shown}
-use Rattle.cal_model.specs.Http.Messages.{Message}
-use Rattle.cal_model.specs.Http.Pipeline.{Ending, EndsAs, Reads, undecided, bad_head, close_asked, quota_spent}
-use Rattle.cal_model.specs.Http.Serving.{Serves, refusal_text}
-use Rattle.cal_model.specs.Http.Turns.{AllFit, Told, Turn, all_bytes, messages_of}
-use Rattle.cal_model.specs.Lock.{most_turns}
-use Rattle.cal_model.specs.Outside.{Grows, Rose}
-use Rattle.cal_model.specs.Sites.Configuration.{Site}
-use Rattle.cal_model.specs.declared.desk.Front.{Front}
-use Rattle.cal_model.specs.declared.served.ConnEnd.{ConnEnd}
-use Rattle.cal_model.specs.declared.served.ConnEnd.TheVariants as end
+use Rattle.model_batch.specs.Session.{Shown}
+use Rattle.model_http.specs.Messages.{Message}
+use Rattle.model_http.specs.Pipeline.{Ending, EndsAs, Reads, undecided, bad_head, close_asked, quota_spent}
+use Rattle.model_connection.specs.Serving.{Serves, refusal_text}
+use Rattle.model_connection.specs.Turns.{AllFit, Told, Turn, all_bytes, messages_of}
+use Rattle.model_history.specs.MostTurns.{most_turns}
+use Rattle.io_edge.specs.Outside.{Grows, Rose}
+use Rattle.model_site.specs.Configuration.{Site}
+use Rattle.model_batch.specs.declared.desk.Front.{Front}
+use Rattle.model_connection.specs.declared.served.ConnEnd.{ConnEnd}
+use Rattle.model_connection.specs.declared.served.ConnEnd.TheVariants as end
 
 -- the bytes of a connection of at most `most` messages hold just these, with this left behind them, and end so
 abbrev pub Holds : ℕ → List ℕ → List Message → List ℕ → Ending → Type 0

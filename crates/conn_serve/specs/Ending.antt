@@ -1,11 +1,11 @@
 -- How a connection ends that wasn't served to the end of its bytes.
 use Rattle.std.specs.Prelude.{◌≡◌, ◌≤◌, ℕ, List, Option}
-use Rattle.cal_model.specs.Http.Serving.{refusal_text}
-use Rattle.cal_model.specs.Outside.{Grows, GrowsByFront, Rose}
-use Rattle.cal_model.specs.declared.desk.DeskError.{DeskError}
-use Rattle.cal_model.specs.declared.desk.DeskError.TheVariants as desk
-use Rattle.cal_model.specs.declared.served.ConnEnd.{ConnEnd}
-use Rattle.cal_model.specs.declared.served.ConnEnd.TheVariants.{BadHead, NoMemory, PassSpent, WriteFault}
+use Rattle.model_connection.specs.Serving.{refusal_text}
+use Rattle.io_edge.specs.Outside.{Grows, GrowsByFront, Rose}
+use Rattle.model_batch.specs.declared.desk.DeskError.{DeskError}
+use Rattle.model_batch.specs.declared.desk.DeskError.TheVariants as desk
+use Rattle.model_connection.specs.declared.served.ConnEnd.{ConnEnd}
+use Rattle.model_connection.specs.declared.served.ConnEnd.TheVariants.{BadHead, NoMemory, PassSpent, WriteFault}
 
 abbrev pub end_for : DeskError → ConnEnd
 end_for desk.PassSpent = PassSpent

@@ -1,14 +1,14 @@
 //! The response to one message.
 ghost use Rattle.std.specs.Prelude.{◌≡◌, ◌<◌, IfOk, length};
-ghost use Rattle.cal_model.specs.Http.Responses.{IsStatus, response_text};
-ghost use Rattle.cal_model.specs.Http.Routes.{api, route};
+ghost use Rattle.model_http.specs.Responses.{IsStatus, response_text};
+ghost use Rattle.model_connection.specs.Routes.{api, route};
 ghost use Rattle.conn_serve.specs.Answering.{Answers, reply_response};
 ghost use Rattle.http_edge.specs.Reading.{message_shown, response_shown};
 
 use crate::moment::clamped_moment;
 use crate::reply::{Reply, reply_to};
 use crate::route::{Route, route_of, success, with_problem};
-use cal_model::desk::{Desk, DeskError, Front};
+use model_batch::desk::{Desk, DeskError, Front};
 use http_edge::message::Message;
 use http_edge::response::response_bytes;
 use io_edge::clock::Clock;

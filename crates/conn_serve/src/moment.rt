@@ -1,6 +1,6 @@
 //! The moments at which requests are answered.
 ghost use Rattle.std.specs.Prelude.{◌≡◌};
-ghost use Rattle.cal_model.specs.Batches.Reply.{clamped};
+ghost use Rattle.model_batch.specs.Reply.{clamped};
 
 /// The last moment of the year 9998, in seconds of UTC from 1970.
 const LAST_MOMENT: i64 = 253_370_764_799;

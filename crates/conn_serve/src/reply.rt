@@ -1,16 +1,16 @@
 //! The reply to the body of a request.
 ghost use Rattle.std.specs.Prelude.{◌≡◌, ◌<◌, All};
-ghost use Rattle.cal_model.specs.Batches.Asked.{asked_by};
-ghost use Rattle.cal_model.specs.Batches.Reply.{asked_in};
-ghost use Rattle.cal_model.specs.TreeData.{data_of};
+ghost use Rattle.model_batch.specs.Asked.{asked_by};
+ghost use Rattle.model_batch.specs.Reply.{asked_in};
+ghost use Rattle.model_json.specs.TreeData.{data_of};
 ghost use Rattle.conn_serve.specs.Answering.{IsRefusal, IsReply};
 
 use batch_exec::problem::problem_tree;
 use batch_exec::run::run_batch;
-use cal_model::desk::{Desk, DeskError, Front};
-use cal_model::request::{BatchError, Limit, RequestError};
-use cal_model::tree::Tree;
-use cal_model::user::User;
+use model_batch::desk::{Desk, DeskError, Front};
+use model_batch::request::{BatchError, Limit, RequestError};
+use model_json::tree::Tree;
+use model_core::user::User;
 use json_edge::read::{ReadError, read_tree};
 use std::alloc::Global;
 

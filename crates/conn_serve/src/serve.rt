@@ -1,14 +1,14 @@
 //! A connection.
 ghost use Rattle.std.specs.Prelude.{◌≡◌, ◌<◌, length, IfOk};
-ghost use Rattle.cal_model.specs.Http.Responses.{IsStatus};
-ghost use Rattle.cal_model.specs.Http.Serving.{Serves, refusal_text};
-ghost use Rattle.cal_model.specs.Http.Turns.{closes};
+ghost use Rattle.model_http.specs.Responses.{IsStatus};
+ghost use Rattle.model_connection.specs.Serving.{Serves, refusal_text};
+ghost use Rattle.model_connection.specs.Turns.{closes};
 ghost use Rattle.http_edge.specs.Reading.{message_shown};
 ghost use Rattle.conn_serve.specs.Ending.{IsRefusalEnd, end_for};
 
 use crate::answer::answer;
-use cal_model::desk::{Desk, DeskError, Front};
-use cal_model::served::{ConnEnd, Served};
+use model_batch::desk::{Desk, DeskError, Front};
+use model_connection::served::{ConnEnd, Served};
 use http_edge::bytes::Bytes;
 use http_edge::kept::Kept;
 use http_edge::message::Message;

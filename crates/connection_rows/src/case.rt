@@ -1,5 +1,5 @@
 //! A row as it is read: how the program is run, and what is wanted of it.
-use cal_model::tree::{Tree, TreeObject};
+use model_json::tree::{Tree, TreeObject};
 use json_edge::write::tree_text;
 use std::alloc::{AllocError, Global};
 

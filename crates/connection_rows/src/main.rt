@@ -5,7 +5,7 @@ mod case;
 mod runs;
 mod trials;
 
-use cal_model::tree::Tree;
+use model_json::tree::Tree;
 use case::{Case, bytes_of};
 use row_table::line::tree_in;
 use row_table::row::{Row, read_rows};

@@ -2,7 +2,7 @@
 ghost use Rattle.std.specs.Prelude.{◌<◌};
 
 use crate::case::Case;
-use cal_model::status::Status;
+use jmapd_run::status::Status;
 use io_edge::memory_clock::StillClock;
 use io_edge::memory_opener::MemOpener;
 use io_edge::memory_sink::MemSink;

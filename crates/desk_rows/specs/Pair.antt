@@ -1,9 +1,9 @@
 -- What contracts see of a desk over two accounts.
 use Rattle.std.specs.Prelude.{ℕ, ◌-◌, List, [], ◌==◌, if◌then◌else◌}
-use Rattle.cal_model.specs.Base.{Base}
-use Rattle.cal_model.specs.Lock.{most_turns}
-use Rattle.cal_model.specs.Batches.Session.{Shown}
-use Rattle.cal_model.specs.declared.entry.Entry.{Entry}
+use Rattle.model_history.specs.Base.{Base}
+use Rattle.model_history.specs.MostTurns.{most_turns}
+use Rattle.model_batch.specs.Session.{Shown}
+use Rattle.model_history.specs.declared.entry.Entry.{Entry}
 
 -- the accounts have the numbers 0 and 1, and the desk makes so many calls more
 abbrev pub pair_shown : Base × List Entry → Base × List Entry → ℕ → Shown

@@ -1,7 +1,7 @@
 //! How a connection ends where its desk makes no more calls.
 use crate::pair_desk::PairDesk;
-use cal_model::served::{ConnEnd, Served};
-use cal_model::text::Text;
+use model_connection::served::{ConnEnd, Served};
+use model_json::text::Text;
 use conn_serve::serve::serve_connection;
 use io_edge::memory_clock::StillClock;
 use io_edge::memory_sink::SureSink;

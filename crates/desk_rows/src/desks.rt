@@ -3,11 +3,11 @@ ghost use Rattle.std.specs.Prelude.{◌<◌, All, IfOk};
 
 use crate::pair_desk::PairDesk;
 use batch_exec::run::run_batch;
-use cal_model::desk::Front;
-use cal_model::request::BatchError;
-use cal_model::text::Text;
-use cal_model::tree::Tree;
-use cal_model::user::{Grant, Grants, User};
+use model_batch::desk::Front;
+use model_batch::request::BatchError;
+use model_json::text::Text;
+use model_json::tree::Tree;
+use model_core::user::{Grant, Grants, User};
 use json_edge::read::read_tree;
 use json_edge::write::tree_text;
 use std::alloc::{AllocError, Global};

@@ -4,10 +4,10 @@ ghost use Rattle.account_desk.specs.SoleDesk.{of_desk};
 
 use crate::zones::no_zones;
 use account_core::account::Account;
-use cal_model::book::Book;
-use cal_model::call::{Call, Reply};
-use cal_model::desk::{Desk, DeskError};
-use cal_model::text::Text;
+use model_history::book::Book;
+use model_call::call::{Call, Reply};
+use model_batch::desk::{Desk, DeskError};
+use model_json::text::Text;
 use std::alloc::{AllocError, Global};
 use std::sync::Arc;
 

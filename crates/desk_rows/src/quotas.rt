@@ -1,12 +1,12 @@
 //! How much an account holds (RFC 8620 section 5.3, `overQuota`).
 use crate::zones::no_zones;
 use account_core::account::Account;
-use cal_model::book::Book;
-use cal_model::call::Call;
-use cal_model::entry::Kind;
-use cal_model::lists::Pairs;
-use cal_model::text::Text;
-use cal_model::tree::Tree;
+use model_history::book::Book;
+use model_call::call::Call;
+use model_history::entry::Kind;
+use model_json::lists::Pairs;
+use model_json::text::Text;
+use model_json::tree::Tree;
 use json_edge::read::read_tree;
 use json_edge::write::tree_text;
 use std::alloc::{AllocError, Global};

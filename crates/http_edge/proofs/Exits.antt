@@ -5,9 +5,9 @@ use Rattle.std.specs.Str.{bytes_eq}
 use Rattle.std.proofs.lemmas.Bool.Decides.{nat_tests}
 use Rattle.std.proofs.lemmas.List.{length-drop, length-take-le, take-append-drop}
 use Rattle.httparse.specs.Grammar.{RequestHead}
-use Rattle.cal_model.specs.Http.Fields.{Length, absent, known, unusable, NamedValue, first_value, length_said, values_of}
-use Rattle.cal_model.specs.Http.Heads.{head_end, ended, unended, ReadsHead, fields_of, Framing, body, refuse, framing, framing_by_length}
-use Rattle.cal_model.specs.Http.Messages.{message_of, partial, HasHead, BeginsWith, IsUndecided}
+use Rattle.model_http.specs.Fields.{Length, absent, known, unusable, NamedValue, first_value, length_said, values_of}
+use Rattle.model_http.specs.Heads.{head_end, ended, unended, ReadsHead, fields_of, Framing, body, refuse, framing, framing_by_length}
+use Rattle.model_http.specs.Messages.{message_of, partial, HasHead, BeginsWith, IsUndecided}
 use Rattle.http_edge.specs.Reading.{Says, Took, StopCause, NextIs, GivesNext, ended_with, message_shown}
 use Rattle.http_edge.specs.declared.head.Head.{Head}
 use Rattle.http_edge.specs.declared.kept.Stop.{Stop}

@@ -1,7 +1,7 @@
 -- Bytes taken from a source, piece after piece.
 use Rattle.std.proofs.Common.{ℕ, ◌≤◌, List, [], ◌++◌, Option, sym, ap, ◌∙◌, append_assoc, append-nil, arith}
 use Rattle.std.proofs.KnownBytes.{Consumes-nil, Consumes-trans}
-use Rattle.cal_model.specs.Outside.{Rose}
+use Rattle.io_edge.specs.Outside.{Rose}
 use Rattle.http_edge.specs.Reading.{Took, StopCause}
 use Rattle.http_edge.specs.declared.kept.Stop.{Stop}
 use Rattle.http_edge.specs.declared.kept.Stop.TheVariants.{Ended, Failed, NoMemory}

@@ -2,15 +2,15 @@
 use Rattle.std.specs.Prelude.{◌≡◌, ℕ, ◌≤◌, List, [], ◌∷◌, ◌++◌, Option, Result, Ok, Err, if◌then◌else◌, ⊤}
 use Rattle.std.specs.Str.Parse.{digits_value}
 use Rattle.std.specs.Io.KnownBytes.{Consumes, IsAtEnd}
-use Rattle.cal_model.specs.Outside.{Rose}
+use Rattle.io_edge.specs.Outside.{Rose}
 use Rattle.httparse.specs.Grammar.{RequestHead}
-use Rattle.cal_model.specs.Http.Fields as fields
-use Rattle.cal_model.specs.Http.Fields.{asks_close, is_length, is_length_of, token_of}
-use Rattle.cal_model.specs.Http.Heads as heads
-use Rattle.cal_model.specs.Http.Heads.{ReadsHead, RefusesHead, fields_of, framing}
-use Rattle.cal_model.specs.Http.Messages as http
-use Rattle.cal_model.specs.Http.Messages.{path_of, whole, refused, partial, BeginsWith, IsUndecided}
-use Rattle.cal_model.specs.Http.Responses as responses
+use Rattle.model_http.specs.Fields as fields
+use Rattle.model_http.specs.Fields.{asks_close, is_length, is_length_of, token_of}
+use Rattle.model_http.specs.Heads as heads
+use Rattle.model_http.specs.Heads.{ReadsHead, RefusesHead, fields_of, framing}
+use Rattle.model_http.specs.Messages as http
+use Rattle.model_http.specs.Messages.{path_of, whole, refused, partial, BeginsWith, IsUndecided}
+use Rattle.model_http.specs.Responses as responses
 use Rattle.http_edge.specs.declared.fields.ContentLength.{ContentLength}
 use Rattle.http_edge.specs.declared.fields.ContentLength.TheVariants as length_is
 use Rattle.http_edge.specs.declared.head.Head.{Head}

@@ -4,10 +4,11 @@ ghost use Rattle.std.specs.List.{All, list_any};
 ghost use Rattle.std.specs.Str.{IsAscii};
 ghost use Rattle.std.specs.Str.Parse.{digits_value};
 ghost use Rattle.httparse.specs.Spans.{IsHeaderWithin, header_bytes};
-ghost use Rattle.cal_model.specs.Http.Fields.{asks_close, bearer_token, first_value, is_length, is_token, length_said, same_word, says_close, token_of, value_if_named, values_of};
+ghost use Rattle.model_core.specs.Names.{is_token};
+ghost use Rattle.model_http.specs.Fields.{asks_close, bearer_token, first_value, is_length, length_said, same_word, says_close, token_of, value_if_named, values_of};
 ghost use Rattle.http_edge.specs.Reading.{length_shown, length_step};
 
-use cal_model::text::Text;
+use model_json::text::Text;
 use httparse::spans::HeaderSpan;
 use std::alloc::{AllocError, Global};
 

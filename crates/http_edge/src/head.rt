@@ -3,14 +3,14 @@ ghost use Rattle.std.specs.Prelude.{◌≡◌, ◌≤◌, length, map, take, IfS
 ghost use Rattle.std.specs.List.{All};
 ghost use Rattle.httparse.specs.Grammar.{RequestHead};
 ghost use Rattle.httparse.specs.Spans.{IsHeaderWithin, IsRequestAt, IsRequestWithin, header_bytes};
-ghost use Rattle.cal_model.specs.Http.Heads.{IsHead, framing, line_feeds};
-ghost use Rattle.cal_model.specs.Http.Messages.{path_of};
+ghost use Rattle.model_http.specs.Heads.{IsHead, framing, line_feeds};
+ghost use Rattle.model_http.specs.Messages.{path_of};
 ghost use Rattle.http_edge.specs.Reading.{IsRefusal, Says, framing_shown};
 ghost use Rattle.http_edge.specs.declared.head.HeadError.TheVariants.{NoMemory};
 
 use crate::bytes::Bytes;
 use crate::fields::{ContentLength, ascii_text, content_length, first_of, is_closing, token_in};
-use cal_model::text::Text;
+use model_json::text::Text;
 use httparse::Status;
 use httparse::spans::{EMPTY_HEADER_SPAN, HeaderSpan, RequestSpans, parse_request};
 use std::alloc::{AllocError, Global};

@@ -1,10 +1,10 @@
 //! Laws of what bytes begin with.
 ghost use Rattle.std.specs.Prelude.{◌≡◌, ◌≤◌, ◌++◌, [], ℕ, List, length};
 ghost use Rattle.httparse.specs.Grammar.{IsRequestHead, RequestHead, print_request};
-ghost use Rattle.cal_model.specs.Http.Heads.{body, fields_of, framing};
-ghost use Rattle.cal_model.specs.Http.Messages.{BeginsWith, Beginning, Message, message_of, refused, whole};
-ghost use Rattle.cal_model.specs.Http.Pipeline.{Ending, EndsAs, Reads};
-ghost use Rattle.cal_model.specs.Http.Responses.{IsStatus};
+ghost use Rattle.model_http.specs.Heads.{body, fields_of, framing};
+ghost use Rattle.model_http.specs.Messages.{BeginsWith, Beginning, Message, message_of, refused, whole};
+ghost use Rattle.model_http.specs.Pipeline.{Ending, EndsAs, Reads};
+ghost use Rattle.model_http.specs.Responses.{IsStatus};
 
 /// What begins with a whole message does so whatever follows.
 pub fn whole_stays()

@@ -1,6 +1,6 @@
 //! The next message of a source.
 ghost use Rattle.std.specs.Prelude.{◌≡◌, ◌≤◌, ◌<◌, ℕ, length, IfOk, OnOk, IfErr};
-ghost use Rattle.cal_model.specs.Http.Heads.{head_end, unended};
+ghost use Rattle.model_http.specs.Heads.{head_end, unended};
 ghost use Rattle.http_edge.specs.Reading.{GivesNext, StopCause, Took, end_shown, ended_with};
 
 use crate::head::{HeadError, read_head};

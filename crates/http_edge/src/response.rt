@@ -1,12 +1,12 @@
 //! The bytes of responses.
 ghost use Rattle.std.specs.Prelude.{◌≡◌, IfOk, string_bytes, length, unwrap_or, [], true};
 ghost use Rattle.http.specs.StatusCode.{reason_phrase};
-ghost use Rattle.cal_model.specs.Http.Responses as http;
-ghost use Rattle.cal_model.specs.Http.Responses.{IsStatus, response_text};
+ghost use Rattle.model_http.specs.Responses as http;
+ghost use Rattle.model_http.specs.Responses.{IsStatus, response_text};
 ghost use Rattle.http_edge.specs.Reading.{response_shown};
 
 use crate::bytes::Bytes;
-use cal_model::text::Text;
+use model_json::text::Text;
 use http::StatusCode;
 use std::alloc::{AllocError, Global};
 

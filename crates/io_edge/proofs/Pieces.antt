@@ -4,8 +4,8 @@ use Rattle.std.proofs.Math.Seq.{take-add, take-append_seam}
 use Rattle.std.proofs.lemmas.List.{drop-drop, length-drop, length-take-le, take-append-drop, take_rest}
 use Rattle.std.specs.Io.KnownBytes.{Consumes}
 use Rattle.std.proofs.KnownBytes.{Consumes-trans}
-use Rattle.cal_model.specs.Outside.{ConsumesAtMost, Grows}
-use Rattle.cal_model.proofs.OutsideLemmas.{Grows-trans}
+use Rattle.io_edge.specs.Outside.{ConsumesAtMost, Grows}
+use Rattle.io_edge.proofs.OutsideLemmas.{Grows-trans}
 
 -- after the first i bytes of a piece, n more of them
 pub given_more : (a b c : Option (List ℕ)) (bytes : List ℕ) (i n : ℕ) → Grows a b (take i bytes) → Grows b c (take n (take (length bytes - i) (drop i bytes))) → Grows a c (take (i + n) bytes)

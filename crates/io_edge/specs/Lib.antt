@@ -1,4 +1,4 @@
-pub use Rattle.cal_model.specs.Outside
+pub mod Outside
 pub mod FailingCalls
 pub mod MemoryForms
 pub mod Moments

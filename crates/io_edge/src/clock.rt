@@ -1,7 +1,7 @@
 //! Clocks: what moment it is.
 
 ghost use Rattle.std.specs.Prelude.{ℕ, ℤ, Option};
-ghost use Rattle.cal_model.specs.Outside.{Ticks};
+ghost use Rattle.io_edge.specs.Outside.{Ticks};
 
 /// Tells the moment.
 pub trait Clock {

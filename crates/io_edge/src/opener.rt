@@ -1,7 +1,7 @@
 //! Openers: where files are loaded from, by name.
 
 ghost use Rattle.std.specs.Prelude.{◌≡◌, ℕ, ◌≤◌, List, Option, IfOk};
-ghost use Rattle.cal_model.specs.Outside.{IsMissing, IsThere, Loads, Rose};
+ghost use Rattle.io_edge.specs.Outside.{IsMissing, IsThere, Loads, Rose};
 
 use std::alloc::AllocError;
 

@@ -2,7 +2,7 @@
 
 ghost use Rattle.std.specs.Prelude.{◌≡◌, ℕ, ◌<◌, List, length, take, Option, IfOk, OnErr, OnOk};
 ghost use Rattle.std.specs.Io.{WritesAtMost};
-ghost use Rattle.cal_model.specs.Outside.{Grows, GrowsByFront, HasCause};
+ghost use Rattle.io_edge.specs.Outside.{Grows, GrowsByFront, HasCause};
 
 use crate::fault::Failed;
 

@@ -3,7 +3,7 @@
 ghost use Rattle.std.specs.Prelude.{◌≡◌, ℕ, ◌+◌, ◌≤◌, List, length, Option, IfOk, OnErr};
 ghost use Rattle.std.specs.Io.{ReadsAtMost};
 ghost use Rattle.std.specs.Io.KnownBytes.{Consumes, IsAtEnd, ReadConsumes};
-ghost use Rattle.cal_model.specs.Outside.{ConsumesAtMost, HasCause, Rose};
+ghost use Rattle.io_edge.specs.Outside.{ConsumesAtMost, HasCause, Rose};
 
 use crate::fault::Failed;
 use std::alloc::{AllocError, Global};

@@ -1,7 +1,7 @@
 //! The system's files.
 
 ghost use Rattle.std.specs.Prelude.{◌≡◌, ◌≤◌, ◌↔◌, IfOk, IfSome, None, take};
-ghost use Rattle.cal_model.specs.Outside.{Rose};
+ghost use Rattle.io_edge.specs.Outside.{Rose};
 
 use crate::opener::{LoadError, Opener};
 use std::alloc::Global;

@@ -2,10 +2,10 @@
 #![tactic(auto)]
 
 ghost use Rattle.std.specs.Prelude.{◌≡◌};
-ghost use Rattle.cal_model.specs.Statuses.{exit_status};
+ghost use Rattle.jmapd_run.specs.Statuses.{exit_status};
 
-use cal_model::site::Field;
-use cal_model::status::Status;
+use model_site::field::Field;
+use jmapd_run::status::Status;
 use io_edge::streams::{ReaderSource, WriterSink};
 use io_edge::system_clock::SystemClock;
 use io_edge::system_files::SystemFiles;

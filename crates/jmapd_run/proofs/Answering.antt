@@ -2,18 +2,19 @@
 use Rattle.std.proofs.Common.{◌≡◌, ◌≤◌, ◌+◌, ◌++◌, ◌∷◌, [], ℕ, ℤ, List, Option, Bool, true, false, Result, Ok, Err, IfOk, length, ap, arith, subst, sym, ◌∙◌}
 use Rattle.std.specs.Io.KnownBytes.{Consumes, IsAtEnd}
 use Rattle.std.specs.Prelude.{if◌then◌else◌}
-use Rattle.cal_model.specs.Batches.Reply.{Replies, asked_in, clamped, max_size_request}
-use Rattle.cal_model.specs.Batches.Session.{Session, Shown}
-use Rattle.cal_model.specs.Headline.{Answers, IsAnswer, IsSole, fresh_desk}
-use Rattle.cal_model.specs.Json.{text_of}
-use Rattle.cal_model.specs.Outside.{Grows, Ticks}
-use Rattle.cal_model.specs.Sites.Configuration.{Site, user_at}
-use Rattle.cal_model.specs.TreeData.{data_of}
-use Rattle.cal_model.specs.declared.desk.DeskError.TheVariants.{PassSpent}
-use Rattle.cal_model.specs.declared.desk.Front.{Front}
-use Rattle.cal_model.specs.declared.status.Status.{Status}
-use Rattle.cal_model.specs.declared.status.Status.TheVariants.{Done, Refused}
-use Rattle.cal_model.specs.declared.user.User.{User}
+use Rattle.model_batch.specs.Reply.{Replies, asked_in, clamped, max_size_request}
+use Rattle.model_batch.specs.Session.{Session, Shown}
+use Rattle.account_desk.specs.FreshDesk.{IsSole, fresh_desk}
+use Rattle.jmapd_run.specs.Headline.{Answers, IsAnswer}
+use Rattle.model_json.specs.Json.{text_of}
+use Rattle.io_edge.specs.Outside.{Grows, Ticks}
+use Rattle.model_site.specs.Configuration.{Site, user_at}
+use Rattle.model_json.specs.TreeData.{data_of}
+use Rattle.model_batch.specs.declared.desk.DeskError.TheVariants.{PassSpent}
+use Rattle.model_batch.specs.declared.desk.Front.{Front}
+use Rattle.jmapd_run.specs.declared.status.Status.{Status}
+use Rattle.jmapd_run.specs.declared.status.Status.TheVariants.{Done, Refused}
+use Rattle.model_core.specs.declared.user.User.{User}
 use Rattle.conn_serve.specs.Answering.{IsReply}
 use Rattle.conn_serve.specs.declared.reply.Reply.{Reply}
 use Rattle.jmapd_run.specs.Runs.{RunsBatch}

@@ -1,14 +1,14 @@
 -- A run in which nothing fails does its work.
 use Rattle.std.proofs.Common.{◌≡◌, ℕ, ℤ, List, Option, Some, None, Ok, inl, inr, take, sym, ap, ◌∙◌, subst, option_map}
-use Rattle.cal_model.specs.Batches.Session.{Shown}
-use Rattle.cal_model.specs.Http.Serving.{Serves}
-use Rattle.cal_model.specs.Outside.{Rose}
-use Rattle.cal_model.specs.Sites.Configuration.{Site, configured}
-use Rattle.cal_model.specs.declared.desk.Front.{Front}
-use Rattle.cal_model.specs.declared.served.ConnEnd.{ConnEnd}
-use Rattle.cal_model.specs.declared.served.ConnEnd.TheVariants as end
-use Rattle.cal_model.specs.declared.status.Status.{Status}
-use Rattle.cal_model.specs.declared.status.Status.TheVariants.{Config, Cut, Done, NoMemory, OpenFault, ReadFault, Refused, Usage, WriteFault}
+use Rattle.model_batch.specs.Session.{Shown}
+use Rattle.model_connection.specs.Serving.{Serves}
+use Rattle.io_edge.specs.Outside.{Rose}
+use Rattle.model_site.specs.Configuration.{Site, configured}
+use Rattle.model_batch.specs.declared.desk.Front.{Front}
+use Rattle.model_connection.specs.declared.served.ConnEnd.{ConnEnd}
+use Rattle.model_connection.specs.declared.served.ConnEnd.TheVariants as end
+use Rattle.jmapd_run.specs.declared.status.Status.{Status}
+use Rattle.jmapd_run.specs.declared.status.Status.TheVariants.{Config, Cut, Done, NoMemory, OpenFault, ReadFault, Refused, Usage, WriteFault}
 use Rattle.command_line.specs.Commands.{Command, batch, stdio}
 use Rattle.jmapd_run.proofs.StartLemmas.{Files, batch_start, site_of, some_same, start_is, start_of_command, stdio_start, user_is}
 use Rattle.jmapd_run.specs.Completes.{FaultlessRunsWork, HasUser, HasWorked, IsAccepted}

@@ -1,13 +1,13 @@
 -- What a connection over fresh accounts comes to.
 use Rattle.std.proofs.Common.{◌≡◌, ◌≢◌, ◌+◌, ◌≤◌, ℕ, ℤ, List, Option, Some, length-append, ap, arith, subst}
-use Rattle.cal_model.specs.Batches.Session.{Shown}
-use Rattle.cal_model.specs.Headline.{IsSole, fresh_desk}
-use Rattle.cal_model.specs.Http.Serving.{Serves}
-use Rattle.cal_model.specs.Sites.Configuration.{Site}
-use Rattle.cal_model.specs.declared.desk.Front.{Front}
-use Rattle.cal_model.specs.declared.served.ConnEnd.{ConnEnd}
-use Rattle.cal_model.specs.declared.served.ConnEnd.TheVariants as end
-use Rattle.cal_model.specs.declared.status.Status.{Status}
+use Rattle.model_batch.specs.Session.{Shown}
+use Rattle.account_desk.specs.FreshDesk.{IsSole, fresh_desk}
+use Rattle.model_connection.specs.Serving.{Serves}
+use Rattle.model_site.specs.Configuration.{Site}
+use Rattle.model_batch.specs.declared.desk.Front.{Front}
+use Rattle.model_connection.specs.declared.served.ConnEnd.{ConnEnd}
+use Rattle.model_connection.specs.declared.served.ConnEnd.TheVariants as end
+use Rattle.jmapd_run.specs.declared.status.Status.{Status}
 use Rattle.jmapd_run.specs.Runs.{RunsStdio, status_of}
 
 module _ {site : Site} {left left' held held' : Option (List ℕ)} {s0 s1 k0 k1 : ℕ} {moments moments' : Option (ℕ → ℤ)} {d0 d1 : Shown} {fronts : List Front} {n : ℕ} where

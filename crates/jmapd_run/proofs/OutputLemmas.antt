@@ -8,20 +8,21 @@ use Rattle.std.specs.Prelude.{if◌then◌else◌}
 use Rattle.account_desk.proofs.ConnectionLemmas.{connections_determined}
 use Rattle.account_desk.proofs.ReplyLemmas.{replies_determined}
 use Rattle.account_desk.specs.Determined.{RepliesAlone, ServesAlone}
-use Rattle.cal_model.specs.Batches.Reply.{asked_in, clamped, max_size_request}
-use Rattle.cal_model.specs.Data.{Data}
-use Rattle.cal_model.specs.Headline.{Answers, IsAnswer, fresh_desk}
-use Rattle.cal_model.specs.Http.Serving.{Serves, refusal_text}
-use Rattle.cal_model.specs.Http.Turns.{all_bytes, messages_of}
-use Rattle.cal_model.specs.Json.{text_of}
-use Rattle.cal_model.specs.Lock.{most_turns}
-use Rattle.cal_model.specs.Outside.{Grows, Rose, Ticks}
-use Rattle.cal_model.specs.Sites.Configuration.{Site, user_at}
-use Rattle.cal_model.specs.declared.served.ConnEnd.{ConnEnd}
-use Rattle.cal_model.specs.declared.served.ConnEnd.TheVariants as end
-use Rattle.cal_model.specs.declared.site.Field.{Field}
-use Rattle.cal_model.specs.declared.status.Status.{Status}
-use Rattle.cal_model.specs.declared.status.Status.TheVariants.{Config, Cut, Done, NoMemory, OpenFault, ReadFault, Refused, Usage, WriteFault}
+use Rattle.model_batch.specs.Reply.{asked_in, clamped, max_size_request}
+use Rattle.model_json.specs.Data.{Data}
+use Rattle.account_desk.specs.FreshDesk.{fresh_desk}
+use Rattle.jmapd_run.specs.Headline.{Answers, IsAnswer}
+use Rattle.model_connection.specs.Serving.{Serves, refusal_text}
+use Rattle.model_connection.specs.Turns.{all_bytes, messages_of}
+use Rattle.model_json.specs.Json.{text_of}
+use Rattle.model_history.specs.MostTurns.{most_turns}
+use Rattle.io_edge.specs.Outside.{Grows, Rose, Ticks}
+use Rattle.model_site.specs.Configuration.{Site, user_at}
+use Rattle.model_connection.specs.declared.served.ConnEnd.{ConnEnd}
+use Rattle.model_connection.specs.declared.served.ConnEnd.TheVariants as end
+use Rattle.model_site.specs.declared.field.Field.{Field}
+use Rattle.jmapd_run.specs.declared.status.Status.{Status}
+use Rattle.jmapd_run.specs.declared.status.Status.TheVariants.{Config, Cut, Done, NoMemory, OpenFault, ReadFault, Refused, Usage, WriteFault}
 use Rattle.conn_serve.proofs.Completeness.{faultless_determined}
 use Rattle.conn_serve.specs.Complete.{IsFaultless}
 use Rattle.jmapd_run.proofs.Connecting.{few_turns}

@@ -1,8 +1,8 @@
 -- What the words and the files come to is one thing.
 use Rattle.std.proofs.Common.{◌≡◌, ℕ, List, Option, Some, None, Result, Ok, Err, inl, inr, take, refl, sym, ap, ◌∙◌, option_map}
 use Rattle.std.specs.Prelude.{unwrap_or}
-use Rattle.cal_model.specs.Outside.{Rose, file_named}
-use Rattle.cal_model.specs.Sites.Configuration.{Fault, Site, built_in, configured, user_named}
+use Rattle.io_edge.specs.Outside.{Rose, file_named}
+use Rattle.model_site.specs.Configuration.{Fault, Site, built_in, configured, user_named}
 use Rattle.command_line.specs.Commands.{Command, batch, command_of, stdio}
 use Rattle.jmapd_run.specs.Starts.{IsLoaded, IsNotOpened, IsSite, IsStart, IsUser, Start, batch_for, configuration_of, misconfigured, not_opened, stdio_of, usage}
 

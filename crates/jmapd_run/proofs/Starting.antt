@@ -1,8 +1,8 @@
 -- A run that doesn't begin.
 use Rattle.std.proofs.Common.{ℕ, ℤ, List, Option, Some, None, Ok, Err, inl, inr, refl}
-use Rattle.cal_model.specs.Sites.Configuration.{Site}
-use Rattle.cal_model.specs.declared.status.Status.{Status}
-use Rattle.cal_model.specs.declared.status.Status.TheVariants.{Config, Cut, Done, NoMemory, OpenFault, ReadFault, Refused, Usage, WriteFault}
+use Rattle.model_site.specs.Configuration.{Site}
+use Rattle.jmapd_run.specs.declared.status.Status.{Status}
+use Rattle.jmapd_run.specs.declared.status.Status.TheVariants.{Config, Cut, Done, NoMemory, OpenFault, ReadFault, Refused, Usage, WriteFault}
 use Rattle.jmapd_run.specs.Runs.{IsUntouched, Runs}
 use Rattle.jmapd_run.specs.Shown.{SiteHow, StartHow}
 use Rattle.jmapd_run.specs.Starts.{IsSite, misconfigured, not_opened, usage}

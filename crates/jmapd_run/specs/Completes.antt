@@ -1,9 +1,9 @@
 -- Which statuses a run has in which nothing fails.
 use Rattle.std.specs.Prelude.{◌≡◌, ℕ, ℤ, List, Option, Some, None, Ok, take, ⊤}
-use Rattle.cal_model.specs.Outside.{Rose, file_named}
-use Rattle.cal_model.specs.Sites.Configuration.{Site, built_in, configured}
-use Rattle.cal_model.specs.declared.status.Status.{Status}
-use Rattle.cal_model.specs.declared.status.Status.TheVariants.{Cut, Done, NoMemory, Refused}
+use Rattle.io_edge.specs.Outside.{Rose, file_named}
+use Rattle.model_site.specs.Configuration.{Site, built_in, configured}
+use Rattle.jmapd_run.specs.declared.status.Status.{Status}
+use Rattle.jmapd_run.specs.declared.status.Status.TheVariants.{Cut, Done, NoMemory, Refused}
 use Rattle.command_line.specs.Commands.{Command, batch, command_of, stdio}
 use Rattle.jmapd_run.specs.Runs.{Runs}
 use Rattle.jmapd_run.specs.Starts.{IsUser, configuration_of}

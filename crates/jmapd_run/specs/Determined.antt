@@ -1,8 +1,8 @@
 -- What a run does is settled by what it is given.
 use Rattle.std.specs.Prelude.{◌≡◌, ◌≢◌, ℕ, ℤ, List, [], Option, Some}
-use Rattle.cal_model.specs.Outside.{Rose}
-use Rattle.cal_model.specs.declared.status.Status.{Status}
-use Rattle.cal_model.specs.declared.status.Status.TheVariants.{NoMemory}
+use Rattle.io_edge.specs.Outside.{Rose}
+use Rattle.jmapd_run.specs.declared.status.Status.{Status}
+use Rattle.jmapd_run.specs.declared.status.Status.TheVariants.{NoMemory}
 use Rattle.jmapd_run.specs.Runs.{Runs}
 
 -- A run in which nothing failed and memory sufficed: by these words, over these files and this input, with a clock that was to give these moments, it ended so and wrote this text.

@@ -1,3 +1,5 @@
+pub mod Statuses
+pub mod Headline
 pub mod Starts
 pub mod Runs
 pub mod Shown

@@ -1,16 +1,17 @@
 -- What a run does, whatever bytes come: the main theorem's statement for the program.
 use Rattle.std.specs.Prelude.{◌≡◌, ◌⊎◌, ◌+◌, ℕ, ℤ, List, Bool, true, false, Option, Some, None}
-use Rattle.cal_model.specs.Batches.Reply.{max_size_request}
-use Rattle.cal_model.specs.Batches.Session.{Shown}
-use Rattle.cal_model.specs.Headline.{Answers, IsSole, fresh_desk}
-use Rattle.cal_model.specs.Http.Serving.{Serves}
-use Rattle.cal_model.specs.Outside.{ConsumesAtMost, Grows, GrowsByFront, Rose}
-use Rattle.cal_model.specs.Sites.Configuration.{Site}
-use Rattle.cal_model.specs.declared.desk.Front.{Front}
-use Rattle.cal_model.specs.declared.served.ConnEnd.{ConnEnd}
-use Rattle.cal_model.specs.declared.served.ConnEnd.TheVariants as end
-use Rattle.cal_model.specs.declared.status.Status.{Status}
-use Rattle.cal_model.specs.declared.status.Status.TheVariants.{Config, Cut, Done, NoMemory, OpenFault, ReadFault, Refused, Usage, WriteFault}
+use Rattle.model_batch.specs.Reply.{max_size_request}
+use Rattle.model_batch.specs.Session.{Shown}
+use Rattle.account_desk.specs.FreshDesk.{IsSole, fresh_desk}
+use Rattle.jmapd_run.specs.Headline.{Answers}
+use Rattle.model_connection.specs.Serving.{Serves}
+use Rattle.io_edge.specs.Outside.{ConsumesAtMost, Grows, GrowsByFront, Rose}
+use Rattle.model_site.specs.Configuration.{Site}
+use Rattle.model_batch.specs.declared.desk.Front.{Front}
+use Rattle.model_connection.specs.declared.served.ConnEnd.{ConnEnd}
+use Rattle.model_connection.specs.declared.served.ConnEnd.TheVariants as end
+use Rattle.jmapd_run.specs.declared.status.Status.{Status}
+use Rattle.jmapd_run.specs.declared.status.Status.TheVariants.{Config, Cut, Done, NoMemory, OpenFault, ReadFault, Refused, Usage, WriteFault}
 use Rattle.jmapd_run.specs.Starts.{IsStart, Start, batch_for, misconfigured, not_opened, stdio_of, usage}
 
 -- how `stdio` ends, by how its connection ended; its desk never has made as many calls as it may

@@ -1,8 +1,8 @@
 -- What contracts see of a start, and of what a load came to.
 use Rattle.std.specs.Prelude.{◌≡◌, ℕ, ◌<◌, List, Option, Some, None, Result, Ok, Err, length, ⊤}
-use Rattle.cal_model.specs.Sites.Configuration.{Fault, Site, user_named}
-use Rattle.cal_model.specs.declared.status.Status.{Status}
-use Rattle.cal_model.specs.declared.status.Status.TheVariants.{Config, NoMemory, OpenFault, Usage}
+use Rattle.model_site.specs.Configuration.{Fault, Site, user_named}
+use Rattle.jmapd_run.specs.declared.status.Status.{Status}
+use Rattle.jmapd_run.specs.declared.status.Status.TheVariants.{Config, NoMemory, OpenFault, Usage}
 use Rattle.jmapd_run.specs.Starts as starts
 use Rattle.jmapd_run.specs.Starts.{IsLoaded, IsNotOpened, IsSite, IsStart, IsUser}
 use Rattle.jmapd_run.specs.declared.start.Start.{Start}

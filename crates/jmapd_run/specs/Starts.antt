@@ -1,8 +1,8 @@
 -- What the words of the command line and the configuration come to, before the input is read.
 use Rattle.std.specs.Prelude.{◌≡◌, ◌⊎◌, ℕ, List, Option, Some, None, Result, Ok, Err}
-use Rattle.cal_model.specs.Outside.{IsMissing, Loads, Rose}
-use Rattle.cal_model.specs.Sites.Configuration.{Fault, Site, built_in, configured, user_named}
-use Rattle.cal_model.specs.declared.site.Field.{Field}
+use Rattle.io_edge.specs.Outside.{IsMissing, Loads, Rose}
+use Rattle.model_site.specs.Configuration.{Fault, Site, built_in, configured, user_named}
+use Rattle.model_site.specs.declared.field.Field.{Field}
 use Rattle.command_line.specs.Commands.{Command, batch, command_of, stdio}
 
 pub data Start : Type 0 where

@@ -1,13 +1,13 @@
 //! The command `batch`: one request and its answer.
 ghost use Rattle.std.specs.Prelude.{◌≡◌, ◌<◌, ◌++◌, ◌∷◌, [], IfOk, length, if◌then◌else◌};
-ghost use Rattle.cal_model.specs.Headline.{IsAnswer};
-ghost use Rattle.cal_model.specs.Json.{text_of};
-ghost use Rattle.cal_model.specs.TreeData.{data_of};
+ghost use Rattle.jmapd_run.specs.Headline.{IsAnswer};
+ghost use Rattle.model_json.specs.Json.{text_of};
+ghost use Rattle.model_json.specs.TreeData.{data_of};
 ghost use Rattle.jmapd_run.specs.Runs.{RunsBatch};
 
 use account_desk::sole_desk::SoleDesk;
-use cal_model::desk::DeskError;
-use cal_model::status::Status;
+use model_batch::desk::DeskError;
+use crate::status::Status;
 use conn_serve::moment::clamped_moment;
 use conn_serve::reply::{MAX_SIZE_REQUEST, Reply, reply_to};
 use io_edge::clock::Clock;

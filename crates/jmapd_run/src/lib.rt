@@ -5,4 +5,5 @@ mod batch;
 pub mod laws;
 pub mod run;
 mod start;
+pub mod status;
 mod stdio;

@@ -1,9 +1,9 @@
 //! What the words of the command line and the configuration come to.
 ghost use Rattle.std.specs.Prelude.{◌≡◌, IfOk, map, option_map, string_bytes};
-ghost use Rattle.cal_model.specs.Sites.Configuration.{configured};
+ghost use Rattle.model_site.specs.Configuration.{configured};
 ghost use Rattle.jmapd_run.specs.Shown.{BatchHow, HasItsUser, LoadHow, NamedHow, ReadHow, SiteHow, StartHow};
 
-use cal_model::status::Status;
+use crate::status::Status;
 use command_line::command::{Command, read_command};
 use io_edge::opener::{LoadError, Opener};
 use session_doc::{ConfigurationError, Site};

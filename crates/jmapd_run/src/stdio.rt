@@ -1,11 +1,11 @@
 //! The command `stdio`: one connection.
 ghost use Rattle.std.specs.Prelude.{◌≡◌, ◌≢◌, ◌⊎◌, Some};
-ghost use Rattle.cal_model.specs.declared.status.Status.TheVariants.{NoMemory};
+ghost use Rattle.jmapd_run.specs.declared.status.Status.TheVariants.{NoMemory};
 ghost use Rattle.jmapd_run.specs.Runs.{IsUntouched, RunsStdio, status_of};
 
 use account_desk::sole_desk::SoleDesk;
-use cal_model::served::ConnEnd;
-use cal_model::status::Status;
+use model_connection::served::ConnEnd;
+use crate::status::Status;
 use conn_serve::serve::serve_connection;
 use io_edge::clock::Clock;
 use io_edge::sink::Sink;

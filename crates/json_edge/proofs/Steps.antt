@@ -4,17 +4,17 @@ use Rattle.std.specs.List.{AllByRecursion}
 use Rattle.std.specs.List.Sorted.{IsStrictlySortedBy}
 use Rattle.std.specs.Map.{keys_of}
 use Rattle.std.proofs.lemmas.Bool.{and_from}
-use Rattle.cal_model.proofs.Appending.{push_option}
-use Rattle.cal_model.specs.Data.{Data, Pair}
-use Rattle.cal_model.specs.ObjectKeys.{is_above, keys_rise}
+use Rattle.model_json.proofs.Appending.{push_option}
+use Rattle.model_json.specs.Data.{Data, Pair}
+use Rattle.model_json.specs.ObjectKeys.{is_above, keys_rise}
 use Rattle.serde_json.specs.Data as json
 use Rattle.serde_json.specs.View.{view, members_view}
 use Rattle.serde_json.specs.declared.value.Value.{Value}
 use Rattle.json.specs.Print.{print}
 use Rattle.serde_json.proofs.Texts.{print-outline}
-use Rattle.cal_model.specs.Json.{json_of, text_of}
+use Rattle.model_json.specs.Json.{json_of, text_of}
 use Rattle.json_edge.specs.Tokens.{tokens_of}
-use Rattle.cal_model.specs.Json.{whole_of, whole_members, reading, not_json, reading_of_whole}
+use Rattle.model_json.specs.Json.{whole_of, whole_members, reading, not_json, reading_of_whole}
 use Rattle.serde_json.specs.Read.{read}
 use Rattle.std.specs.Str.{IsUtf8, is_utf8}
 use Rattle.std.proofs.lemmas.Str.{IsUtf8-from_is_utf8, is_utf8-from_IsUtf8}

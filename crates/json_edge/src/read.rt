@@ -1,16 +1,16 @@
 //! Trees from JSON texts.
 ghost use Rattle.std.specs.Prelude.{◌≡◌, ◌≢◌, IfOk, IfErr, map};
-ghost use Rattle.cal_model.specs.Data.{Data};
-ghost use Rattle.cal_model.specs.TreeData.{data_of, pair_of};
-ghost use Rattle.cal_model.specs.ObjectKeys.{HasOrderedKeys};
+ghost use Rattle.model_json.specs.Data.{Data};
+ghost use Rattle.model_json.specs.TreeData.{data_of, pair_of};
+ghost use Rattle.model_json.specs.ObjectKeys.{HasOrderedKeys};
 ghost use Rattle.serde_json.specs.View.{view, number_view, items_view, members_view};
 ghost use Rattle.serde_json.specs.Errors.{IsMemory};
-ghost use Rattle.cal_model.specs.Json.{whole_of, whole_items, whole_members, whole_number, reading, not_json, not_whole, value};
+ghost use Rattle.model_json.specs.Json.{whole_of, whole_items, whole_members, whole_number, reading, not_json, not_whole, value};
 ghost use Rattle.json_edge.specs.declared.read.ReadError.TheVariants.{NotJson, NotWhole, NoMemory};
 
-use cal_model::num::Num;
-use cal_model::text::Text;
-use cal_model::tree::{Member, Tree, TreeList, TreeObject};
+use model_json::num::Num;
+use model_json::text::Text;
+use model_json::tree::{Member, Tree, TreeList, TreeObject};
 use serde_json::{Error, Map, Number, Value};
 use std::alloc::{AllocError, AllocFailed, Global};
 
@@ -58,7 +58,7 @@ fn whole_tree(n: &Number) -> Result<Tree, ReadError>
 
 // Each text is moved into the tree, and each list and object of the value is freed once it was gone through.
 #[cycle(convert)]
-#[tactic(auto, using(cal_model::proofs::Appending::push_option))]
+#[tactic(auto, using(model_json::proofs::Appending::push_option))]
 fn convert(alloc: Global, value: Value) -> Result<Tree, ReadError>
     ensures ok { IfOk result (λ t. whole_of (view value) ≡ Some (data_of t)) }
     ensures float { result ≡ Err NotWhole → whole_of (view value) ≡ None }
@@ -77,7 +77,7 @@ fn convert(alloc: Global, value: Value) -> Result<Tree, ReadError>
 }
 
 #[cycle(convert)]
-#[tactic(auto, using(cal_model::proofs::Appending::push_option))]
+#[tactic(auto, using(model_json::proofs::Appending::push_option))]
 fn convert_items(alloc: Global, items: Vec<Value>) -> Result<Vec<Tree>, ReadError>
     ensures ok { IfOk result (λ v. whole_items (items_view items.items) ≡ Some (map data_of v.items)) }
     ensures float { result ≡ Err NotWhole → whole_items (items_view items.items) ≡ None }
@@ -91,7 +91,7 @@ fn convert_items(alloc: Global, items: Vec<Value>) -> Result<Vec<Tree>, ReadErro
 }
 
 #[cycle(convert)]
-#[tactic(auto, using(cal_model::proofs::Appending::push_option))]
+#[tactic(auto, using(model_json::proofs::Appending::push_option))]
 fn convert_members(alloc: Global, members: Map<String, Value>) -> Result<Vec<Member>, ReadError>
     ensures ok { IfOk result (λ v. whole_members (members_view members.entries) ≡ Some (map pair_of v.items)) }
     ensures ordered { IfOk result (λ v. HasOrderedKeys (map pair_of v.items)) }

@@ -1,5 +1,5 @@
 //! What calls of `next_message` give, as a table writes it.
-use cal_model::tree::{Tree, TreeList, TreeObject};
+use model_json::tree::{Tree, TreeList, TreeObject};
 use http_edge::message::Message;
 use std::alloc::{AllocError, Global};
 

@@ -6,7 +6,7 @@ mod given;
 mod messages;
 mod responses;
 
-use cal_model::tree::Tree;
+use model_json::tree::Tree;
 use findings::Findings;
 use given::named_in;
 use messages::try_input;

@@ -1,11 +1,11 @@
 //! Rows of responses: what a response says, and its bytes.
 ghost use Rattle.std.specs.Prelude.{IfSome};
-ghost use Rattle.cal_model.specs.Http.Responses.{IsStatus};
+ghost use Rattle.model_http.specs.Responses.{IsStatus};
 
 use crate::findings::Findings;
 use crate::given::{is_true_at, text_at};
-use cal_model::text::Text;
-use cal_model::tree::{Tree, TreeObject};
+use model_json::text::Text;
+use model_json::tree::{Tree, TreeObject};
 use http_edge::bytes::Bytes;
 use http_edge::response::{Response, response_bytes};
 use std::alloc::{AllocError, Global};

@@ -1,16 +1,16 @@
 //! Patches of a tree.
 ghost use Rattle.std.specs.Prelude.{◌≡◌, ◌<◌, IfErr, IfOk, Ok, Some, false, length};
 ghost use Rattle.std.specs.List.{list_any};
-ghost use Rattle.cal_model.specs.Patch.{fails, has_parent, is_prefix, patched};
-ghost use Rattle.cal_model.specs.Pointer.{parts};
-ghost use Rattle.cal_model.specs.TreeData.{data_of};
+ghost use Rattle.model_json.specs.Patch.{fails, has_parent, is_prefix, patched};
+ghost use Rattle.model_json.specs.Pointer.{parts};
+ghost use Rattle.model_json.specs.TreeData.{data_of};
 ghost use Rattle.patch_object.specs.Reports.{Reports, ReportsKey};
 ghost use Rattle.patch_object.specs.declared.patch.PatchError.TheVariants.{InvalidPatch, NoMemory};
 
 use crate::place::place;
 use crate::pointer::{Pointer, PointerError, value_at_parts};
-use cal_model::text::Text;
-use cal_model::tree::{Tree, TreeObject};
+use model_json::text::Text;
+use model_json::tree::{Tree, TreeObject};
 use std::alloc::{AllocError, AllocFailed, Global};
 
 /// Why there is no patched tree.

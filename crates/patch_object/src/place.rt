@@ -1,17 +1,17 @@
 //! Puts a value into a tree at the end of a path, or takes out what stands there.
 ghost use Rattle.std.specs.Prelude.{◌≡◌, ◌<◌, IfOk, OnOk, drop, length};
-ghost use Rattle.cal_model.specs.Patch.{on_members, placed_in, put_or_removed};
-ghost use Rattle.cal_model.specs.TreeData.{data_of};
+ghost use Rattle.model_json.specs.Patch.{on_members, placed_in, put_or_removed};
+ghost use Rattle.model_json.specs.TreeData.{data_of};
 
-use cal_model::text::Text;
-use cal_model::tree::{Tree, TreeObject};
+use model_json::text::Text;
+use model_json::tree::{Tree, TreeObject};
 use std::alloc::AllocError;
 
 /// The tree with the member at the end of the parts from the place `i` on put in, or removed where the value is null.
 ///
 /// A path that leads nowhere changes nothing. Takes memory for what is put in.
 #[cycle(place)]
-#[tactic(auto, using(cal_model::specs::Data::pairs_back))]
+#[tactic(auto, using(model_json::specs::Data::pairs_back))]
 pub(crate) fn place(tree: Tree, parts: &[Text], i: usize, value: &Tree) -> Result<Tree, AllocError>
     requires { i < length parts.now }
     ensures { IfOk result (λ t. data_of t ≡ on_members (λ ms. placed_in (drop i parts.now) (data_of value.now) ms) (data_of tree)) }

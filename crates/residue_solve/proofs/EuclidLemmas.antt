@@ -1,9 +1,9 @@
 -- The multiples of a in Euclid's algorithm, modulo n.
 use Rattle.std.proofs.Common.{◌≡◌, ℕ, ◌+◌, ◌*◌, ◌-◌, ◌≤◌, ◌/◌, ◌%◌, ℤ, pos, ◌+ℤ◌, ◌*ℤ◌, arith, neg_ℤ, ap, sym}
 use Rattle.std.proofs.Math.Nat.{div-add-mod'}
-use Rattle.cal_model.proofs.IntRing.{sums, products}
-use Rattle.cal_model.proofs.CongruenceLemmas.{Congruent-rem}
-use Rattle.cal_model.specs.Congruence.{Congruent}
+use Rattle.residue_solve.proofs.IntRing.{sums, products}
+use Rattle.residue_solve.proofs.CongruenceLemmas.{Congruent-rem}
+use Rattle.residue_solve.specs.Congruence.{Congruent}
 
 -- one division carries on what the multipliers leave
 step : (n a m0 m1 m2 t r0 r1 r2 : ℤ) →

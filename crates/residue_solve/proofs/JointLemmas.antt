@@ -1,8 +1,8 @@
 -- The numbers that solve two congruences.
 use Rattle.std.proofs.Common.{◌≡◌, ◌<◌, ◌≤◌, ◌^◌, ℤ, unsigned_abs, mul-le-mul_left, ◌+ℤ◌, ◌-ℤ◌, ◌*ℤ◌, ◌↔◌, arith, ap, sym, subst, refl}
 use Rattle.std.proofs.lemmas.Int.{unsigned_abs-mul}
-use Rattle.cal_model.proofs.IntRing.{sums, products}
-use Rattle.cal_model.specs.Congruence.{Congruent}
+use Rattle.residue_solve.proofs.IntRing.{sums, products}
+use Rattle.residue_solve.specs.Congruence.{Congruent}
 
 -- at q = r + k * m, the congruence on q is one on k
 pub substituted_lem : (n a b r m k : ℤ) → Congruent n ((a *ℤ m) *ℤ k) (b -ℤ a *ℤ r) ↔ Congruent n (a *ℤ (r +ℤ k *ℤ m)) b

@@ -1,8 +1,8 @@
 -- The least of a residue class from a number on.
 use Rattle.std.proofs.Common.{◌≡◌, ℕ, ℤ, pos, ◌+ℤ◌, ◌-ℤ◌, ◌*ℤ◌, ◌≤ℤ◌, ◌<ℤ◌, ◌↔◌, arith, neg_ℤ}
 use Rattle.std.proofs.lemmas.Int.{by_lt_z}
-use Rattle.cal_model.proofs.IntRing.{sums, products, multiple_above}
-use Rattle.cal_model.specs.Congruence.{Congruent}
+use Rattle.residue_solve.proofs.IntRing.{sums, products, multiple_above}
+use Rattle.residue_solve.specs.Congruence.{Congruent}
 use Rattle.residue_solve.specs.Least.{IsLeastFrom}
 
 -- what lies less than n behind `from` and agrees with r is the first from there on that does

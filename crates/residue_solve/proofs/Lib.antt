@@ -1,4 +1,6 @@
 -- The lemmas, by subject.
+pub mod IntRing
+pub mod CongruenceLemmas
 pub mod EuclidLemmas
 pub mod SolutionLemmas
 pub mod JointLemmas

@@ -3,9 +3,9 @@ use Rattle.std.proofs.Common.{◌≡◌, ℕ, suc, ◌*◌, ◌<◌, ◌/◌, �
 use Rattle.std.proofs.Math.IntN.{pos-*ℤ-negsuc}
 use Rattle.std.proofs.Math.Nat.{zero-mod, div-add-mod', div-mul_cancel, dvd-mul_right, mod-eq-zero_of_dvd}
 use borrow.Author.Differences.{up, neg_is}
-use Rattle.cal_model.proofs.IntRing.{sums, products, *ℤ_cancel}
-use Rattle.cal_model.proofs.CongruenceLemmas.{Congruent-sym, Congruent-trans, Congruent-rem}
-use Rattle.cal_model.specs.Congruence.{Congruent}
+use Rattle.residue_solve.proofs.IntRing.{sums, products, *ℤ_cancel}
+use Rattle.residue_solve.proofs.CongruenceLemmas.{Congruent-sym, Congruent-trans, Congruent-rem}
+use Rattle.residue_solve.specs.Congruence.{Congruent}
 use Rattle.residue_solve.specs.declared.congruence.Cong.{Cong}
 use Rattle.residue_solve.specs.Cong.{Solves}
 use Rattle.residue_solve.specs.Euclid.{IsBezout}

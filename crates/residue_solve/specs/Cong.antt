@@ -1,6 +1,6 @@
 -- What solves a congruence, and the sizes that the solver takes.
 use Rattle.std.specs.Prelude.{◌<◌, ◌≤◌, ◌^◌, ℤ, pos, ◌*ℤ◌, unsigned_abs}
-use Rattle.cal_model.specs.Congruence.{Congruent}
+use Rattle.residue_solve.specs.Congruence.{Congruent}
 use Rattle.residue_solve.specs.declared.congruence.Cong.{Cong}
 
 -- q solves a * q = b modulo n

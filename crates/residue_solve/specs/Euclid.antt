@@ -1,7 +1,7 @@
 -- What Euclid's algorithm gives.
 use Rattle.std.specs.Prelude.{ℕ, ◌≤◌, pos, ◌*ℤ◌}
 use Rattle.std.specs.Int.{IsGcd}
-use Rattle.cal_model.specs.Congruence.{Congruent}
+use Rattle.residue_solve.specs.Congruence.{Congruent}
 
 -- gcd is the greatest common divisor of a and n, and a * multiplier leaves it modulo n
 pub record IsBezout (a n gcd multiplier : ℕ) : Type 0 where

@@ -1,4 +1,5 @@
 -- The definitions that the contracts cite.
+pub mod Congruence
 pub mod Cong
 pub mod Euclid
 pub mod Least

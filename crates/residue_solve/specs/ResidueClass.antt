@@ -1,6 +1,6 @@
 -- The numbers of a residue class.
 use Rattle.std.specs.Prelude.{ℤ, pos}
-use Rattle.cal_model.specs.Congruence.{Congruent}
+use Rattle.residue_solve.specs.Congruence.{Congruent}
 use Rattle.residue_solve.specs.declared.residue_class.ResidueClass.{ResidueClass}
 
 -- x is in the class

@@ -1,7 +1,7 @@
 //! Linear congruences: the solutions of one, of two together, and the least of these.
 
 ghost use Rattle.std.specs.Prelude.{◌≡◌, ◌<◌, ◌≤◌, ◌^◌, ◌↔◌, ℤ, pos, ◌+ℤ◌, ◌*ℤ◌, ◌<ℤ◌, unsigned_abs, IfSome, IfNone};
-ghost use Rattle.cal_model.specs.Congruence.{Congruent};
+ghost use Rattle.residue_solve.specs.Congruence.{Congruent};
 ghost use Rattle.residue_solve.specs.Cong.{Solves, SolvesBoth, IsInRange};
 ghost use Rattle.residue_solve.specs.ResidueClass.{IsIn};
 ghost use Rattle.residue_solve.specs.Least.{IsLeastFrom};

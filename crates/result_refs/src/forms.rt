@@ -1,13 +1,13 @@
 //! Arguments that are given both as a value and as a reference.
 ghost use Rattle.std.specs.Prelude.{◌≡◌, is_some, map};
 ghost use Rattle.std.specs.List.{list_any};
-ghost use Rattle.cal_model.specs.Parts.{behind_hash};
-ghost use Rattle.cal_model.specs.Batches.References.{has_both_forms};
-ghost use Rattle.cal_model.specs.TreeData.{pair_of};
+ghost use Rattle.model_json.specs.Parts.{behind_hash};
+ghost use Rattle.model_batch.specs.References.{has_both_forms};
+ghost use Rattle.model_json.specs.TreeData.{pair_of};
 ghost use Rattle.result_refs.specs.Walk.{begins_with, from_key};
 
 use crate::behind_sign::behind;
-use cal_model::tree::{Member, TreeObject};
+use model_json::tree::{Member, TreeObject};
 
 /// Whether an argument is given both as a value and as a reference. Takes no memory.
 ///

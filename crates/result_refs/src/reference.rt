@@ -2,12 +2,12 @@
 ghost use Rattle.std.specs.Prelude.{◌≡◌, IfOk, option_map};
 ghost use Rattle.std.specs.List.{find};
 ghost use Rattle.std.specs.Str.{bytes_eq};
-ghost use Rattle.cal_model.specs.Batches.References.{text_field, value_in_response, value_of_reference};
-ghost use Rattle.cal_model.specs.TreeData.{data_of};
+ghost use Rattle.model_batch.specs.References.{text_field, value_in_response, value_of_reference};
+ghost use Rattle.model_json.specs.TreeData.{data_of};
 
 use crate::path::value_at_path;
-use cal_model::response::Response;
-use cal_model::tree::Tree;
+use model_batch::response::Response;
+use model_json::tree::Tree;
 use std::alloc::{AllocError, Global};
 
 /// The value of a reference, which is an object with the texts `resultOf`, `name` and `path` (RFC 8620 section 3.7).

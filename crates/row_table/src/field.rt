@@ -1,7 +1,7 @@
 //! The names of a configuration's fields.
 ghost use Rattle.std.specs.Prelude.{◌≡◌, codes};
 
-use cal_model::site::Field;
+use model_site::field::Field;
 
 /// The member of a configuration that a field is, and `json` for the whole. Takes no memory.
 pub fn field_name(field: Field) -> &'static str

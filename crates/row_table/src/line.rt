@@ -1,5 +1,5 @@
 //! The lines of a table.
-use cal_model::tree::Tree;
+use model_json::tree::Tree;
 use json_edge::read::{ReadError, read_tree};
 use std::alloc::{AllocError, Global};
 use std::fmt::Write;

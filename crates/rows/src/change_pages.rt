@@ -1,7 +1,7 @@
 //! Pages of changes, worked out by hand from RFC 8620 section 5.2.
 
-use cal_model::entry::{Change, Entry, Kind};
-use cal_model::tree::Tree;
+use model_history::entry::{Change, Entry, Kind};
+use model_json::tree::Tree;
 use state_log::{ChangesError, Journal, WINDOW};
 use std::alloc::Global;
 use std::process::Abort;

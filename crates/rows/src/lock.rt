@@ -6,7 +6,7 @@ use crate::reporting_book::{Answer, Question, Report, ReportingBook, Signature};
 use account_lock::counter::{Add, CounterBook};
 use account_lock::locked::Locked;
 use account_lock::pass::Pass;
-use cal_model::book::Book;
+use model_history::book::Book;
 use std::alloc::Global;
 use std::process::Abort;
 use std::sync::Wait;

@@ -1,7 +1,7 @@
 //! Patches and pointers, worked out by hand from the rules of RFC 8620 section 5.3 and RFC 6901 section 3.
 
-use cal_model::text::Text;
-use cal_model::tree::Tree;
+use model_json::text::Text;
+use model_json::tree::Tree;
 use json_edge::read::read_tree;
 use json_edge::write::tree_text;
 use patch_object::{PatchError, Pointer, PointerError, apply, lookup};

@@ -3,8 +3,8 @@ ghost use Rattle.std.specs.Prelude.{◌≡◌, ◌==◌, [], count_by, slice_get
 ghost use Rattle.rows.specs.Reports.{signature_of};
 
 use account_lock::counter::{self, CounterBook};
-use cal_model::book::Book;
-use cal_model::entry::Entry;
+use model_history::book::Book;
+use model_history::entry::Entry;
 use std::alloc::{AllocError, Global};
 use std::marker::Model;
 
@@ -49,8 +49,8 @@ pub struct ReportingBook {
 impl Model for ReportingBook {
     ghost use Rattle.std.specs.Prelude.{List};
     ghost use Rattle.std.specs.Coded.{codes};
-    ghost use Rattle.cal_model.specs.DataCode.{data_code};
-    ghost use Rattle.cal_model.specs.declared.entry.Entry.{Entry};
+    ghost use Rattle.model_json.specs.DataCode.{data_code};
+    ghost use Rattle.model_history.specs.declared.entry.Entry.{Entry};
 
     ghost Value = { List Entry };
 

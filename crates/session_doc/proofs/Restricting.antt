@@ -5,8 +5,8 @@ use Rattle.std.proofs.lemmas.List.Sums.{fails_before_first}
 use Rattle.std.proofs.lemmas.List.Quantifiers.{position-Some}
 use Rattle.std.specs.List.{position_or_len}
 use Rattle.std.specs.Str.{bytes_eq}
-use Rattle.cal_model.specs.Sites.Configuration.{restrict}
-use Rattle.cal_model.specs.declared.user.Grant.{Grant}
+use Rattle.model_site.specs.Configuration.{restrict}
+use Rattle.model_core.specs.declared.user.Grant.{Grant}
 
 abbrev has_id : List ℕ → Grant → Bool
 has_id id g = bytes_eq g.id id

@@ -1,8 +1,8 @@
 -- The zones at the head of a list of JSON values.
 use Rattle.std.specs.Prelude.{List, [], ◌∷◌, Option, Some, None}
-use Rattle.cal_model.specs.Data.{Data}
-use Rattle.cal_model.specs.Sites.Configuration.{zone_text}
-use Rattle.cal_model.specs.Sites.TimeZones.{ZoneText}
+use Rattle.model_json.specs.Data.{Data}
+use Rattle.model_site.specs.Configuration.{zone_text}
+use Rattle.model_site.specs.TimeZones.{ZoneText}
 
 abbrev pub before : Option ZoneText → List ZoneText → List ZoneText
 before None zones = []

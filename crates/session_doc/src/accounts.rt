@@ -1,16 +1,16 @@
 //! The field `accounts`.
 ghost use Rattle.std.specs.Prelude.{◌≡◌, ◌≤◌, [], IfErr, IfOk, Ok, length, map};
-ghost use Rattle.cal_model.specs.Sites.Configuration.{account_in, accounts_in, has_account, is_good_account, read_behind};
-ghost use Rattle.cal_model.specs.TreeData.{data_of};
-ghost use Rattle.cal_model.specs.declared.site.Field.TheVariants.{Accounts};
+ghost use Rattle.model_site.specs.Configuration.{account_in, accounts_in, has_account, is_good_account, read_behind};
+ghost use Rattle.model_json.specs.TreeData.{data_of};
+ghost use Rattle.model_site.specs.declared.field.Field.TheVariants.{Accounts};
 ghost use Rattle.session_doc.specs.Reports.{ReportsField};
 
 use crate::account::Account;
 use crate::configuration_error::{ConfigurationError, bad};
 use crate::parts::{list_at, text_at};
-use cal_model::site::Field;
-use cal_model::text::Text;
-use cal_model::tree::Tree;
+use model_site::field::Field;
+use model_json::text::Text;
+use model_json::tree::Tree;
 use std::alloc::{AllocError, Global};
 use time_text::read_id;
 

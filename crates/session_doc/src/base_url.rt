@@ -1,15 +1,15 @@
 //! The field `baseUrl`.
 ghost use Rattle.std.specs.Prelude.{◌≡◌, IfErr, IfOk, Ok};
-ghost use Rattle.cal_model.specs.Sites.Configuration.{base_url_in, is_base_url};
-ghost use Rattle.cal_model.specs.TreeData.{data_of};
-ghost use Rattle.cal_model.specs.declared.site.Field.TheVariants.{BaseUrl};
+ghost use Rattle.model_site.specs.Configuration.{base_url_in, is_base_url};
+ghost use Rattle.model_json.specs.TreeData.{data_of};
+ghost use Rattle.model_site.specs.declared.field.Field.TheVariants.{BaseUrl};
 ghost use Rattle.session_doc.specs.Reports.{ReportsField};
 
 use crate::configuration_error::{ConfigurationError, bad};
 use crate::parts::text_at;
-use cal_model::site::Field;
-use cal_model::text::Text;
-use cal_model::tree::Tree;
+use model_site::field::Field;
+use model_json::text::Text;
+use model_json::tree::Tree;
 
 /// The most bytes of a base.
 const MOST_BYTES: usize = 1000;

@@ -1,13 +1,13 @@
 //! The capabilities of the server and of its accounts.
 ghost use Rattle.std.specs.Prelude.{◌≡◌, [], IfOk, pos};
-ghost use Rattle.cal_model.specs.Data.{members_of, object, whole};
-ghost use Rattle.cal_model.specs.Sites.SessionObject.{account_capabilities, capabilities, core_capability};
-ghost use Rattle.cal_model.specs.TreeData.{data_of};
+ghost use Rattle.model_json.specs.Data.{members_of, object, whole};
+ghost use Rattle.model_site.specs.SessionObject.{account_capabilities, capabilities, core_capability};
+ghost use Rattle.model_json.specs.TreeData.{data_of};
 
-use cal_model::method::{AVAILABILITY, CALENDARS, CORE};
-use cal_model::num::Num;
-use cal_model::text::Text;
-use cal_model::tree::{Tree, TreeList, TreeObject};
+use model_core::capability::{AVAILABILITY, CALENDARS, CORE};
+use model_json::num::Num;
+use model_json::text::Text;
+use model_json::tree::{Tree, TreeList, TreeObject};
 use std::alloc::{AllocError, Global};
 
 /// The capabilities of the server (RFC 8620 section 2, draft JMAP for Calendars). Takes memory for them.

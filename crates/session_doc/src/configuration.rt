@@ -1,8 +1,8 @@
 //! Sites from configurations.
 ghost use Rattle.std.specs.Prelude.{◌≡◌, IfErr, IfOk, Ok};
-ghost use Rattle.cal_model.specs.Json.{value};
-ghost use Rattle.cal_model.specs.Sites.Configuration.{configured, site_in, site_read};
-ghost use Rattle.cal_model.specs.TreeData.{data_of};
+ghost use Rattle.model_json.specs.Json.{value};
+ghost use Rattle.model_site.specs.Configuration.{configured, site_in, site_read};
+ghost use Rattle.model_json.specs.TreeData.{data_of};
 ghost use Rattle.session_doc.specs.Reports.{Reports};
 
 use crate::accounts::read_accounts;
@@ -11,8 +11,8 @@ use crate::configuration_error::{ConfigurationError, bad};
 use crate::site::Site;
 use crate::users::read_users;
 use crate::zones::read_zones;
-use cal_model::site::Field;
-use cal_model::tree::Tree;
+use model_site::field::Field;
+use model_json::tree::Tree;
 use json_edge::read::{ReadError, read_tree};
 use std::alloc::Global;
 use std::sync::Arc;

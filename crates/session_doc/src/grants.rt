@@ -2,15 +2,15 @@
 ghost use Rattle.std.specs.Prelude.{◌≡◌, ◌≤◌, [], IfOk, IfSome, Some, ◌<◌, if◌then◌else◌, length, map, option_map, position};
 ghost use Rattle.std.specs.List.{list_any};
 ghost use Rattle.std.specs.Str.{bytes_eq};
-ghost use Rattle.cal_model.specs.Parts.{as_text};
-ghost use Rattle.cal_model.specs.Sites.Configuration.{grant_in, grant_to, grants_in, has_grant, restrict, restrict_all, user_grants};
-ghost use Rattle.cal_model.specs.TreeData.{data_of};
+ghost use Rattle.model_json.specs.Parts.{as_text};
+ghost use Rattle.model_site.specs.Configuration.{grant_in, grant_to, grants_in, has_grant, restrict, restrict_all, user_grants};
+ghost use Rattle.model_json.specs.TreeData.{data_of};
 
 use crate::account::Account;
 use crate::parts::{list_at, optional_list_at};
-use cal_model::text::Text;
-use cal_model::tree::Tree;
-use cal_model::user::{Grant, Grants};
+use model_json::text::Text;
+use model_json::tree::Tree;
+use model_core::user::{Grant, Grants};
 use std::alloc::{AllocError, Global};
 
 /// The grants of a user, in the order of `accounts`, a list of distinct ids; `readOnly` may name some of these, each once.

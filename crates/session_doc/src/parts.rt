@@ -1,12 +1,12 @@
 //! Values of a kind of JSON at a key.
 ghost use Rattle.std.specs.Prelude.{◌≡◌, map, option_map};
-ghost use Rattle.cal_model.specs.Data.{field};
-ghost use Rattle.cal_model.specs.Parts.{list_at, text_at};
-ghost use Rattle.cal_model.specs.Sites.Configuration.{optional_list};
-ghost use Rattle.cal_model.specs.TreeData.{data_of};
+ghost use Rattle.model_json.specs.Data.{field};
+ghost use Rattle.model_json.specs.Parts.{list_at, text_at};
+ghost use Rattle.model_site.specs.Configuration.{optional_list};
+ghost use Rattle.model_json.specs.TreeData.{data_of};
 
-use cal_model::text::Text;
-use cal_model::tree::Tree;
+use model_json::text::Text;
+use model_json::tree::Tree;
 
 /// The text at a key, where this is an object that has one there. Takes no memory.
 pub(crate) fn text_at<'a>(tree: &'a Tree, key: &str) -> Option<&'a Text>
@@ -19,7 +19,7 @@ pub(crate) fn text_at<'a>(tree: &'a Tree, key: &str) -> Option<&'a Text>
 }
 
 /// The items of the list at a key, where this is an object that has one there. Takes no memory.
-#[tactic(auto, using(cal_model::specs::Data::items_back))]
+#[tactic(auto, using(model_json::specs::Data::items_back))]
 pub(crate) fn list_at<'a>(tree: &'a Tree, key: &str) -> Option<&'a [Tree]>
     ensures { option_map (λ items. map data_of items.now) result ≡ list_at key.now (data_of tree.now) }
 {
@@ -30,7 +30,7 @@ pub(crate) fn list_at<'a>(tree: &'a Tree, key: &str) -> Option<&'a [Tree]>
 }
 
 /// The items of the list at a key, and none where there is no value at it, or `null`. Takes no memory.
-#[tactic(auto, using(cal_model::specs::Data::items_back))]
+#[tactic(auto, using(model_json::specs::Data::items_back))]
 pub(crate) fn optional_list_at<'a>(tree: &'a Tree, key: &str) -> Option<&'a [Tree]>
     ensures { option_map (λ items. map data_of items.now) result ≡ optional_list (field key.now (data_of tree.now)) }
 {

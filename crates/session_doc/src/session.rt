@@ -1,17 +1,17 @@
 //! Session objects.
 ghost use Rattle.std.specs.Prelude.{◌≡◌, ◌<◌, ◌++◌, IfOk, length};
-ghost use Rattle.cal_model.specs.Data.{text};
-ghost use Rattle.cal_model.specs.Sites.Configuration.{Site as SiteRecord, user_at};
-ghost use Rattle.cal_model.specs.Sites.SessionObject.{primary_accounts, session_object};
-ghost use Rattle.cal_model.specs.TreeData.{data_of};
+ghost use Rattle.model_json.specs.Data.{text};
+ghost use Rattle.model_site.specs.Configuration.{Site as SiteRecord, user_at};
+ghost use Rattle.model_site.specs.SessionObject.{primary_accounts, session_object};
+ghost use Rattle.model_json.specs.TreeData.{data_of};
 
 use crate::capabilities::capabilities;
 use crate::session_accounts::accounts_object;
 use crate::site::Site;
-use cal_model::method::{AVAILABILITY, CALENDARS};
-use cal_model::text::Text;
-use cal_model::tree::{Tree, TreeObject};
-use cal_model::user::Grant;
+use model_core::capability::{AVAILABILITY, CALENDARS};
+use model_json::text::Text;
+use model_json::tree::{Tree, TreeObject};
+use model_core::user::Grant;
 use std::alloc::{AllocError, Global};
 
 impl Site {

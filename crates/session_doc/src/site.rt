@@ -2,12 +2,12 @@
 ghost use Rattle.std.specs.Prelude.{◌≡◌, ◌<◌, ◌≤◌, All, IfSome, length, position, slice_index_or};
 ghost use Rattle.std.specs.Str.{bytes_eq};
 ghost use Rattle.std.specs.Arc.{arc_value};
-ghost use Rattle.cal_model.specs.Sites.Configuration.{HasItsAccounts, SiteAccount, user_at, user_named, user_of_token};
+ghost use Rattle.model_site.specs.Configuration.{HasItsAccounts, SiteAccount, user_at, user_named, user_of_token};
 
 use crate::account::Account;
 use crate::site_user::SiteUser;
-use cal_model::text::Text;
-use cal_model::user::User;
+use model_json::text::Text;
+use model_core::user::User;
 use std::marker::Model;
 use std::sync::Arc;
 use zone_table::Zones;
@@ -25,7 +25,7 @@ pub struct Site {
 impl Model for Site {
     ghost use Rattle.std.specs.Prelude.{◌<◌, ◌≤◌, length};
     ghost use Rattle.std.specs.Arc.{arc_value};
-    ghost use Rattle.cal_model.specs.Sites.Configuration.{HasItsAccounts, Site as Described};
+    ghost use Rattle.model_site.specs.Configuration.{HasItsAccounts, Site as Described};
 
     ghost Value = { Described };
 

@@ -3,12 +3,12 @@ ghost use Rattle.std.specs.Prelude.{◌≡◌, ◌≤◌, ◌&&◌, [], IfErr, I
 ghost use Rattle.std.specs.List.{list_all, list_any};
 ghost use Rattle.std.specs.Char.{is_ascii_graphic};
 ghost use Rattle.std.specs.Str.{bytes_eq};
-ghost use Rattle.cal_model.specs.Http.Fields.{is_token};
-ghost use Rattle.cal_model.specs.Parts.{text_at};
-ghost use Rattle.cal_model.specs.Sites.Configuration.{is_good_token, is_good_user_name, passing, read_behind, user_in, users_in};
-ghost use Rattle.cal_model.specs.Sites.TimeZones.{is_name};
-ghost use Rattle.cal_model.specs.TreeData.{data_of};
-ghost use Rattle.cal_model.specs.declared.site.Field.TheVariants.{Users};
+ghost use Rattle.model_core.specs.Names.{is_token};
+ghost use Rattle.model_json.specs.Parts.{text_at};
+ghost use Rattle.model_site.specs.Configuration.{is_good_token, is_good_user_name, passing, read_behind, user_in, users_in};
+ghost use Rattle.model_core.specs.Names.{is_name};
+ghost use Rattle.model_json.specs.TreeData.{data_of};
+ghost use Rattle.model_site.specs.declared.field.Field.TheVariants.{Users};
 ghost use Rattle.session_doc.specs.Reports.{ReportsField};
 
 use crate::account::Account;
@@ -16,10 +16,10 @@ use crate::configuration_error::{ConfigurationError, bad};
 use crate::grants::read_grants;
 use crate::parts::{list_at, text_at};
 use crate::site_user::SiteUser;
-use cal_model::site::Field;
-use cal_model::text::Text;
-use cal_model::tree::Tree;
-use cal_model::user::User;
+use model_site::field::Field;
+use model_json::text::Text;
+use model_json::tree::Tree;
+use model_core::user::User;
 use std::alloc::{AllocError, Global};
 
 /// The most users of a site.

@@ -1,15 +1,15 @@
 //! The field `zones`.
 ghost use Rattle.std.specs.Prelude.{◌≡◌, ◌≤◌, [], IfErr, IfOk, Ok, length, map};
-ghost use Rattle.cal_model.specs.Sites.Configuration.{read_behind, zone_in, zone_text, zones_in};
-ghost use Rattle.cal_model.specs.TreeData.{data_of};
+ghost use Rattle.model_site.specs.Configuration.{read_behind, zone_in, zone_text, zones_in};
+ghost use Rattle.model_json.specs.TreeData.{data_of};
 ghost use Rattle.session_doc.specs.LeadingZones.{leading_zones};
 ghost use Rattle.session_doc.specs.Reports.{ReportsField};
 
 use crate::configuration_error::{ConfigurationError, bad};
 use crate::parts::{optional_list_at, text_at};
-use cal_model::site::Field;
-use cal_model::text::Text;
-use cal_model::tree::Tree;
+use model_site::field::Field;
+use model_json::text::Text;
+use model_json::tree::Tree;
 use std::alloc::{AllocError, Global};
 use zone_table::{ZoneError, Zones};
 

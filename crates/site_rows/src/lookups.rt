@@ -1,6 +1,6 @@
 //! How users and accounts are found, against the configuration itself.
-use cal_model::text::Text;
-use cal_model::tree::Tree;
+use model_json::text::Text;
+use model_json::tree::Tree;
 use session_doc::Site;
 use std::alloc::{AllocError, Global};
 

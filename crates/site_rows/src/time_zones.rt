@@ -1,10 +1,10 @@
 //! Rows of time zones: names with their rules, and the table of zones that they come to.
 ghost use Rattle.std.specs.Prelude.{◌≡◌, pos, true};
-ghost use Rattle.cal_model.specs.Data.{whole};
-ghost use Rattle.cal_model.specs.TreeData.{data_of};
+ghost use Rattle.model_json.specs.Data.{whole};
+ghost use Rattle.model_json.specs.TreeData.{data_of};
 
-use cal_model::text::Text;
-use cal_model::tree::{Tree, TreeList, TreeObject};
+use model_json::text::Text;
+use model_json::tree::{Tree, TreeList, TreeObject};
 use std::alloc::{AllocError, Global};
 use zone_table::{ZoneError, Zones};
 

@@ -5,8 +5,8 @@ use Rattle.std.proofs.lemmas.List.{take_more, take-append-drop, drop-append-le, 
 use Rattle.std.proofs.lemmas.List.Elements.{filter-append}
 use Rattle.std.proofs.lemmas.List.Folds.{list_any-append}
 use Rattle.std.proofs.lemmas.List.Sums.{fold-append}
-use Rattle.cal_model.specs.History.{with_id}
-use Rattle.cal_model.specs.Pages.{Mention, ids_of, is_in, is_live, is_touched, size_of_page}
+use Rattle.model_history.specs.History.{with_id}
+use Rattle.model_history.specs.Pages.{Mention, ids_of, is_in, is_live, is_touched, size_of_page}
 use Rattle.state_log.proofs.MentionLemmas.{is_live_untouched, is_named, is_named_here}
 use Rattle.state_log.proofs.SizeLemmas.{is_in-with_id, size_of_page_more}
 use Rattle.state_log.proofs.StandingLemmas.{standing_more}

@@ -1,6 +1,6 @@
 -- What a journal shows.
 use Rattle.std.specs.Prelude.{ℕ, ◌-◌, List, vec_capacity, vec_len}
-use Rattle.cal_model.specs.declared.entry.Entry.{Entry}
+use Rattle.model_history.specs.declared.entry.Entry.{Entry}
 use Rattle.state_log.specs.declared.journal.Journal.{Journal}
 
 -- its entries, of both kinds

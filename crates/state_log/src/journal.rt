@@ -1,12 +1,12 @@
 //! The journal: the entries of an account, in order.
 ghost use Rattle.std.specs.Prelude.{◌≡◌, ◌≤◌, ◌<◌, ◌+◌, ◌++◌, ◌∷◌, ◌↔◌, [], IfOk, IsErrOf, OnOk, false};
-ghost use Rattle.cal_model.specs.History.{changes_of, state_at};
-ghost use Rattle.cal_model.specs.Pages.{is_retained, mentions};
+ghost use Rattle.model_history.specs.History.{changes_of, state_at};
+ghost use Rattle.model_history.specs.Pages.{is_retained, mentions};
 ghost use Rattle.state_log.specs.declared.journal.ChangesError.TheVariants.{NoMemory, NotRetained};
 
 use crate::mention::{count_of, mentions_of};
 use crate::page::{Page, page_from};
-use cal_model::entry::{Entry, Kind};
+use model_history::entry::{Entry, Kind};
 use std::alloc::{AllocError, Global};
 
 /// How many changes back of a kind a state is still answered from.

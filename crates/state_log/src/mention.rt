@@ -1,9 +1,9 @@
 //! What the entries of one kind say of ids.
 ghost use Rattle.std.specs.Prelude.{◌≡◌, IfOk};
-ghost use Rattle.cal_model.specs.History.{changes_of, is_kind, state_at};
-ghost use Rattle.cal_model.specs.Pages.{mentions};
+ghost use Rattle.model_history.specs.History.{changes_of, is_kind, state_at};
+ghost use Rattle.model_history.specs.Pages.{mentions};
 
-use cal_model::entry::{Entry, Kind};
+use model_history::entry::{Entry, Kind};
 use std::alloc::{AllocError, Global};
 use std::marker::Model;
 
@@ -17,7 +17,7 @@ pub(crate) struct Mention {
 }
 
 impl Model for Mention {
-    ghost use Rattle.cal_model.specs.Pages.{Mention as Said};
+    ghost use Rattle.model_history.specs.Pages.{Mention as Said};
 
     ghost Value = { Said };
 

@@ -4,7 +4,7 @@ ghost use Rattle.std.specs.Option.{SomeIff};
 ghost use Rattle.jiff_tz.specs.PosixReader.{read_whole};
 ghost use Rattle.jiff_tz.specs.PosixText.{tz_view};
 
-use cal_model::text::Text;
+use model_json::text::Text;
 use jiff_tz::posix::TimeZone;
 use std::alloc::AllocError;
 use std::marker::Model;

@@ -4,11 +4,12 @@ ghost use Rattle.std.specs.List.{list_any};
 ghost use Rattle.std.specs.Option.{SomeIff};
 ghost use Rattle.std.specs.Str.{bytes_eq};
 ghost use Rattle.zone_table.specs.Reports.{Reports};
-ghost use Rattle.cal_model.specs.Sites.TimeZones.{first_bad_zone, has_zone, is_good_zone, is_name};
+ghost use Rattle.model_core.specs.Names.{is_name};
+ghost use Rattle.model_site.specs.TimeZones.{first_bad_zone, has_zone, is_good_zone};
 ghost use Rattle.zone_table.specs.declared.zones.ZoneError.TheVariants.{NoMemory};
 
 use crate::zone::Zone;
-use cal_model::text::Text;
+use model_json::text::Text;
 use std::alloc::{AllocError, AllocFailed, Global};
 use std::marker::Model;
 

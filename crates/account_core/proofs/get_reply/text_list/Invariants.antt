@@ -1,6 +1,6 @@
 use Rattle.std.proofs.Common.{◌≡◌, map}
-use Rattle.cal_model.specs.Data.{text}
-use Rattle.cal_model.specs.TreeData.{data_of}
+use Rattle.model_json.specs.Data.{text}
+use Rattle.model_json.specs.TreeData.{data_of}
 use Rattle.account_core.proofs.get_reply.text_list.Given as goal
 
 abbrev pub invariant-loop-text : goal.invariant-loop-text

@@ -1,4 +1,4 @@
-use Rattle.cal_model.specs.TreeData.{pair_of}
+use Rattle.model_json.specs.TreeData.{pair_of}
 use Rattle.account_core.proofs.Planning.{accepted_by_tally, refused_by_tally, tally_more, tally_same}
 use Rattle.account_core.proofs.plan.outcome_of_create.Goals as goal
 

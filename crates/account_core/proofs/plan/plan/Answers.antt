@@ -2,7 +2,7 @@ use Rattle.std.proofs.Common.{◌≡◌, ◌++◌, ◌+◌, ◌∷◌, [], arith
 use Rattle.std.proofs.lemmas.Grind.{common_steps}
 use Rattle.account_core.specs.Outcome.{outcome_in}
 use Rattle.cal_model.specs.Sets.{changes_in, outcomes}
-use Rattle.cal_model.specs.TreeData.{pair_of}
+use Rattle.model_json.specs.TreeData.{pair_of}
 use Rattle.account_core.proofs.Planning.{outcomes_push, tally_push}
 use Rattle.account_core.proofs.plan.plan.Goals as goal
 

@@ -2,8 +2,8 @@ use Rattle.std.proofs.Common.{◌≡◌, ◌++◌, List, drop, flat_map, map, ve
 use Rattle.account_core.specs.Outcome.{outcome_in}
 use Rattle.account_core.specs.Tally.{Tallies}
 use Rattle.cal_model.specs.Sets.{changes_in, outcomes}
-use Rattle.cal_model.specs.TreeData.{pair_of}
-use Rattle.cal_model.specs.declared.entry.Change.{Change}
+use Rattle.model_json.specs.TreeData.{pair_of}
+use Rattle.model_history.specs.declared.entry.Change.{Change}
 use Rattle.account_core.proofs.plan.plan.Given as goal
 
 abbrev pub invariant-loop-create : goal.invariant-loop-create

@@ -1,6 +1,6 @@
 use Rattle.std.proofs.Common.{◌≡◌, ◌-◌, drop, flat_map, length, map, option_map, take, arith, ap, ◌∙◌}
 use Rattle.std.proofs.lemmas.Grind.{common_steps}
-use Rattle.cal_model.specs.History.{changes_of, some_object}
+use Rattle.model_history.specs.History.{changes_of, some_object}
 use Rattle.account_core.proofs.Table.{live_in_table}
 use Rattle.account_core.proofs.replay.live.Goals as goal
 

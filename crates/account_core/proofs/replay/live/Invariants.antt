@@ -1,5 +1,5 @@
 use Rattle.std.proofs.Common.{◌≡◌, ◌++◌, drop, flat_map, map, option_map}
-use Rattle.cal_model.specs.History.{changes_of, live_at, some_object}
+use Rattle.model_history.specs.History.{changes_of, live_at, some_object}
 use Rattle.account_core.proofs.replay.live.Given as goal
 
 abbrev pub invariant-loop-object : goal.invariant-loop-object

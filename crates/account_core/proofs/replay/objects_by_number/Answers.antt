@@ -2,7 +2,7 @@ use Rattle.std.proofs.Common.{◌≡◌, ◌+◌, [], None, drop, get_or, map, o
 use Rattle.std.proofs.lemmas.Grind.{common_steps}
 use Rattle.std.proofs.lemmas.List.FromFn.{fill_by_all}
 use Rattle.std.proofs.lemmas.List.{get_or-map}
-use Rattle.cal_model.specs.History.{changes_of, object_at, object_from}
+use Rattle.model_history.specs.History.{changes_of, object_at, object_from}
 use Rattle.account_core.proofs.replay.objects_by_number.Goals as goal
 
 pub returns : goal.returns

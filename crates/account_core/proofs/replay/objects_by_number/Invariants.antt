@@ -1,5 +1,5 @@
 use Rattle.std.proofs.Common.{◌≡◌, ◌<◌, ◌+◌, ℕ, None, drop, get_or, option_map, vec_len}
-use Rattle.cal_model.specs.History.{changes_of, object_at, object_from}
+use Rattle.model_history.specs.History.{changes_of, object_at, object_from}
 use Rattle.account_core.proofs.replay.objects_by_number.Given as goal
 
 abbrev pub invariant-loop-entry : goal.invariant-loop-entry

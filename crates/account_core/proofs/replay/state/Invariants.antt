@@ -1,5 +1,5 @@
 use Rattle.std.proofs.Common.{◌≡◌, take}
-use Rattle.cal_model.specs.History.{changes_of, state_at}
+use Rattle.model_history.specs.History.{changes_of, state_at}
 use Rattle.account_core.proofs.replay.state.Given as goal
 
 abbrev pub invariant-loop-entry : goal.invariant-loop-entry

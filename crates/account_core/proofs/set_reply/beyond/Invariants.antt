@@ -1,6 +1,6 @@
 use Rattle.std.proofs.Common.{◌≡◌, ◌++◌, drop, map}
 use Rattle.cal_model.specs.Sets.{members_beyond}
-use Rattle.cal_model.specs.TreeData.{pair_of}
+use Rattle.model_json.specs.TreeData.{pair_of}
 use Rattle.account_core.proofs.set_reply.beyond.Given as goal
 
 abbrev pub invariant-loop-member : goal.invariant-loop-member

@@ -1,6 +1,6 @@
 use Rattle.std.proofs.Common.{◌≡◌, ◌≤◌, ◌+◌, drop, flat_map, map}
 use Rattle.account_core.specs.Outcome.{outcome_in}
-use Rattle.cal_model.specs.History.{state_at}
+use Rattle.model_history.specs.History.{state_at}
 use Rattle.cal_model.specs.Sets.{changes_in}
 use Rattle.account_core.proofs.set_reply.count.Given as goal
 

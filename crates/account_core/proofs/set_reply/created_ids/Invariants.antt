@@ -1,7 +1,7 @@
 use Rattle.std.proofs.Common.{◌≡◌, ◌++◌, drop, map}
 use Rattle.account_core.specs.Outcome.{outcome_in}
 use Rattle.cal_model.specs.Sets.{created_id, of_each}
-use Rattle.cal_model.specs.TreeData.{pair_of}
+use Rattle.model_json.specs.TreeData.{pair_of}
 use Rattle.account_core.proofs.set_reply.created_ids.Given as goal
 
 abbrev pub invariant-loop-i : goal.invariant-loop-i

@@ -1,6 +1,6 @@
 use Rattle.std.proofs.Common.{◌≡◌, drop, map}
-use Rattle.cal_model.specs.Data.{lookup}
-use Rattle.cal_model.specs.TreeData.{pair_of}
+use Rattle.model_json.specs.Data.{lookup}
+use Rattle.model_json.specs.TreeData.{pair_of}
 use Rattle.account_core.proofs.set_reply.is_given.Given as goal
 
 abbrev pub invariant-loop-other : goal.invariant-loop-other

@@ -1,6 +1,6 @@
 use Rattle.std.proofs.Common.{◌≡◌, ℕ, ◌∷◌, [], List, Option, Some, subst, sym, refl, rules}
 use Rattle.atomic_table.specs.Table.{opening}
-use Rattle.cal_model.specs.LockSteps.{new_pass}
+use Rattle.account_lock.specs.LockSteps.{new_pass}
 use Rattle.account_lock.specs.Rule.{RuleHolds}
 use Rattle.account_lock.proofs.StepLemmas.{opens}
 use Rattle.account_lock.proofs.locked.lay_table.Goals as goal

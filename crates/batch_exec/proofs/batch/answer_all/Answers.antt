@@ -1,9 +1,9 @@
 use Rattle.std.proofs.Common.{◌≡◌, ◌∷◌, ◌++◌, [], ◌<◌, All, List, Ok, Err, sym, subst, arith, rules}
 use Rattle.std.proofs.lemmas.Grind.{common_steps}
 use Rattle.std.specs.Vec.Iter.{into_iter_items}
-use Rattle.cal_model.specs.declared.request.Invocation.{Invocation}
-use Rattle.cal_model.specs.declared.request.Request.{Request}
-use Rattle.cal_model.specs.declared.response.Response.{Response}
+use Rattle.model_batch.specs.declared.request.Invocation.{Invocation}
+use Rattle.model_batch.specs.declared.request.Request.{Request}
+use Rattle.model_batch.specs.declared.response.Response.{Response}
 use Rattle.batch_exec.specs.Answering.{Going}
 use Rattle.batch_exec.proofs.Progressing.{going_first, goes_on, took}
 use Rattle.batch_exec.proofs.batch.answer_all.Goals as goal

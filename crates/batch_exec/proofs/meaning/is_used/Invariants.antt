@@ -1,5 +1,5 @@
 use Rattle.std.proofs.Common.{◌≡◌, drop}
-use Rattle.cal_model.specs.Batches.Methods.{uses}
+use Rattle.model_call.specs.Methods.{uses}
 use Rattle.batch_exec.proofs.meaning.is_used.Given as goal
 
 abbrev pub invariant-loop-name : goal.invariant-loop-name

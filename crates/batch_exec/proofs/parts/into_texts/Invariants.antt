@@ -1,7 +1,7 @@
 use Rattle.std.proofs.Common.{◌≡◌, ◌++◌, map, option_map}
 use Rattle.std.specs.Vec.Iter.{into_iter_items}
-use Rattle.cal_model.specs.Parts.{all_some, as_text}
-use Rattle.cal_model.specs.TreeData.{data_of}
+use Rattle.model_json.specs.Parts.{all_some, as_text}
+use Rattle.model_json.specs.TreeData.{data_of}
 use Rattle.batch_exec.proofs.parts.into_texts.Given as goal
 
 abbrev pub invariant-loop-item : goal.invariant-loop-item

@@ -1,6 +1,6 @@
 use Rattle.std.proofs.Common.{◌≡◌, drop}
 use Rattle.std.specs.List.{list_all}
-use Rattle.cal_model.specs.Batches.Methods.{is_capability}
+use Rattle.model_core.specs.Capabilities.{is_capability}
 use Rattle.batch_exec.proofs.request.are_capabilities.Given as goal
 
 abbrev pub invariant-loop-name : goal.invariant-loop-name

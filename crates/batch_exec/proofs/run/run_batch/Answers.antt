@@ -1,5 +1,5 @@
 use Rattle.std.proofs.Common.{◌≡◌, rules, w64, to_z, of_z, subst, ℤ}
-use Rattle.cal_model.specs.TreeData.{data_of}
+use Rattle.model_json.specs.TreeData.{data_of}
 use Rattle.batch_exec.specs.Answering.{IsRequestAnswered}
 use Rattle.batch_exec.proofs.Finishing.{batch_of_request}
 use Rattle.batch_exec.proofs.run.run_batch.Goals as goal

@@ -1,6 +1,6 @@
 use Rattle.std.proofs.Common.{◌∙◌, ap, rules, subst, sym}
-use Rattle.cal_model.specs.Batches.Asked.{Asked}
-use Rattle.cal_model.specs.Batches.Reply.{asked_by_reading}
+use Rattle.model_batch.specs.Asked.{Asked}
+use Rattle.model_batch.specs.Reply.{asked_by_reading}
 use Rattle.conn_serve.proofs.Replying.{as_read, over_limit, refused_reply}
 use Rattle.conn_serve.specs.Answering.{IsReply}
 use Rattle.conn_serve.proofs.reply.reply_to.Goals as goal

@@ -1,5 +1,5 @@
 use Rattle.std.proofs.Common.{◌≡◌, rules, w64, to_z, of_z}
-use Rattle.cal_model.specs.TreeData.{data_of}
+use Rattle.model_json.specs.TreeData.{data_of}
 use Rattle.conn_serve.proofs.Replying.{memory_of_batch, refused_of_batch}
 use Rattle.conn_serve.proofs.reply.reply_to_tree.Goals as goal
 

@@ -1,5 +1,5 @@
 use Rattle.std.proofs.Common.{rules, ◌≡◌, ◌≤◌, ◌<◌, ◌∙◌, ℕ, List, length, min, sym, ap, arith}
-use Rattle.cal_model.specs.Http.Heads.{head_end, head_length, unended}
+use Rattle.model_http.specs.Heads.{head_end, head_length, unended}
 use Rattle.http_edge.specs.Reading.{StopCause}
 use Rattle.http_edge.proofs.Ends.{front_same, front_end, front_full, front_open, open_none}
 use Rattle.http_edge.proofs.Searching.{searched_none}

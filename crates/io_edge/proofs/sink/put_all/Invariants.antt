@@ -1,5 +1,5 @@
 use Rattle.std.proofs.Common.{◌-◌, ◌≤◌, length, take}
-use Rattle.cal_model.specs.Outside.{Grows}
+use Rattle.io_edge.specs.Outside.{Grows}
 use Rattle.io_edge.proofs.sink.put_all.Given as goal
 
 abbrev pub invariant-loop-given : goal.invariant-loop-given

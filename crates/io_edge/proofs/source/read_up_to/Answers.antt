@@ -1,6 +1,6 @@
 use Rattle.std.proofs.Common.{◌+◌, ◌++◌, ◌≤◌, length, take, length-append, arith, rules}
 use Rattle.std.proofs.lemmas.Grind.{common_steps}
-use Rattle.cal_model.specs.Outside.{ConsumesAtMost}
+use Rattle.io_edge.specs.Outside.{ConsumesAtMost}
 use Rattle.io_edge.proofs.Pieces.{consumed_more}
 use Rattle.io_edge.proofs.source.read_up_to.Goals as goal
 

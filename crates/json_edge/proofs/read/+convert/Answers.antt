@@ -1,6 +1,6 @@
 use Rattle.std.proofs.Common.{◌≡◌, ◌∙◌, map, string_bytes, ap, append-nil, Some}
 use Rattle.std.proofs.lemmas.List.{map-append}
-use Rattle.cal_model.specs.TreeData.{data_of, pair_of}
+use Rattle.model_json.specs.TreeData.{data_of, pair_of}
 use Rattle.json_edge.proofs.Steps.{members_more, rises}
 use Rattle.json_edge.proofs.read.+convert.Goals as goal
 

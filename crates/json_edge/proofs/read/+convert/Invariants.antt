@@ -1,8 +1,8 @@
 use Rattle.std.proofs.Common.{◌≡◌, ◌++◌, map, option_map}
 use Rattle.std.specs.Vec.Iter.{into_iter_items}
-use Rattle.cal_model.specs.TreeData.{data_of, pair_of}
+use Rattle.model_json.specs.TreeData.{data_of, pair_of}
 use Rattle.serde_json.specs.View.{items_view, members_view}
-use Rattle.cal_model.specs.Json.{whole_items, whole_members}
+use Rattle.model_json.specs.Json.{whole_items, whole_members}
 use Rattle.json_edge.proofs.read.+convert.Given as goal
 
 abbrev pub invariant-convert_items-loop-item : goal.invariant-convert_items-loop-item

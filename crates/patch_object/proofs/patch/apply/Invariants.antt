@@ -1,6 +1,6 @@
 use Rattle.std.proofs.Common.{◌≡◌, [], drop, map}
-use Rattle.cal_model.specs.Patch.{first_failing, placed_all}
-use Rattle.cal_model.specs.TreeData.{data_of, pair_of}
+use Rattle.model_json.specs.Patch.{first_failing, placed_all}
+use Rattle.model_json.specs.TreeData.{data_of, pair_of}
 use Rattle.patch_object.proofs.patch.apply.Given as goal
 
 abbrev pub invariant-loop-member : goal.invariant-loop-member

@@ -1,5 +1,5 @@
 use Rattle.std.proofs.Common.{◌≡◌, drop}
-use Rattle.cal_model.specs.Patch.{is_prefix}
+use Rattle.model_json.specs.Patch.{is_prefix}
 use Rattle.patch_object.proofs.patch.begins.Given as goal
 
 abbrev pub invariant-loop-i : goal.invariant-loop-i

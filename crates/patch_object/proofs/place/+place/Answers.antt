@@ -1,6 +1,6 @@
 use Rattle.std.proofs.Common.{arith}
 use Rattle.std.proofs.lemmas.Grind.{common_steps}
-use Rattle.cal_model.specs.TreeData.{data_of}
+use Rattle.model_json.specs.TreeData.{data_of}
 use Rattle.patch_object.proofs.Paths.{placed_nowhere, placed_within}
 use Rattle.patch_object.proofs.place.+place.Goals as goal
 

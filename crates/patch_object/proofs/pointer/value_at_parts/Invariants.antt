@@ -1,6 +1,6 @@
 use Rattle.std.proofs.Common.{◌≡◌, drop}
-use Rattle.cal_model.specs.Pointer.{value_at}
-use Rattle.cal_model.specs.TreeData.{data_of}
+use Rattle.model_json.specs.Pointer.{value_at}
+use Rattle.model_json.specs.TreeData.{data_of}
 use Rattle.patch_object.proofs.pointer.value_at_parts.Given as goal
 
 abbrev pub invariant-loop-part : goal.invariant-loop-part

@@ -2,7 +2,7 @@
 use Rattle.std.proofs.Common.{rules, ◌≡◌, pos, arith, FitsSigned, w64, to_z, of_z, ap, ◌∙◌, unsigned_abs}
 use Rattle.std.specs.Int.{int_rem_euclid}
 use Rattle.std.proofs.lemmas.Int.{ints, to_z-of_z}
-use Rattle.cal_model.proofs.CongruenceLemmas.{Congruent-rem_euclid}
+use Rattle.residue_solve.proofs.CongruenceLemmas.{Congruent-rem_euclid}
 use Rattle.residue_solve.proofs.congruence.reduced.Goals as goal
 
 pub returns-clause-same : goal.returns-clause-same

@@ -1,7 +1,7 @@
 -- Two remainders of the algorithm, and the multipliers whose products with a leave them.
 use Rattle.std.proofs.Common.{◌<◌, ◌≤◌, ℕ, pos, ◌*ℤ◌}
 use Rattle.std.specs.Int.{IsGcd}
-use Rattle.cal_model.specs.Congruence.{Congruent}
+use Rattle.residue_solve.specs.Congruence.{Congruent}
 use Rattle.residue_solve.proofs.euclid.extended_gcd.Given as goal
 
 abbrev pub invariant-loop-rest : goal.invariant-loop-rest

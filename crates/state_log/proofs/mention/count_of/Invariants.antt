@@ -1,5 +1,5 @@
 use Rattle.std.proofs.Common.{◌≡◌, ◌+◌, drop}
-use Rattle.cal_model.specs.History.{changes_of, state_at}
+use Rattle.model_history.specs.History.{changes_of, state_at}
 use Rattle.state_log.proofs.mention.count_of.Given as goal
 
 abbrev pub invariant-loop-entry : goal.invariant-loop-entry

@@ -1,6 +1,6 @@
 use Rattle.std.proofs.Common.{◌≡◌, ◌++◌, drop}
-use Rattle.cal_model.specs.History.{changes_of}
-use Rattle.cal_model.specs.Pages.{mentions}
+use Rattle.model_history.specs.History.{changes_of}
+use Rattle.model_history.specs.Pages.{mentions}
 use Rattle.state_log.proofs.mention.mentions_of.Given as goal
 
 abbrev pub invariant-loop-entry : goal.invariant-loop-entry

@@ -1,7 +1,7 @@
 use Rattle.std.proofs.Common.{◌≡◌, ◌==◌, ℕ, take, false, nat_eq}
 use Rattle.std.specs.HashMap.{get}
 use Rattle.std.specs.List.{list_any}
-use Rattle.cal_model.specs.Pages.{is_live}
+use Rattle.model_history.specs.Pages.{is_live}
 use Rattle.state_log.specs.Standing.{is_named_after, only_if}
 use Rattle.state_log.proofs.standing.standings_from.Given as goal
 

@@ -1,5 +1,5 @@
 use Rattle.std.proofs.Common.{◌≡◌, map, take}
-use Rattle.cal_model.specs.Headline.{bases}
+use Rattle.account_desk.specs.FreshDesk.{bases}
 use Rattle.account_desk.proofs.FreshLemmas.{opened}
 use Rattle.account_desk.proofs.sole_desk.SoleDesk.open.Given as goal
 

@@ -1,12 +1,12 @@
 use Rattle.std.proofs.Common.{◌≡◌, ◌<◌, ◌+◌, ℕ, ℤ, List, [], Result, arith, rules, subst, sym, length, set, w64, to_z, of_z}
 use Rattle.std.proofs.lemmas.List.{get_or_read}
-use Rattle.cal_model.specs.Base.{Base}
-use Rattle.cal_model.specs.Batches.Session.{Called}
-use Rattle.cal_model.specs.Headline.{no_base}
-use Rattle.cal_model.specs.Lock.{most_turns}
-use Rattle.cal_model.specs.declared.call.Reply.{Reply}
-use Rattle.cal_model.specs.declared.desk.DeskError.{DeskError}
-use Rattle.cal_model.specs.declared.entry.Entry.{Entry}
+use Rattle.model_history.specs.Base.{Base}
+use Rattle.model_batch.specs.Session.{Called}
+use Rattle.account_desk.specs.FreshDesk.{no_base}
+use Rattle.model_history.specs.MostTurns.{most_turns}
+use Rattle.model_call.specs.declared.call.Reply.{Reply}
+use Rattle.model_batch.specs.declared.desk.DeskError.{DeskError}
+use Rattle.model_history.specs.declared.entry.Entry.{Entry}
 use Rattle.account_desk.specs.SoleDesk.{of_desk, shown_of}
 use Rattle.account_desk.proofs.SoleLemmas.{sole_called, still_sole}
 use Rattle.account_desk.proofs.sole_desk.SoleDeskDesk.call.Goals as goal

@@ -1,9 +1,9 @@
 use Rattle.std.proofs.Common.{◌≡◌, ◌≢◌, ◌-◌, ◌<◌, ◌^◌, ℕ, ℤ, rules, subst, sym, w64, to_z, of_z, Result}
-use Rattle.cal_model.specs.Batches.Session.{Called}
-use Rattle.cal_model.specs.Lock.{most_turns}
-use Rattle.cal_model.specs.declared.call.Reply.{Reply}
-use Rattle.cal_model.specs.declared.desk.DeskError.{DeskError}
-use Rattle.cal_model.specs.declared.stamp.Stamp.{Stamp}
+use Rattle.model_batch.specs.Session.{Called}
+use Rattle.model_history.specs.MostTurns.{most_turns}
+use Rattle.model_call.specs.declared.call.Reply.{Reply}
+use Rattle.model_batch.specs.declared.desk.DeskError.{DeskError}
+use Rattle.model_history.specs.declared.stamp.Stamp.{Stamp}
 use Rattle.desk_rows.specs.Pair.{pair_shown}
 use Rattle.desk_rows.proofs.PairLemmas.{second_called, stamp_next}
 use Rattle.desk_rows.proofs.pair_desk.PairDeskDesk.call.Goals as goal

@@ -1,5 +1,5 @@
 use Rattle.std.proofs.Common.{◌≡◌, map, drop, string_bytes}
-use Rattle.cal_model.specs.Outside.{file_named}
+use Rattle.io_edge.specs.Outside.{file_named}
 use Rattle.io_edge.proofs.memory_opener.SureOpenerOpener.load.Given as goal
 
 abbrev pub invariant-loop-file : goal.invariant-loop-file

@@ -2,7 +2,7 @@
 use Rattle.std.proofs.Common.{rules, ◌≡◌, pos, ◌+ℤ◌, ◌-ℤ◌, ◌≤ℤ◌, ◌<ℤ◌, arith, FitsSigned}
 use Rattle.std.specs.Int.{w128, int_rem_euclid}
 use Rattle.std.proofs.lemmas.Int.{ints, to_z-of_z}
-use Rattle.cal_model.proofs.CongruenceLemmas.{Congruent-rem_euclid}
+use Rattle.residue_solve.proofs.CongruenceLemmas.{Congruent-rem_euclid}
 use Rattle.residue_solve.proofs.LeastLemmas.{least_of_class}
 use Rattle.residue_solve.proofs.residue_class.ResidueClass.next_from.Goals as goal
 

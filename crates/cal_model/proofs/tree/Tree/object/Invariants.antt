@@ -1,7 +1,0 @@
-use Rattle.std.proofs.Common.{◌≡◌, map}
-use Rattle.cal_model.specs.TreeData.{keyed}
-use Rattle.cal_model.specs.TreeData.{pair_of}
-use Rattle.cal_model.proofs.tree.Tree.object.Given as goal
-
-abbrev pub invariant-loop-key : goal.invariant-loop-key
-invariant-loop-key l = map pair_of l.all.items ≡ map keyed l.yielded

@@ -1,0 +1,34 @@
+-- What answering one request does, whatever bytes come.
+use Rattle.std.specs.Prelude.{◌≡◌, ◌≤◌, ◌+◌, ℕ, ℤ, List, [], ◌∷◌, ◌++◌, Bool, Option, length}
+use Rattle.std.specs.Io.KnownBytes.{Consumes, IsAtEnd}
+use Rattle.account_desk.specs.FreshDesk.{IsSole, fresh_desk}
+use Rattle.model_batch.specs.Asked.{is_refused}
+use Rattle.model_batch.specs.Reply.{Replies, asked_in, clamped, max_size_request}
+use Rattle.model_batch.specs.Session.{Made, Session, Shown}
+use Rattle.model_json.specs.Data.{Data}
+use Rattle.model_json.specs.Json.{text_of}
+use Rattle.io_edge.specs.Outside.{Ticks}
+use Rattle.model_site.specs.Configuration.{Site, user_at}
+
+-- This is the text that answers bytes for a user of a site at a moment: of the response, or of the problem of a request that is refused
+-- as a whole, with a line feed. The calls are a session on fresh accounts, in which nobody else takes part.
+pub record IsAnswer (site : Site) (user : ℕ) (moment : ℤ) (bytes : List ℕ) (is_refusal : Bool) (text : List ℕ) : Type 0 where
+  pub made : List Made
+  pub desk : Shown
+  pub session : Session (fresh_desk site) desk made
+  pub sole : IsSole desk
+  pub reply : Data
+  pub replied : Replies (user_at site user) moment (asked_in bytes) made reply
+  pub refusal : is_refused (asked_in bytes) ≡ is_refusal
+  pub written : text ≡ text_of reply ++ 10 ∷ []
+
+-- The input was read to its end, or to one byte past the most of a request; the clock was read once; and this is the text that answers
+-- these bytes at that moment.
+pub record Answers (site : Site) (user : ℕ) (left left' : Option (List ℕ)) (moments moments' : Option (ℕ → ℤ)) (is_refusal : Bool) (text : List ℕ) : Type 0 where
+  pub bytes : List ℕ
+  pub consumed : Consumes left left' bytes
+  pub most : length bytes ≤ max_size_request + 1
+  pub whole : length bytes ≤ max_size_request → IsAtEnd left'
+  pub moment : ℤ
+  pub ticked : Ticks moments moments' moment
+  pub answer : IsAnswer site user (clamped moment) bytes is_refusal text

@@ -1,0 +1,8 @@
+pub mod Requests
+pub mod Asked
+pub mod Problem
+pub mod References
+pub mod Meaning
+pub mod Session
+pub mod Batch
+pub mod Reply

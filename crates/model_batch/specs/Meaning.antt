@@ -1,0 +1,45 @@
+-- What an invocation of a request means: an error, an answer without an account, or a call on an account (RFC 8620 sections 3.6.2 and 3.7).
+use Rattle.std.specs.Prelude.{ℕ, List, [], ◌∷◌, ◌&&◌, Option, Some, None, codes, if◌then◌else◌}
+use Rattle.std.specs.Str.{bytes_eq}
+use Rattle.model_call.specs.Arguments.{are_well_given}
+use Rattle.model_call.specs.Calls.{call_of, text_argument}
+use Rattle.model_json.specs.Data.{Pair}
+use Rattle.model_call.specs.Methods.{is_set}
+use Rattle.model_batch.specs.References.{Resolution, both_forms, bad_reference, resolved, resolution}
+use Rattle.model_call.specs.declared.call.Call.{Call}
+use Rattle.model_call.specs.declared.call.MethodError.{MethodError}
+use Rattle.model_call.specs.declared.call.MethodError.TheVariants.{UnknownMethod, InvalidArguments, InvalidResultReference, AccountNotFound, AccountReadOnly}
+use Rattle.model_call.specs.declared.method.Method.{Method}
+use Rattle.model_batch.specs.declared.response.Response.{Response}
+use Rattle.model_core.specs.declared.user.Grant.{Grant}
+
+-- what an invocation comes to: an error, its own arguments, or a call on an account
+pub data Meaning : Type 0 where
+  refuses : MethodError → Meaning
+  echoes : List Pair → Meaning
+  calls : ℕ → Call → Meaning
+
+-- the grant of an account of this id
+abbrev pub grant_of : List ℕ → List Grant → Option Grant
+grant_of id [] = None
+grant_of id (g ∷ gs) = if bytes_eq g.id id then Some g else grant_of id gs
+
+abbrev pub meaning_on : Method → Call → Option Grant → Meaning
+meaning_on m call None = refuses AccountNotFound
+meaning_on m call (Some g) = if g.read_only && is_set m then refuses AccountReadOnly else calls g.account call
+
+-- the call of a method on one of these accounts; `Core/echo` has none (RFC 8620 section 4)
+abbrev pub meaning_of_call : List Grant → Method → List Pair → Option Call → Meaning
+meaning_of_call grants m arguments None = echoes arguments
+meaning_of_call grants m arguments (Some call) = meaning_on m call (grant_of (text_argument arguments (codes "accountId")) grants)
+
+module _ (grants : List Grant) (created : List (List ℕ × List ℕ)) where
+  abbrev pub meaning_of_arguments : Method → Resolution → Meaning
+  meaning_of_arguments m both_forms = refuses InvalidArguments
+  meaning_of_arguments m bad_reference = refuses InvalidResultReference
+  meaning_of_arguments m (resolved arguments) =
+      if are_well_given m arguments then meaning_of_call grants m arguments (call_of arguments created m) else refuses InvalidArguments
+
+  abbrev pub meaning_of_method : List Response → List Pair → Option Method → Meaning
+  meaning_of_method responses arguments None = refuses UnknownMethod
+  meaning_of_method responses arguments (Some m) = meaning_of_arguments m (resolution responses arguments)

@@ -1,0 +1,48 @@
+-- What bytes ask for, and what is replied.
+use Rattle.std.specs.Prelude.{◌≡◌, ℕ, ℤ, pos, List, [], ◌++◌, length, map, nat_lt, if◌then◌else◌}
+use Rattle.std.specs.Int.{int_min, int_max}
+use Rattle.model_batch.specs.Asked.{Asked, asked, refused, asked_by}
+use Rattle.model_batch.specs.Batch.{Step, Fit, made_in, response_object}
+use Rattle.model_batch.specs.Problem.{problem}
+use Rattle.model_batch.specs.Session.{Made}
+use Rattle.model_json.specs.Data.{Data}
+use Rattle.model_json.specs.Json.{Reading, not_json, not_whole, value, reading}
+use Rattle.model_batch.specs.declared.request.Invocation.{Invocation}
+use Rattle.model_batch.specs.declared.request.Limit.TheVariants.{SizeRequest}
+use Rattle.model_batch.specs.declared.request.Request.{Request}
+use Rattle.model_batch.specs.declared.request.RequestError.TheVariants.{NotJson, NotRequest, Limit}
+use Rattle.model_core.specs.declared.user.User.{User}
+
+-- the most bytes of a request (RFC 8620 section 2, `maxSizeRequest`)
+abbrev pub max_size_request : ℕ
+max_size_request = 10000000
+
+abbrev pub asked_by_reading : Reading → Asked
+asked_by_reading not_json = refused NotJson
+asked_by_reading not_whole = refused NotRequest
+asked_by_reading (value d) = asked_by d
+
+-- what bytes ask for
+abbrev pub asked_in : List ℕ → Asked
+asked_in bytes = if nat_lt max_size_request (length bytes) then refused (Limit SizeRequest) else asked_by_reading (reading bytes)
+
+-- moments lie from 1970 to the end of the year 9998, in seconds of UTC
+abbrev pub clamped : ℤ → ℤ
+clamped moment = int_max (pos 0) (int_min moment (pos 253370764799))
+
+-- This is the reply to what was asked, for a user at a moment, where these calls were made: the response to a request,
+-- each of whose invocations was answered, or the problem that tells why it was refused, with no call.
+abbrev pub Replies : User → ℤ → Asked → List Made → Data → Type 0
+Replies user moment (asked r) made reply =
+    (steps : List Step) × (r.calls ≡ map (λ s. s.invocation) steps) × Fit user r moment [] steps × (made ≡ made_in steps) × (reply ≡ response_object r steps)
+Replies user moment (refused e) made reply = (made ≡ []) × (reply ≡ problem e)
+
+-- The first invocations of a request were answered, with these calls; it has no reply.
+pub record BeginsReply (user : User) (moment : ℤ) (what : Asked) (made : List Made) : Type 0 where
+  pub request : Request
+  pub is_request : what ≡ asked request
+  pub steps : List Step
+  pub rest : List Invocation
+  pub invoked : request.calls ≡ map (λ s. s.invocation) steps ++ rest
+  pub fit : Fit user request moment [] steps
+  pub made_is : made ≡ made_in steps

@@ -1,0 +1,43 @@
+//! What answers calls on accounts.
+ghost use Rattle.std.specs.Prelude.{◌≡◌, ◌<◌, ◌^◌};
+ghost use Rattle.model_batch.specs.Session.{Shown, Called};
+
+use model_call::call::{Call, Reply};
+
+/// At which entries of an account's history a call was answered.
+#[derive(Clone, Copy, Debug, PartialEq, Eq, Drop)]
+pub struct Front {
+    /// The number of the account, from 0.
+    pub account: u32,
+    /// The number of entries of the account's history before this call's own.
+    pub place: u64,
+}
+
+/// Why a call wasn't answered.
+#[derive(Clone, Copy, Debug, PartialEq, Eq, Drop)]
+pub enum DeskError {
+    /// The desk made as many calls as it may.
+    PassSpent,
+    /// Memory was wanted.
+    NoMemory,
+}
+
+/// What answers calls on accounts, which other desks may share.
+///
+/// Contracts see of each account its base, the entries that this desk has seen, the author number that it signs with, and
+/// its last turn there; besides the number of accounts and of the calls that were made.
+pub trait Desk {
+    ghost shown: { Self → Shown };
+
+    /// The number of accounts, which no call changes. Takes no memory.
+    fn accounts(&self) -> u32
+        ensures { result ≡ (shown self.now).accounts };
+
+    /// Answers a call on an account, at a moment in seconds of UTC from 1970.
+    ///
+    /// PassSpent comes exactly where 2^40 calls were made, and changes nothing. After want of memory nothing of this call
+    /// was added; entries of others may have come.
+    fn call(&mut self, account: u32, call: &Call, moment: i64) -> Result<Reply, DeskError>
+        requires { account < (shown self.old).accounts }
+        ensures called { Called (shown self.old) (shown self.new) account call.now moment result };
+}

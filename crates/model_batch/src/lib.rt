@@ -1,0 +1,6 @@
+//! Requests, what each of their invocations means, their responses, and what answers calls.
+#![tactic(auto)]
+
+pub mod desk;
+pub mod request;
+pub mod response;

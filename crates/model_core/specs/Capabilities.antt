@@ -1,0 +1,16 @@
+-- The capabilities that requests may use (RFC 8620 sections 2 and 3.3, draft JMAP for Calendars).
+use Rattle.std.specs.Prelude.{ℕ, List, ◌||◌, Bool, codes}
+use Rattle.std.specs.Str.{bytes_eq}
+
+abbrev pub core : List ℕ
+core = codes "urn:ietf:params:jmap:core"
+
+abbrev pub calendars : List ℕ
+calendars = codes "urn:ietf:params:jmap:calendars"
+
+abbrev pub availability : List ℕ
+availability = codes "urn:ietf:params:jmap:principals:availability"
+
+-- a capability that a request may use
+abbrev pub is_capability : List ℕ → Bool
+is_capability u = bytes_eq u core || (bytes_eq u calendars || bytes_eq u availability)

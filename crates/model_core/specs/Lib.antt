@@ -1,0 +1,3 @@
+pub mod Id
+pub mod Capabilities
+pub mod Names

@@ -1,0 +1,7 @@
+pub mod Base
+pub mod Signed
+pub mod MostTurns
+pub mod History
+pub mod ObjectId
+pub mod Pages
+pub mod PagesLead

@@ -1,0 +1,5 @@
+-- How many calls one author may make.
+use Rattle.std.specs.Prelude.{ℕ, ◌^◌}
+
+abbrev pub most_turns : ℕ
+most_turns = 2 ^ 40

@@ -1,0 +1,2 @@
+//! HTTP/1.1 (RFC 9112): messages and responses as bytes.
+#![tactic(auto)]

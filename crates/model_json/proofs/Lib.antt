@@ -1,0 +1,6 @@
+pub mod Appending
+pub mod KeyOrder
+pub mod EditLemmas
+pub mod MergeLemmas
+pub mod MemberLemmas
+pub mod SameLists

@@ -1,0 +1,15 @@
+pub mod Data
+pub mod DataCode
+pub mod SameData
+pub mod ObjectKeys
+pub mod Edit
+pub mod Merge
+pub mod Pointer
+pub mod Patch
+pub mod WholeNumber
+pub mod TreeData
+pub mod TreeDepth
+pub mod Json
+pub mod Fit
+pub mod Parts
+pub mod Number

@@ -1,0 +1,8 @@
+//! JSON values whose numbers are whole, their texts, pointers into them and patches of them.
+#![tactic(auto)]
+
+pub mod lists;
+pub mod num;
+pub mod object;
+pub mod text;
+pub mod tree;

@@ -1,0 +1,3 @@
+pub mod TimeZones
+pub mod Configuration
+pub mod SessionObject

@@ -1,0 +1,3 @@
+pub mod Floor
+pub mod CivilDay
+pub mod Moments
