@@ -1,4 +1,5 @@
 //! An account.
+ghost use Rattle.model_core.specs.declared.limits.TheConstants.{MAX_OBJECTS_IN_SET};
 ghost use Rattle.std.specs.Prelude.{◌≡◌, ◌++◌, ◌≤◌, [], ℕ, List, Some, None, true, IfOk, OnOk, OnErr, flat_map, length, map};
 ghost use Rattle.std.specs.Arc.{arc_value};
 ghost use Rattle.cal_model.specs.Answer.{answer_to, entries_from, get_calendars, refused, set_answer};
@@ -23,16 +24,15 @@ use model_history::book::Book;
 use model_call::call::{Call, MethodError, Reply};
 use model_history::entry::{Entry, Kind};
 use model_json::lists::{Pairs, Texts};
+use model_core::limits::MAX_OBJECTS_IN_GET;
 use model_history::stamp::Stamp;
 use model_json::text::Text;
 use model_json::tree::Member;
+use model_time::moment::Moment;
 use std::alloc::{AllocError, Global};
 use std::marker::Model;
 use std::sync::Arc;
 use zone_table::Zones;
-
-/// The most ids of a get, and the most objects where all are asked for (RFC 8620 section 2, `maxObjectsInGet`).
-const MAX_OBJECTS_IN_GET: usize = 500;
 
 /// An account. Contracts see its base and its entries.
 #[derive(Drop)]
@@ -141,7 +141,7 @@ impl Account {
     /// is added.
     #[tactic(auto, using(crate::proofs::Planning::tally_with_entries))]
     fn create(&mut self, stamp: &Stamp, creates: &[Member]) -> Result<Reply, AllocError>
-        requires few { length creates.now ≤ 500 }
+        requires few { length creates.now ≤ MAX_OBJECTS_IN_SET }
         requires ordered { HasOrderedKeys (map pair_of creates.now) }
         ensures reply { IfOk result (λ r. r ≡ set_answer self.old.0.account_id self.old.1 (map pair_of creates.now)
             (outcomes (changes_of self.old.1) (map pair_of creates.now))) }
@@ -181,7 +181,7 @@ impl Book for Account {
         author: u32,
         turn: u64,
         call: &Call,
-        moment: i64,
+        moment: Moment,
     ) -> Result<Reply, AllocError> {
         let stamp = Stamp {
             author,

@@ -1,4 +1,5 @@
 //! The entries that the accepted creates of a call become.
+ghost use Rattle.model_core.specs.declared.limits.TheConstants.{MAX_OBJECTS_IN_SET};
 ghost use Rattle.std.specs.Prelude.{◌≡◌, ◌≤◌, IfOk, flat_map, length, map};
 ghost use Rattle.account_core.specs.Outcome.{outcome_in};
 ghost use Rattle.cal_model.specs.Answer.{entries_from};
@@ -16,7 +17,7 @@ pub fn entries_of(
     stamp: &Stamp,
     outcomes: Vec<Outcome>,
 ) -> Result<Vec<Entry>, AllocError>
-    requires { length outcomes.items ≤ 500 }
+    requires { length outcomes.items ≤ MAX_OBJECTS_IN_SET }
     ensures { IfOk result (λ v. v.items ≡ entries_from stamp.now 0 (flat_map changes_in (map outcome_in outcomes.items))) }
 {
     let mut entries = Vec::with_capacity(alloc, outcomes.len())?;

@@ -7,11 +7,9 @@ ghost use Rattle.model_json.specs.ObjectKeys.{HasOrderedKeys};
 ghost use Rattle.model_json.specs.Parts.{members_in};
 ghost use Rattle.model_json.specs.TreeData.{data_of, pair_of};
 
+use model_core::limits::MAX_OBJECTS_IN_SET;
 use model_json::tree::{Member, Tree};
 use time_text::read_id;
-
-/// The most creates of a call.
-const MOST_CREATES: usize = 500;
 
 fn is_calendar_name(value: &Tree) -> bool
     ensures { result ≡ is_name (data_of value.now) }
@@ -49,12 +47,12 @@ fn is_plain(create: &Member) -> bool
     read_id(create.key.as_str().as_bytes()) && is_name_alone(members_of(&create.value))
 }
 
-/// Whether these are at most 500 creates, each an Id with an object that has a name and nothing else.
+/// Whether these are at most as many creates as a set may have, each an Id with an object that has a name and nothing else.
 /// Takes no memory.
 pub fn all_plain(creates: &[Member]) -> bool
     ensures { result ≡ are_plain (map pair_of creates.now) }
 {
-    if creates.len() > MOST_CREATES {
+    if creates.len() > MAX_OBJECTS_IN_SET {
         return false;
     }
     for create in creates {

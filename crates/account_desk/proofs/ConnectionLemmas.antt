@@ -2,13 +2,13 @@
 use Rattle.std.proofs.Common.{◌≡◌, ℕ, ℤ, zero, suc, List, [], ◌∷◌, ◌++◌, Bool, Option, Some, None, refl, sym, ap, ◌∙◌, subst}
 use Rattle.model_history.specs.Base.{Base}
 use Rattle.model_batch.specs.Reply.{Replies, asked_in, clamped}
-use Rattle.model_batch.specs.Session.{Made}
+use Rattle.model_batch.specs.Chain.{Made}
 use Rattle.account_desk.specs.FreshDesk.{fresh_desk}
 use Rattle.model_history.specs.History.{changes_of}
 use Rattle.model_http.specs.Messages.{Message}
 use Rattle.model_http.specs.Responses.{response_text}
 use Rattle.model_connection.specs.Routes.{Route, api, direct, route}
-use Rattle.model_connection.specs.Turns.{AllFit, Fits, FitsApi, FitsDirect, Ticked, Turn, all_bytes, all_made, all_moments, api_response, at_once, by_calls, closes, messages_of}
+use Rattle.model_connection.specs.Exchanges.{AllFit, Fits, FitsApi, FitsDirect, Ticked, Exchange, all_bytes, all_made, all_moments, api_response, at_once, by_calls, closes, messages_of}
 use Rattle.model_site.specs.Configuration.{Site, user_at}
 use Rattle.model_history.specs.declared.entry.Entry.{Entry}
 use Rattle.account_desk.specs.Determined.{ConnectionsAreDetermined}
@@ -29,14 +29,14 @@ gave_rest clock (Some now) m ms t = λ n. t (suc n)
 
 module _ (site : Site) (base : ℕ → Base) where
   -- what two turns led to, where their calls were made from these histories and their moments were the first of this clock
-  record AlikeTurns (clock : ℕ → ℤ) (now now' : ℕ → List Entry) (t t' : Turn) (rest rest' : List ℤ) : Type 0 where
+  record AlikeTurns (clock : ℕ → ℤ) (now now' : ℕ → List Entry) (t t' : Exchange) (rest rest' : List ℤ) : Type 0 where
     pub bytes : t.bytes ≡ t'.bytes
     pub same_after : SameChanges (after base now t.made) (after base now' t'.made)
     pub later : ℕ → ℤ
     pub gave : Gave later rest
     pub gave' : Gave later rest'
 
-  module _ (close : Bool) (clock : ℕ → ℤ) (now now' : ℕ → List Entry) (same : SameChanges now now') (t t' : Turn) (rest rest' : List ℤ)
+  module _ (close : Bool) (clock : ℕ → ℤ) (now now' : ℕ → List Entry) (same : SameChanges now now') (t t' : Exchange) (rest rest' : List ℤ)
       (said : t.message ≡ t'.message) (gave : Gave clock (t.moments ++ rest)) (gave' : Gave clock (t'.moments ++ rest')) where
     routes : (r r' : Route) → route site close t.message ≡ r → route site close t'.message ≡ r' → r ≡ r'
     routes r r' is is' = sym is ∙ (ap (route site close) said ∙ is')
@@ -74,7 +74,7 @@ module _ (site : Site) (base : ℕ → Base) where
     turns_alike (at_once f) (by_calls f') p p' = absurd (let r = routes (direct f.response) (api f'.user) f.routed f'.routed in cc)
     turns_alike (by_calls f) (at_once f') p p' = absurd (let r = routes (api f.user) (direct f'.response) f.routed f'.routed in cc)
 
-  same_bytes : (most before : ℕ) (clock : ℕ → ℤ) (now now' : ℕ → List Entry) (xs ys more more' : List Turn) → SameChanges now now' → messages_of xs ≡ messages_of ys
+  same_bytes : (most before : ℕ) (clock : ℕ → ℤ) (now now' : ℕ → List Entry) (xs ys more more' : List Exchange) → SameChanges now now' → messages_of xs ≡ messages_of ys
       → AllFit site most before xs → AllFit site most before ys → Gave clock (all_moments (xs ++ more)) → Gave clock (all_moments (ys ++ more'))
       → Played base now (all_made (xs ++ more)) → Played base now' (all_made (ys ++ more')) → all_bytes xs ≡ all_bytes ys
   same_bytes most before clock now now' [] [] more more' same said f f' gave gave' p p' = refl
@@ -95,4 +95,4 @@ pub connections_determined : ConnectionsAreDetermined
 connections_determined site most clock xs ys first second said =
     same_bytes site (fresh_desk site).base most 0 clock none_yet none_yet xs ys first.unwritten second.unwritten (λ k. refl) said first.fit second.fit
     (first.moments, first.ticked) (second.moments, second.ticked)
-    (played site first.desk (all_made (xs ++ first.unwritten)) first.session first.sole) (played site second.desk (all_made (ys ++ second.unwritten)) second.session second.sole)
+    (played site first.desk (all_made (xs ++ first.unwritten)) first.chain first.sole) (played site second.desk (all_made (ys ++ second.unwritten)) second.chain second.sole)

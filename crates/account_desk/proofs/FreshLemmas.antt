@@ -4,7 +4,7 @@ use Rattle.std.proofs.lemmas.List.{length-map, map_more, take_all, get_or-map as
 use Rattle.std.proofs.lemmas.List.Elements.{All-from_get_or}
 use Rattle.std.proofs.Math.ListN.{get_or-map}
 use Rattle.model_history.specs.Base.{Base}
-use Rattle.account_desk.specs.FreshDesk.{bases, fresh_desk, no_base}
+use Rattle.account_desk.specs.FreshDesk.{account_rules, bases, fresh_desk, no_base}
 use Rattle.model_history.specs.Signed.{written_by}
 use Rattle.model_site.specs.Configuration.{Site, SiteAccount}
 use Rattle.model_history.specs.declared.entry.Entry.{Entry}
@@ -55,6 +55,7 @@ shown_fresh site accounts is =
     let count : length (fresh_accounts site) ≡ length site.accounts = count_opened site in
     let fresh : shown_of (fresh_accounts site, 0) ≡ fresh_desk site = λ i. record {
       accounts = count i;
+      rules = account_rules;
       turns = 0;
       base = λ k. (account_is site k i).0;
       seen = λ k. (account_is site k i).1;

@@ -3,10 +3,11 @@ use Rattle.std.proofs.Common.{◌≡◌, ◌≢◌, ℕ, ◌+◌, ◌==◌, List
 use Rattle.std.proofs.Math.Seq.{take-append_seam}
 use mathlib.Core.Logic.{dite}
 use native.Mathlib.Decide.{ℕ_discrete}
+use Rattle.model_batch.proofs.Chains.{summary}
 use Rattle.cal_model.specs.Answer.{answer, added}
 use Rattle.model_history.specs.Base.{Base}
-use Rattle.model_batch.specs.Session.{Made, Session, Shown, Stand, added_by, on, stamp_of}
-use Rattle.account_desk.specs.FreshDesk.{IsSole, fresh_desk}
+use Rattle.model_batch.specs.Chain.{Made, Chain, Shown, Stand, added_by, on, stamp_of}
+use Rattle.account_desk.specs.FreshDesk.{IsSole, account_rules, fresh_desk}
 use Rattle.model_history.specs.Signed.{written_by}
 use Rattle.model_site.specs.Configuration.{Site}
 use Rattle.model_history.specs.declared.entry.Entry.{Entry}
@@ -19,7 +20,7 @@ longer now k more j = if j == k then now j ++ more else now j
 module _ (base : ℕ → Base) where
   -- what a call adds to these histories
   abbrev pub adds : (ℕ → List Entry) → Made → List Entry
-  adds now m = added (base m.account) (now m.account) m.call (stamp_of (base m.account) 0 m)
+  adds now m = added (base m.account) (now m.account) m.call (stamp_of account_rules (base m.account) 0 m)
 
   -- the histories after a call, and after calls
   abbrev pub next : (ℕ → List Entry) → Made → ℕ → List Entry
@@ -32,7 +33,7 @@ module _ (base : ℕ → Base) where
   -- each call is answered at the history of its account, which then has what it adds
   abbrev pub Played : (ℕ → List Entry) → List Made → Type 0
   Played now [] = Unit {0}
-  Played now (m ∷ ms) = (m.reply ≡ answer (base m.account) (now m.account) m.call (stamp_of (base m.account) 0 m)) × Played (next now m) ms
+  Played now (m ∷ ms) = (m.reply ≡ answer (base m.account) (now m.account) m.call (stamp_of account_rules (base m.account) 0 m)) × Played (next now m) ms
 
   pub played_first : (now : ℕ → List Entry) (xs ys : List Made) → Played now (xs ++ ys) → Played now xs
   played_first now [] ys p = tt
@@ -56,39 +57,39 @@ module _ (base : ℕ → Base) (whole : ℕ → List Entry) (upto : ℕ → ℕ)
   -- the calls that are left fill up an account's history, which is h so far
   record Fills (k : ℕ) (h : List Entry) (ms : List Made) : Type 0 where
     pub late : ℕ
-    pub stand : Stand (base k) 0 (whole k) (length h) late (upto k) ms
-    pub full : whole k ≡ h ++ flat_map (added_by (base k) 0 (whole k)) ms
+    pub stand : Stand account_rules (base k) 0 (whole k) (length h) late (upto k) ms
+    pub full : whole k ≡ h ++ flat_map (added_by account_rules (base k) 0 (whole k)) ms
 
   module _ (now : ℕ → List Entry) (m : Made) (ms : List Made) (left : Fills m.account (now m.account) (m ∷ ms)) where
     abbrev h : List Entry
     h = now m.account
 
     abbrev rest : List Entry
-    rest = flat_map (added_by (base m.account) 0 (whole m.account)) ms
+    rest = flat_map (added_by account_rules (base m.account) 0 (whole m.account)) ms
 
     place_is : m.reply.place ≡ length h
     place_is =
-        let all = ap length left.full ∙ length-append h (added_by (base m.account) 0 (whole m.account) m ++ rest) in
+        let all = ap length left.full ∙ length-append h (added_by account_rules (base m.account) 0 (whole m.account) m ++ rest) in
         (in_turn (base m.account) 0 (whole m.account) (length h) left.late (upto m.account) (m ∷ ms) (omega arith) left.stand).0
 
     before_is : take m.reply.place (whole m.account) ≡ h
     before_is =
         ap (λ (n : ℕ). take n (whole m.account)) place_is
-        ∙ (ap (take (length h)) left.full ∙ take-append_seam h (added_by (base m.account) 0 (whole m.account) m ++ rest))
+        ∙ (ap (take (length h)) left.full ∙ take-append_seam h (added_by account_rules (base m.account) 0 (whole m.account) m ++ rest))
 
-    adds_is : added_by (base m.account) 0 (whole m.account) m ≡ adds base now m
-    adds_is = ap (λ (l : List Entry). added (base m.account) l m.call (stamp_of (base m.account) 0 m)) before_is
+    adds_is : added_by account_rules (base m.account) 0 (whole m.account) m ≡ adds base now m
+    adds_is = ap (λ (l : List Entry). added (base m.account) l m.call (stamp_of account_rules (base m.account) 0 m)) before_is
 
-    reply_is : m.reply ≡ answer (base m.account) h m.call (stamp_of (base m.account) 0 m)
-    reply_is = left.stand.0.reply ∙ ap (λ (l : List Entry). answer (base m.account) l m.call (stamp_of (base m.account) 0 m)) before_is
+    reply_is : m.reply ≡ answer (base m.account) h m.call (stamp_of account_rules (base m.account) 0 m)
+    reply_is = left.stand.0.reply ∙ ap (λ (l : List Entry). answer (base m.account) l m.call (stamp_of account_rules (base m.account) 0 m)) before_is
 
     filled : Fills m.account (h ++ adds base now m) ms
     filled =
-        let ends : m.reply.place + length (added_by (base m.account) 0 (whole m.account) m) ≡ length (h ++ adds base now m) =
+        let ends : m.reply.place + length (added_by account_rules (base m.account) 0 (whole m.account) m) ≡ length (h ++ adds base now m) =
         (λ i. place_is i + length (adds_is i)) ∙ sym (length-append h (adds base now m)) in
         record {
           late = m.turn;
-          stand = subst (λ (n : ℕ). Stand (base m.account) 0 (whole m.account) n m.turn (upto m.account) ms) ends left.stand.1;
+          stand = subst (λ (n : ℕ). Stand account_rules (base m.account) 0 (whole m.account) n m.turn (upto m.account) ms) ends left.stand.1;
           full = left.full ∙ (ap (λ (l : List Entry). h ++ (l ++ rest)) adds_is ∙ sym (append_assoc h (adds base now m) rest));
         }
 
@@ -110,10 +111,11 @@ module _ (base : ℕ → Base) (whole : ℕ → List Entry) (upto : ℕ → ℕ)
 abbrev pub none_yet : ℕ → List Entry
 none_yet k = []
 
--- the calls of a session on fresh accounts, in which nobody else takes part, were played
-pub played : (site : Site) (t : Shown) (ms : List Made) → Session (fresh_desk site) t ms → IsSole t → Played (fresh_desk site).base none_yet ms
-played site t ms session sole = played_full (fresh_desk site).base t.seen t.last none_yet ms (λ k.
-    let s = session.each k in
-    let own : written_by 0 (t.seen k) ≡ flat_map (added_by ((fresh_desk site).base k) 0 (t.seen k)) (on k ms) = s.own in
-    let all : written_by 0 (t.seen k) ≡ t.seen k = ap (λ (a : ℕ). written_by a (t.seen k)) (sym (session.author k)) ∙ sole k in
+-- the calls of a chain on fresh accounts, in which nobody else takes part, were played
+pub played : (site : Site) (t : Shown) (ms : List Made) → Chain (fresh_desk site) t ms → IsSole t → Played (fresh_desk site).base none_yet ms
+played site t ms chain sole = played_full (fresh_desk site).base t.seen t.last none_yet ms (λ k.
+    let sum = summary (fresh_desk site) t ms chain in
+    let s = sum.each k in
+    let own : written_by 0 (t.seen k) ≡ flat_map (added_by account_rules ((fresh_desk site).base k) 0 (t.seen k)) (on k ms) = s.own in
+    let all : written_by 0 (t.seen k) ≡ t.seen k = ap (λ (a : ℕ). written_by a (t.seen k)) (sym (sum.author k)) ∙ sole k in
     record { late = 0; stand = s.stand; full = sym all ∙ own })

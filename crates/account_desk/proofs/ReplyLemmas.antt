@@ -9,9 +9,9 @@ use Rattle.model_batch.specs.Batch.{Fit, FollowsFrom, Step, created_in, error_re
 use Rattle.model_batch.specs.Meaning.{Meaning, refuses, echoes, calls, meaning_of_method}
 use Rattle.model_call.specs.Methods.{method_used}
 use Rattle.model_batch.specs.Reply.{Replies}
-use Rattle.model_batch.specs.Session.{Made, stamp_of}
+use Rattle.model_batch.specs.Chain.{Made, stamp_of}
 use Rattle.model_json.specs.Data.{Data}
-use Rattle.account_desk.specs.FreshDesk.{fresh_desk}
+use Rattle.account_desk.specs.FreshDesk.{account_rules, fresh_desk}
 use Rattle.model_history.specs.History.{changes_of}
 use Rattle.model_json.specs.Parts.{some_of}
 use Rattle.model_call.specs.declared.call.Reply.{Reply}
@@ -44,19 +44,19 @@ module _ (base : ℕ → Base) where
       same_reply : Played base now (m ∷ []) → Played base now' (m' ∷ []) → m.reply ≡ m'.reply
       same_reply p p' =
           let k : ℕ = m.account in
-          let here : answer (base k) (now k) m.call (stamp_of (base k) 0 m) ≡ answer (base k) (now' k) m.call (stamp_of (base k) 0 m') =
-          same_answer (base k) (now k) (now' k) (same k) m.call (stamp_of (base k) 0 m) (stamp_of (base k) 0 m') moment in
-          let there : answer (base k) (now' k) m.call (stamp_of (base k) 0 m') ≡ answer (base m'.account) (now' m'.account) m'.call (stamp_of (base m'.account) 0 m') =
-          λ i. answer (base (account i)) (now' (account i)) (call i) (stamp_of (base (account i)) 0 m') in
+          let here : answer (base k) (now k) m.call (stamp_of account_rules (base k) 0 m) ≡ answer (base k) (now' k) m.call (stamp_of account_rules (base k) 0 m') =
+          same_answer (base k) (now k) (now' k) (same k) m.call (stamp_of account_rules (base k) 0 m) (stamp_of account_rules (base k) 0 m') moment in
+          let there : answer (base k) (now' k) m.call (stamp_of account_rules (base k) 0 m') ≡ answer (base m'.account) (now' m'.account) m'.call (stamp_of account_rules (base m'.account) 0 m') =
+          λ i. answer (base (account i)) (now' (account i)) (call i) (stamp_of account_rules (base (account i)) 0 m') in
           p.0 ∙ (here ∙ (there ∙ sym p'.0))
 
       same_adds : changes_of (adds base now m) ≡ changes_of (adds base now' m')
       same_adds =
           let k : ℕ = m.account in
-          let here : changes_of (added (base k) (now k) m.call (stamp_of (base k) 0 m)) ≡ changes_of (added (base k) (now' k) m.call (stamp_of (base k) 0 m')) =
-          same_added (base k) (now k) (now' k) (same k) m.call (stamp_of (base k) 0 m) (stamp_of (base k) 0 m') moment in
-          let there : changes_of (added (base k) (now' k) m.call (stamp_of (base k) 0 m')) ≡ changes_of (adds base now' m') =
-          λ i. changes_of (added (base (account i)) (now' (account i)) (call i) (stamp_of (base (account i)) 0 m')) in
+          let here : changes_of (added (base k) (now k) m.call (stamp_of account_rules (base k) 0 m)) ≡ changes_of (added (base k) (now' k) m.call (stamp_of account_rules (base k) 0 m')) =
+          same_added (base k) (now k) (now' k) (same k) m.call (stamp_of account_rules (base k) 0 m) (stamp_of account_rules (base k) 0 m') moment in
+          let there : changes_of (added (base k) (now' k) m.call (stamp_of account_rules (base k) 0 m')) ≡ changes_of (adds base now' m') =
+          λ i. changes_of (added (base (account i)) (now' (account i)) (call i) (stamp_of account_rules (base (account i)) 0 m')) in
           here ∙ there
 
       same_next : SameChanges (next base now m) (next base now' m')
@@ -175,4 +175,4 @@ module _ (base : ℕ → Base) (user : User) (moment : ℤ) (now now' : ℕ → 
 pub replies_determined : RepliesAreDetermined
 replies_determined site user moment a x y first second =
     (same_replies (fresh_desk site).base user moment none_yet none_yet (λ k. refl) a first.made second.made x y first.replied second.replied
-    (played site first.desk first.made first.session first.sole) (played site second.desk second.made second.session second.sole)).0
+    (played site first.desk first.made first.chain first.sole) (played site second.desk second.made second.chain second.sole)).0

@@ -4,11 +4,12 @@ use Rattle.std.proofs.lemmas.List.{get_or-set_same, get_or-set_other, length-set
 use Rattle.std.proofs.lemmas.List.Elements.{All-set, All-get_or, filter-append}
 use mathlib.Core.Logic.{dite}
 use native.Mathlib.Decide.{ℕ_discrete}
-use Rattle.model_batch.proofs.Sessions.{all_written_by}
+use Rattle.cal_model.specs.AnswerPlaces.{answer_place}
+use Rattle.model_batch.proofs.Chains.{all_written_by}
 use Rattle.cal_model.specs.AddedEntries.{added_signed}
 use Rattle.cal_model.specs.Answer.{answer, added}
 use Rattle.model_history.specs.Base.{Base}
-use Rattle.model_batch.specs.Session.{Called, StaysBeside}
+use Rattle.model_batch.specs.Chain.{Called, StaysBeside}
 use Rattle.account_desk.specs.FreshDesk.{no_base}
 use Rattle.model_history.specs.MostTurns.{most_turns}
 use Rattle.model_history.specs.Signed.{written_by}
@@ -52,6 +53,7 @@ module _ (accounts : List (Base × List Entry)) (turns k : ℕ) (a' : Base × Li
   beside : a'.0 ≡ a.0 → StaysBeside (shown_of (accounts, turns)) (shown_of (set accounts k a', turns + 1)) k
   beside same = record {
     accounts = length-set accounts k a';
+    rules = refl;
     turns = refl;
     base = same_bases same;
     author = λ j. refl;
@@ -70,6 +72,8 @@ module _ (accounts : List (Base × List Entry)) (turns k : ℕ) (a' : Base × Li
       begins = ([], sym (append-nil a.1), refl);
       later = omega arith;
       replied = replied;
+      placed = ap (λ (x : Reply). x.place) replied ∙ answer_place a.0 a.1 call (stamp_after turns moment);
+      signed = added_signed a.0 a.1 call (stamp_after turns moment);
       seen = ap (λ (x : Base × List Entry). x.1) here ∙ grown;
     },
   )

@@ -1,7 +1,10 @@
 -- A desk over the accounts of a site, before any call.
 use Rattle.std.specs.Prelude.{◌≡◌, ℕ, List, [], length, map, slice_index_or}
-use Rattle.model_batch.specs.Session.{Shown}
-use Rattle.model_history.specs.Base.{Base}
+use Rattle.cal_model.specs.AddedEntries.{added_signed}
+use Rattle.cal_model.specs.Answer.{answer, added}
+use Rattle.cal_model.specs.AnswerPlaces.{answer_place}
+use Rattle.model_batch.specs.Chain.{Rules, Shown}
+use Rattle.model_history.specs.Base.{Base, no_base}
 use Rattle.model_history.specs.Signed.{written_by}
 use Rattle.model_site.specs.Configuration.{Site}
 
@@ -9,13 +12,15 @@ use Rattle.model_site.specs.Configuration.{Site}
 abbrev pub bases : Site → List Base
 bases site = map (λ a. record { account_id = a.id; zones = site.zones }) site.accounts
 
-abbrev pub no_base : Base
-no_base = record { account_id = []; zones = [] }
+-- what accounts of calendars and events reply, and how they grow
+abbrev pub account_rules : Rules
+account_rules = record { answer = answer; added = added; placed = answer_place; signed = added_signed }
 
 -- a desk over the accounts of a site, before any call
 abbrev pub fresh_desk : Site → Shown
 fresh_desk site = record {
   accounts = length site.accounts;
+  rules = account_rules;
   turns = 0;
   base = λ k. slice_index_or (bases site) k no_base;
   seen = λ k. [];

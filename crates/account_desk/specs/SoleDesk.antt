@@ -1,8 +1,8 @@
 -- What contracts see of a desk that has its accounts for itself.
 use Rattle.std.specs.Prelude.{◌≡◌, ◌≤◌, ◌<◌, ◌^◌, ℕ, List, [], All, Result, Ok, Err, length, slice_index_or}
 use Rattle.model_history.specs.Base.{Base}
-use Rattle.model_batch.specs.Session.{Shown}
-use Rattle.account_desk.specs.FreshDesk.{bases, no_base}
+use Rattle.model_batch.specs.Chain.{Shown}
+use Rattle.account_desk.specs.FreshDesk.{account_rules, bases, no_base}
 use Rattle.model_history.specs.MostTurns.{most_turns}
 use Rattle.model_history.specs.Signed.{written_by}
 use Rattle.model_site.specs.Configuration.{Site}
@@ -19,6 +19,7 @@ account_at accounts k = slice_index_or accounts k (no_base, [])
 abbrev pub shown_of : List (Base × List Entry) × ℕ → Shown
 shown_of d = record {
   accounts = length d.0;
+  rules = account_rules;
   turns = d.1;
   base = λ k. (account_at d.0 k).0;
   seen = λ k. (account_at d.0 k).1;

@@ -8,6 +8,7 @@ use model_history::book::Book;
 use model_call::call::{Call, Reply};
 use model_batch::desk::{Desk, DeskError};
 use session_doc::Site;
+use model_time::moment::Moment;
 use std::alloc::{AllocError, Global};
 use std::marker::Model;
 use std::sync::Arc;
@@ -72,7 +73,7 @@ impl Desk for SoleDesk {
         self.accounts.len() as u32
     }
 
-    fn call(&mut self, account: u32, call: &Call, moment: i64) -> Result<Reply, DeskError> {
+    fn call(&mut self, account: u32, call: &Call, moment: Moment) -> Result<Reply, DeskError> {
         if self.turns == MOST_TURNS {
             return Err(DeskError::PassSpent);
         }

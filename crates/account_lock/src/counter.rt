@@ -3,6 +3,7 @@ ghost use Rattle.std.specs.Prelude.{◌≡◌, []};
 
 use model_history::book::Book;
 use model_history::entry::{Change, Entry, Kind};
+use model_time::moment::Moment;
 use std::alloc::{AllocError, Global};
 use std::marker::Model;
 
@@ -76,7 +77,7 @@ impl Book for CounterBook {
     ghost added = { λ z h call stamp. amount_added h call.0 stamp };
 
     #[tactic(auto, using(crate::proofs::CounterLemmas::sum_of_ids_append))]
-    fn act(&mut self, author: u32, turn: u64, call: &Add, moment: i64) -> Result<u64, AllocError> {
+    fn act(&mut self, author: u32, turn: u64, call: &Add, moment: Moment) -> Result<u64, AllocError> {
         let amount = call.0.min(MOST_AMOUNT);
         if amount == 0 || self.entries.len() == MOST_ENTRIES {
             return Ok(self.sum);

@@ -17,6 +17,7 @@ use crate::view::View;
 use atomic_table::Table;
 use model_history::book::Book;
 use model_history::stamp::Stamp;
+use model_time::moment::Moment;
 use std::alloc::{AllocError, Global};
 use std::marker::{Brand, Model};
 use std::snapshot::Snapshot;
@@ -74,14 +75,14 @@ impl<B: Book> Locked<B> {
         Ok((Locked { table }, all))
     }
 
-    /// Calls the book at a moment, in seconds of UTC from 1970, when the pass's turn has come, for which it waits.
+    /// Calls the book at a moment, when the pass's turn has come, for which it waits.
     /// Takes what memory the book takes for its call.
     pub fn call<R: Wait>(
         &self,
         rt: &R,
         pass: &mut Pass<B>,
         call: &B::Call,
-        moment: i64,
+        moment: Moment,
     ) -> Result<B::Reply, CallError>
         requires { pass.old.lock ≡ self.now }
 

@@ -4,23 +4,23 @@ use Rattle.model_batch.specs.Batch.{Step, FollowsFrom, reply_response}
 use Rattle.model_call.specs.Calls.{created_in as created_with_call}
 use Rattle.model_batch.specs.Meaning.{Meaning, calls, meaning_of_method}
 use Rattle.model_call.specs.Methods.{method_used}
-use Rattle.model_batch.specs.Session.{Made, Shown}
+use Rattle.model_batch.specs.Chain.{Made, Shown}
 use Rattle.model_call.specs.declared.call.Call.{Call}
 use Rattle.model_batch.specs.declared.desk.DeskError.{DeskError}
 use Rattle.model_batch.specs.declared.desk.DeskError.TheVariants.{NoMemory, PassSpent}
 use Rattle.model_batch.specs.declared.desk.Front.{Front}
 use Rattle.model_batch.specs.declared.request.Invocation.{Invocation}
-use Rattle.model_batch.specs.declared.response.Response.{Response}
+use Rattle.model_batch.specs.declared.method_response.MethodResponse.{MethodResponse}
 use Rattle.model_core.specs.declared.user.Grant.{Grant}
 use Rattle.batch_exec.specs.Stepping.{Answers, IsCallResponse, IsResponse, Takes}
 use Rattle.batch_exec.proofs.Asking.{unasked}
 
-module _ (grants : List Grant) (using : List (List ℕ)) (moment : ℤ) (responses : List Response) (created created' : List (List ℕ × List ℕ)) (c : Invocation) where
+module _ (grants : List Grant) (using : List (List ℕ)) (moment : ℤ) (responses : List MethodResponse) (created created' : List (List ℕ × List ℕ)) (c : Invocation) where
   abbrev meant : Meaning
   meant = meaning_of_method grants created responses c.arguments (method_used using c.name)
 
   -- no account was asked
-  pub responds_itself : (fronts : List Front) (s : Shown) (m : Meaning) (response : Response) → m ≡ meant → created' ≡ created
+  pub responds_itself : (fronts : List Front) (s : Shown) (m : Meaning) (response : MethodResponse) → m ≡ meant → created' ≡ created
       → FollowsFrom moment m (record { invocation = c; made = None; response = response })
       → IsResponse fronts fronts s s grants using moment responses created created' c (Ok response)
   responds_itself fronts s m response is same follows =
@@ -32,7 +32,7 @@ module _ (grants : List Grant) (using : List (List ℕ)) (moment : ℤ) (respons
       )
 
   module _ (fronts fronts' : List Front) (s t : Shown) (account : ℕ) (call : Call) where
-    takes_call : (m : Made) (response : Response) → calls account call ≡ meant → Answers fronts fronts' s t account call moment m → response ≡ reply_response c.name c.call_id m.reply.arguments m.reply.error
+    takes_call : (m : Made) (response : MethodResponse) → calls account call ≡ meant → Answers fronts fronts' s t account call moment m → response ≡ reply_response c.name c.call_id m.reply.arguments m.reply.error
         → Takes fronts fronts' s t grants using moment responses created created' c (record { invocation = c; made = Some m; response = response })
     takes_call m response is answers shows =
         let step : Step = record { invocation = c; made = Some m; response = response } in
@@ -43,7 +43,7 @@ module _ (grants : List Grant) (using : List (List ℕ)) (moment : ℤ) (respons
         }
 
     -- an account was asked
-    pub responds_from_account : (r : Result Response DeskError) → calls account call ≡ meant → created_with_call call ≡ created
+    pub responds_from_account : (r : Result MethodResponse DeskError) → calls account call ≡ meant → created_with_call call ≡ created
         → IsCallResponse fronts fronts' s t account call moment c.name c.call_id created' r → IsResponse fronts fronts' s t grants using moment responses created created' c r
     responds_from_account (Ok response) is same x =
         let m = x.0 in (

@@ -12,10 +12,11 @@ use model_call::call::{Call, MethodError, Reply};
 use model_batch::desk::{Desk, DeskError, Front};
 use model_json::lists::{Pairs, Texts};
 use model_batch::request::{Invocation, Invocations};
-use model_batch::response::Response;
+use model_batch::method_response::MethodResponse;
 use model_json::text::Text;
 use model_json::tree::{Member, Tree, TreeObject};
 use model_core::user::User;
+use model_time::moment::Moment;
 use std::alloc::{AllocError, Global};
 
 fn error_name(error: MethodError) -> &'static str
@@ -33,13 +34,13 @@ fn error_name(error: MethodError) -> &'static str
 }
 
 /// The response to an invocation that was refused (RFC 8620 section 3.6.2).
-fn refusal(alloc: Global, call_id: Text, error: MethodError) -> Result<Response, AllocError>
+fn refusal(alloc: Global, call_id: Text, error: MethodError) -> Result<MethodResponse, AllocError>
     ensures { IfOk result (λ r. r ≡ error_response call_id error) }
 {
     let kind = Tree::Text(Text::from_str(alloc, error_name(error))?);
     let arguments = Tree::object(alloc, vec![in alloc; ("type", kind)]?)?;
     let name = Text::from_str(alloc, "error")?;
-    Ok(Response {
+    Ok(MethodResponse {
         name,
         arguments,
         call_id,
@@ -53,12 +54,12 @@ fn reply_of(
     call_id: Text,
     arguments: Tree,
     error: Option<MethodError>,
-) -> Result<Response, AllocError>
+) -> Result<MethodResponse, AllocError>
     ensures { IfOk result (λ r. r ≡ reply_response name call_id arguments error) }
 {
     match error {
         Some(error) => refusal(alloc, call_id, error),
-        None => Ok(Response {
+        None => Ok(MethodResponse {
             name,
             arguments,
             call_id,
@@ -66,23 +67,23 @@ fn reply_of(
     }
 }
 
-/// Asks for a call on an account, at a moment in seconds of UTC from 1970, and notes where it was answered.
+/// Asks for a call on an account, at a moment, and notes where it was answered.
 ///
 /// The memory for the note is taken before the desk is asked.
 fn ask<D: Desk>(
     desk: &mut D,
     account: u32,
     call: &Call,
-    moment: &i64,
+    moment: Moment,
     fronts: &mut Vec<Front>,
 ) -> Result<Reply, DeskError>
     requires { account < (D.shown desk.old).accounts }
-    ensures { IsReply fronts.old.items fronts.new.items (D.shown desk.old) (D.shown desk.new) account call.now moment.now result }
+    ensures { IsReply fronts.old.items fronts.new.items (D.shown desk.old) (D.shown desk.new) account call.now moment result }
 {
     if fronts.reserve(1).is_err() {
         return Err(DeskError::NoMemory);
     }
-    match desk.call(account, call, *moment) {
+    match desk.call(account, call, moment) {
         Ok(reply) => {
             let place = reply.place;
             fronts.push_reserved(Front { account, place });
@@ -107,14 +108,14 @@ fn respond_from_account<D: Desk>(
     desk: &mut D,
     account: u32,
     call: Call,
-    moment: &i64,
+    moment: Moment,
     fronts: &mut Vec<Front>,
     created: &mut Pairs,
     name: Text,
     call_id: Text,
-) -> Result<Response, DeskError>
+) -> Result<MethodResponse, DeskError>
     requires { account < (D.shown desk.old).accounts }
-    ensures { IsCallResponse fronts.old.items fronts.new.items (D.shown desk.old) (D.shown desk.new) account call moment.now name call_id created.new result }
+    ensures { IsCallResponse fronts.old.items fronts.new.items (D.shown desk.old) (D.shown desk.new) account call moment name call_id created.new result }
 {
     let reply = match ask(desk, account, &call, moment, fronts) {
         Ok(reply) => reply,
@@ -135,15 +136,15 @@ fn respond<D: Desk>(
     alloc: Global,
     user: &User,
     capabilities: &[Text],
-    responses: &[Response],
+    responses: &[MethodResponse],
     created: &mut Pairs,
     desk: &mut D,
     invocation: Invocation,
-    moment: &i64,
+    moment: Moment,
     fronts: &mut Vec<Front>,
-) -> Result<Response, DeskError>
+) -> Result<MethodResponse, DeskError>
     requires { All (λ g. g.account < (D.shown desk.old).accounts) user.now.grants }
-    ensures { IsResponse fronts.old.items fronts.new.items (D.shown desk.old) (D.shown desk.new) user.now.grants capabilities.now moment.now responses.now created.old created.new invocation result }
+    ensures { IsResponse fronts.old.items fronts.new.items (D.shown desk.old) (D.shown desk.new) user.now.grants capabilities.now moment responses.now created.old created.new invocation result }
 {
     let Invocation {
         name,
@@ -163,7 +164,7 @@ fn respond<D: Desk>(
             Ok(response) => Ok(response),
             Err(_) => Err(DeskError::NoMemory),
         },
-        Ok(Judgement::Echo(arguments)) => Ok(Response {
+        Ok(Judgement::Echo(arguments)) => Ok(MethodResponse {
             name,
             arguments: Tree::Object(arguments),
             call_id,
@@ -208,7 +209,7 @@ fn id_text(alloc: Global, value: &Tree) -> Result<Text, AllocError>
 #[derive(Drop)]
 pub(crate) struct Answers {
     /// The responses, in order.
-    pub(crate) responses: Vec<Response>,
+    pub(crate) responses: Vec<MethodResponse>,
     /// The created ids: those that the request gives, and those that its calls added.
     pub(crate) created: Pairs,
 }
@@ -223,11 +224,11 @@ pub(crate) fn answer_all<D: Desk>(
     given: &Option<TreeObject>,
     user: &User,
     desk: &mut D,
-    moment: &i64,
+    moment: Moment,
     fronts: &mut Vec<Front>,
 ) -> Result<Answers, DeskError>
     requires { All (λ g. g.account < (D.shown desk.old).accounts) user.now.grants }
-    ensures { HasAnswered user.now (record { using = capabilities.now; calls = calls; created_ids = given.now }) moment.now fronts.old.items fronts.new.items (D.shown desk.old) (D.shown desk.new) result }
+    ensures { HasAnswered user.now (record { using = capabilities.now; calls = calls; created_ids = given.now }) moment fronts.old.items fronts.new.items (D.shown desk.old) (D.shown desk.new) result }
 {
     let Ok(mut created) = given_ids(alloc, given) else {
         return Err(DeskError::NoMemory);

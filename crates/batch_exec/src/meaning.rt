@@ -11,7 +11,7 @@ use crate::call::{call_from, grant_of};
 use model_call::call::{Call, MethodError};
 use model_json::lists::Pairs;
 use model_call::method::Method;
-use model_batch::response::Response;
+use model_batch::method_response::MethodResponse;
 use model_json::text::Text;
 use model_json::tree::TreeObject;
 use model_core::user::User;
@@ -63,7 +63,7 @@ pub(crate) fn judge(
     alloc: Global,
     user: &User,
     capabilities: &[Text],
-    responses: &[Response],
+    responses: &[MethodResponse],
     created: &mut Pairs,
     name: &Text,
     arguments: TreeObject,

@@ -14,11 +14,9 @@ use model_core::capability::{AVAILABILITY, CALENDARS, CORE};
 use model_batch::request::{BatchError, Invocation, Invocations, Limit, Request, RequestError};
 use model_json::text::Text;
 use model_json::tree::{Member, Tree, TreeObject};
+use model_core::limits::MAX_CALLS_IN_REQUEST;
 use std::alloc::{AllocError, Global};
 use time_text::read_id;
-
-/// The most calls of a request (RFC 8620 section 2, `maxCallsInRequest`).
-const MAX_CALLS_IN_REQUEST: usize = 16;
 
 /// The request that a JSON value is, or why the whole of it is refused (RFC 8620 sections 3.3 and 3.6.1).
 ///

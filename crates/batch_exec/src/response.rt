@@ -5,13 +5,13 @@ ghost use Rattle.model_json.specs.Edit.{put_all};
 ghost use Rattle.model_json.specs.TreeData.{data_of};
 ghost use Rattle.model_json.specs.declared.tree.Tree.TheVariants.{Object};
 
-use model_batch::response::Response;
+use model_batch::method_response::MethodResponse;
 use model_json::text::Text;
 use model_json::tree::{Tree, TreeList, TreeObject};
 use std::alloc::{AllocError, Global};
 
 /// One response: a name, arguments and the call's id (RFC 8620 section 3.4).
-fn item(alloc: Global, response: Response) -> Result<Tree, AllocError>
+fn item(alloc: Global, response: MethodResponse) -> Result<Tree, AllocError>
     ensures { IfOk result (λ t. data_of t ≡ response_data response) }
 {
     let name = Tree::Text(response.name);
@@ -20,7 +20,7 @@ fn item(alloc: Global, response: Response) -> Result<Tree, AllocError>
     Ok(Tree::List(TreeList::new(items)))
 }
 
-fn items(alloc: Global, responses: Vec<Response>) -> Result<Vec<Tree>, AllocError>
+fn items(alloc: Global, responses: Vec<MethodResponse>) -> Result<Vec<Tree>, AllocError>
     ensures { IfOk result (λ v. map data_of v.items ≡ map response_data responses.items) }
 {
     let mut items = Vec::with_capacity(alloc, responses.len())?;
@@ -48,7 +48,7 @@ pub(crate) fn response_tree(
     alloc: Global,
     given: Option<TreeObject>,
     added: Vec<(Text, Text)>,
-    responses: Vec<Response>,
+    responses: Vec<MethodResponse>,
 ) -> Result<Tree, AllocError>
     ensures { IfOk result (λ t. data_of t ≡ response_with_ids given added.items responses.items) }
 {

@@ -11,9 +11,10 @@ use model_batch::desk::{Desk, DeskError, Front};
 use model_batch::request::{BatchError, Request};
 use model_json::tree::{Tree, TreeObject};
 use model_core::user::User;
+use model_time::moment::Moment;
 use std::alloc::{AllocError, Global};
 
-/// Answers a request, given as JSON, for a user, on the accounts of a desk, at a moment in seconds of UTC from 1970
+/// Answers a request, given as JSON, for a user, on the accounts of a desk, at a moment
 /// (RFC 8620 section 3).
 ///
 /// A front is added for each call that the desk answered, in order. `Refused` comes before any call. At `PassSpent` and
@@ -23,7 +24,7 @@ pub fn run_batch<D: Desk>(
     request: Tree,
     user: &User,
     desk: &mut D,
-    moment: i64,
+    moment: Moment,
     fronts: &mut Vec<Front>,
 ) -> Result<Tree, BatchError>
     requires { All (λ g. g.account < (D.shown desk.old).accounts) user.now.grants }
@@ -33,7 +34,7 @@ pub fn run_batch<D: Desk>(
         Ok(request) => request,
         Err(error) => return Err(error),
     };
-    answer_request(alloc, request, user, desk, &moment, fronts)
+    answer_request(alloc, request, user, desk, moment, fronts)
 }
 
 fn answer_request<D: Desk>(
@@ -41,11 +42,11 @@ fn answer_request<D: Desk>(
     request: Request,
     user: &User,
     desk: &mut D,
-    moment: &i64,
+    moment: Moment,
     fronts: &mut Vec<Front>,
 ) -> Result<Tree, BatchError>
     requires { All (λ g. g.account < (D.shown desk.old).accounts) user.now.grants }
-    ensures { IsRequestAnswered user.now request moment.now fronts.old.items fronts.new.items (D.shown desk.old) (D.shown desk.new) result }
+    ensures { IsRequestAnswered user.now request moment fronts.old.items fronts.new.items (D.shown desk.old) (D.shown desk.new) result }
 {
     let Request {
         using,

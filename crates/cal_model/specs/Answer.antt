@@ -1,7 +1,8 @@
 -- What a call is answered at a history, and what it adds.
-use Rattle.std.specs.Prelude.{ℕ, suc, List, [], ◌∷◌, ◌&&◌, Bool, Option, Some, None, length, flat_map, map, if◌then◌else◌, nat_lt}
+use Rattle.std.specs.Prelude.{ℕ, ℤ, suc, List, [], ◌∷◌, ◌&&◌, Bool, Option, Some, None, length, flat_map, map, if◌then◌else◌, nat_le}
 use Rattle.std.specs.List.{list_all}
 use Rattle.model_history.specs.Base.{Base}
+use Rattle.model_core.specs.declared.limits.TheConstants.{MAX_OBJECTS_IN_SET}
 use Rattle.cal_model.specs.Calendar.{is_plain_create}
 use Rattle.model_json.specs.Data.{Pair}
 use Rattle.cal_model.specs.Gets.{get_arguments, get_error, ids_not_found, objects_asked, selected}
@@ -25,9 +26,9 @@ pub data Form : Type 0 where
   create_plain : List Pair → Form
   not_built : Form
 
--- at most 500 plain creates
+-- plain creates, at most as many as a set may have
 abbrev pub are_plain : List Pair → Bool
-are_plain creates = nat_lt (length creates) 501 && list_all is_plain_create creates
+are_plain creates = nat_le (length creates) MAX_OBJECTS_IN_SET && list_all is_plain_create creates
 
 abbrev pub form_of : Call → Form
 form_of (Get Calendar ids properties created) = get_calendars ids properties created
@@ -69,9 +70,9 @@ abbrev pub added_by_form : Stamp → List Entry → Form → List Entry
 added_by_form stamp h (create_plain creates) = entries_from stamp 0 (flat_map changes_in (outcomes (changes_of h) creates))
 added_by_form stamp h _ = []
 
--- the reply to a call
-abbrev pub answer : Base → List Entry → Call → Stamp → Reply
-answer base h call stamp = answer_to base h (form_of call)
+-- the reply to a call at a moment
+abbrev pub answer : Base → List Entry → Call → ℤ → Reply
+answer base h call moment = answer_to base h (form_of call)
 
 -- the entries that a call adds
 abbrev pub added : Base → List Entry → Call → Stamp → List Entry

@@ -4,6 +4,7 @@ use Rattle.std.specs.List.{list_all, list_any}
 use Rattle.std.specs.Str.{bytes_eq}
 use Rattle.cal_model.specs.Calendar.{is_calendar_property}
 use Rattle.model_json.specs.Data.{Data, text, list, object, Pair, items_of, members_of}
+use Rattle.model_core.specs.declared.limits.TheConstants.{MAX_OBJECTS_IN_GET}
 use Rattle.model_history.specs.History.{object_at, live_at}
 use Rattle.model_history.specs.ObjectId.{object_number, state_text}
 use Rattle.model_json.specs.Parts.{behind_hash, members_in, some_of}
@@ -57,10 +58,6 @@ module _ (cs : List Change) (kind : Kind) (created : List (List ℕ × List ℕ)
   ids_not_found None = []
   ids_not_found (Some ids) = filter (λ id. not (is_some (object_with_id cs kind id))) (asked_ids ids)
 
--- the most ids of a get, and the most objects where all are asked for (RFC 8620 section 2, `maxObjectsInGet`)
-abbrev pub max_objects_in_get : ℕ
-max_objects_in_get = 500
-
 abbrev pub count_asked : List Change → Kind → Option (List (List ℕ)) → ℕ
 count_asked cs kind None = length (live_at cs kind)
 count_asked cs kind (Some ids) = length ids
@@ -73,7 +70,7 @@ are_calendar_properties (Some names) = list_all is_calendar_property names
 abbrev pub get_error : List Change → Option (List (List ℕ)) → Option (List (List ℕ)) → Option MethodError
 get_error cs ids properties =
     if not (are_calendar_properties properties) then Some InvalidArguments
-    else if nat_lt max_objects_in_get (count_asked cs Calendar ids) then Some RequestTooLarge else None
+    else if nat_lt MAX_OBJECTS_IN_GET (count_asked cs Calendar ids) then Some RequestTooLarge else None
 
 abbrev pub get_arguments : List ℕ → List Change → List Data → List (List ℕ) → Tree
 get_arguments account cs objects missing = Object (

@@ -1,21 +1,22 @@
 -- One message and its response.
-use Rattle.std.proofs.Common.{◌≡◌, ℕ, ℤ, zero, suc, ◌+◌, ◌≤◌, List, [], ◌∷◌, ◌++◌, Bool, Option, Some, None, Result, Ok, Err, inl, inr, Vec, map, refl, sym, ap, ◌∙◌, subst, arith, append-nil}
+use Rattle.std.proofs.Common.{◌≡◌, ℕ, ℤ, zero, suc, ◌+◌, ◌≤◌, List, [], ◌∷◌, ◌++◌, Bool, Option, Some, None, Result, Ok, Err, inl, inr, Vec, length, map, refl, sym, ap, ◌∙◌, subst, arith, append-nil}
 use Rattle.std.specs.Prelude.{◌⊎◌}
 use Rattle.std.specs.declared.alloc.Global.{Global}
-use Rattle.model_batch.proofs.Sessions.{still}
+use Rattle.model_batch.proofs.Chains.{still}
 use Rattle.model_batch.specs.Asked.{Asked, asked, is_refused, refused}
-use Rattle.model_batch.specs.Reply.{BeginsReply, Replies, asked_in, clamped}
-use Rattle.model_batch.specs.Session.{Made, Session, Shown, front_of}
+use Rattle.model_time.specs.Moments.{clamped}
+use Rattle.model_batch.specs.Reply.{BeginsReply, Replies, asked_in}
+use Rattle.model_batch.specs.Chain.{Made, Chain, Shown, front_of}
 use Rattle.model_json.specs.Data.{Data}
 use Rattle.model_http.specs.Messages.{Message}
 use Rattle.model_http.specs.Responses.{Response, response_text}
 use Rattle.model_connection.specs.Routes.{Route, api, direct, route}
-use Rattle.model_connection.specs.Turns.{Begun, Told, Ticked, Turn, api_response, at_once, by_calls, called, moment_behind, uncalled}
+use Rattle.model_connection.specs.Exchanges.{Begun, Told, Ticked, Exchange, api_response, at_once, by_calls, called, moment_behind, moments_for, uncalled}
 use Rattle.io_edge.specs.Outside.{Ticks}
 use Rattle.model_site.specs.Configuration.{Site, user_at}
 use Rattle.model_json.specs.TreeData.{data_of}
 use Rattle.model_batch.specs.declared.desk.DeskError.{DeskError}
-use Rattle.model_batch.specs.declared.desk.DeskError.TheVariants.{PassSpent, NoMemory}
+use Rattle.model_batch.specs.declared.desk.DeskError.TheVariants.{NoMemory}
 use Rattle.model_batch.specs.declared.desk.Front.{Front}
 use Rattle.model_core.specs.declared.user.User.{User}
 use Rattle.conn_serve.proofs.Turning.{told_none}
@@ -35,36 +36,37 @@ ticked_one (Some a) (Some b) r h = first_tick a b r h.0 h.1
 
 -- ---- no call was made
 
-abbrev quiet : Message → List ℕ → Turn
+abbrev quiet : Message → List ℕ → Exchange
 quiet message bytes = record { message = message; moments = []; made = []; bytes = bytes }
 
 told_quiet : {message : Message} {c : Option (ℕ → ℤ)} {f : List Front} {d : Shown} (bytes : List ℕ) → Told c c f f d d (quiet message bytes ∷ [])
-told_quiet {message} {c} {f} {d} bytes = record { ticked = (told_none c f d).ticked; fronts = sym (append-nil f); session = still d; turns = omega arith }
+told_quiet {message} {c} {f} {d} bytes = record { ticked = (told_none c f d).ticked; fronts = sym (append-nil f); chain = still d; few = omega arith }
 
 module _ {site : Site} {close : Bool} {message : Message} {c : Option (ℕ → ℤ)} {f : List Front} {d : Shown} where
   pub answered_at_once : {r : Route} {response : Response} (v : Vec ℕ Global) → r ≡ route site close message → r ≡ direct response → v.items ≡ response_text response → Answers site close message c c f f d d (Ok v)
   answered_at_once {r} {response} v routes is shows = record {
-    turn = quiet message v.items;
+    exchange = quiet message v.items;
     is = refl;
+    desk = d;
     told = told_quiet v.items;
-    how = (at_once (record { response = response; routed = sym routes ∙ is; unread = refl; uncalled = refl; shows = shows }), refl);
+    how = (at_once (record { response = response; routed = sym routes ∙ is; unread = refl; uncalled = refl; shows = shows }), refl, refl);
   }
 
   pub not_answered : Answers site close message c c f f d d (Err NoMemory)
-  not_answered = record { turn = quiet message []; is = refl; told = told_quiet []; how = uncalled (omega arith) refl }
+  not_answered = record { exchange = quiet message []; is = refl; desk = d; told = told_quiet []; how = uncalled refl (omega arith) refl refl }
 
 -- ---- calls were made
 
-abbrev turn_at : Message → ℤ → List Made → List ℕ → Turn
+abbrev turn_at : Message → ℤ → List Made → List ℕ → Exchange
 turn_at message told made bytes = record { message = message; moments = told ∷ []; made = made; bytes = bytes }
 
 told_one : {c0 c1 : Option (ℕ → ℤ)} {f0 f1 : List Front} {d0 d1 : Shown} (message : Message) (told : ℤ) (made : List Made) (bytes : List ℕ)
-    → Ticks c0 c1 told → f1 ≡ f0 ++ map front_of made → Session d0 d1 made → d1.turns ≤ d0.turns + 16 → Told c0 c1 f0 f1 d0 d1 (turn_at message told made bytes ∷ [])
-told_one {c0} {c1} {f0} {f1} {d0} {d1} message told made bytes ticks fronts session turns = record {
+    → Ticks c0 c1 told → f1 ≡ f0 ++ map front_of made → Chain d0 d1 made → length made ≤ 16 → Told c0 c1 f0 f1 d0 d1 (turn_at message told made bytes ∷ [])
+told_one {c0} {c1} {f0} {f1} {d0} {d1} message told made bytes ticks fronts chain few = record {
   ticked = ticked_one c0 c1 told ticks;
   fronts = fronts ∙ ap (λ (l : List Made). f0 ++ map front_of l) (sym (append-nil made));
-  session = subst (Session d0 d1) (sym (append-nil made)) session;
-  turns = omega (arith, turns);
+  chain = subst (Chain d0 d1) (sym (append-nil made)) chain;
+  few = (let e = ap length (append-nil made) in omega (arith, few, e));
 }
 
 begins_whole : (user : User) (moment : ℤ) (what : Asked) (made : List Made) (d : Data) → Replies user moment what made d → (made ≡ []) ⊎ BeginsReply user moment what made
@@ -76,16 +78,17 @@ shown_reply close (asked r) reply is = rw (sym is) refl
 shown_reply close (refused e) reply is = rw (sym is) refl
 
 module _ (site : Site) (close : Bool) (message : Message) (user : ℕ) (told : ℤ) (routed : route site close message ≡ api user) where
-  begun_at : (made : List Made) → BeginsReply (user_at site user) (clamped told) (asked_in message.body) made → Begun site close (turn_at message told made [])
-  begun_at made b = called (record { user = user; routed = routed; moment = told; read = refl; begins = b })
+  one_moment : 1 ≤ moments_for (route site close message)
+  one_moment = subst (λ (r : Route). 1 ≤ moments_for r) (sym routed) (omega arith)
 
-  maybe_begun : (made : List Made) → (made ≡ []) ⊎ BeginsReply (user_at site user) (clamped told) (asked_in message.body) made → Begun site close (turn_at message told made [])
-  maybe_begun made (inl none) = uncalled (omega arith) none
-  maybe_begun made (inr b) = begun_at made b
+  stop_how : (u v : Shown) (made : List Made) (e : DeskError) → ReplyHow (user_at site user) (clamped told) (asked_in message.body) made u v (Err e) → AnswerHow site close u v (turn_at message told made []) (Err e)
+  stop_how u v made e (inl h) = uncalled h.0 one_moment h.1 h.2
+  stop_how u v made e (inr h) = called (record { user = user; routed = routed; moment = told; read = refl; begins = h.0 }) h.1
 
-  stop_how : (d1 : Shown) (made : List Made) (e : DeskError) → ReplyHow (user_at site user) (clamped told) (asked_in message.body) made d1 (Err e) → AnswerHow site close d1 (turn_at message told made []) (Err e)
-  stop_how d1 made PassSpent h = (begun_at made h.0, h.1)
-  stop_how d1 made NoMemory h = maybe_begun made h
+  -- there was no memory for the bytes of the response
+  cut_how : (u v : Shown) (made : List Made) → (made ≡ []) ⊎ BeginsReply (user_at site user) (clamped told) (asked_in message.body) made → v ≡ u → AnswerHow site close u v (turn_at message told made []) (Err NoMemory)
+  cut_how u v made (inl none) same = uncalled refl one_moment none same
+  cut_how u v made (inr b) same = called (record { user = user; routed = routed; moment = told; read = refl; begins = b }) (inl same)
 
   module _ {f0 f1 : List Front} {d0 d1 : Shown} {u : User} {w : ℤ} {bytes : List ℕ} (user_is : u ≡ user_at site user) (clamps : w ≡ clamped told) (body : bytes ≡ message.body) where
     of_message : (r : Result Reply DeskError) → IsReply u w (asked_in bytes) f0 f1 d0 d1 r → IsReply (user_at site user) (clamped told) (asked_in message.body) f0 f1 d0 d1 r
@@ -96,26 +99,28 @@ module _ (site : Site) (close : Bool) (message : Message) (user : ℕ) (told : �
     pub stopped : (e : DeskError) → IsReply u w (asked_in bytes) f0 f1 d0 d1 (Err e) → Answers site close message c0 c1 f0 f1 d0 d1 (Err e)
     stopped e given =
         let r = of_message user_is clamps body (Err e) given in
-        record { turn = turn_at message told r.made []; is = refl; told = told_one message told r.made [] ticks r.fronts r.session r.turns; how = stop_how d1 r.made e r.how }
+        record { exchange = turn_at message told r.made []; is = refl; desk = r.desk; told = told_one message told r.made [] ticks r.fronts r.chain r.few; how = stop_how r.desk d1 r.made e r.how }
 
     -- there was no memory for the bytes of the response
     pub unwritten : (reply : Reply) → IsReply u w (asked_in bytes) f0 f1 d0 d1 (Ok reply) → Answers site close message c0 c1 f0 f1 d0 d1 (Err NoMemory)
     unwritten reply given =
         let r = of_message user_is clamps body (Ok reply) given in
         record {
-          turn = turn_at message told r.made [];
+          exchange = turn_at message told r.made [];
           is = refl;
-          told = told_one message told r.made [] ticks r.fronts r.session r.turns;
-          how = maybe_begun r.made (begins_whole (user_at site user) (clamped told) (asked_in message.body) r.made (data_of reply.tree) r.how.0);
+          desk = r.desk;
+          told = told_one message told r.made [] ticks r.fronts r.chain r.few;
+          how = cut_how r.desk d1 r.made (begins_whole (user_at site user) (clamped told) (asked_in message.body) r.made (data_of reply.tree) r.how.0) r.how.2;
         }
 
     pub answered : (reply : Reply) (v : Vec ℕ Global) → IsReply u w (asked_in bytes) f0 f1 d0 d1 (Ok reply) → v.items ≡ response_text (reply_response close reply) → Answers site close message c0 c1 f0 f1 d0 d1 (Ok v)
     answered reply v given shows =
         let r = of_message user_is clamps body (Ok reply) given in
         record {
-          turn = turn_at message told r.made v.items;
+          exchange = turn_at message told r.made v.items;
           is = refl;
-          told = told_one message told r.made v.items ticks r.fronts r.session r.turns;
+          desk = r.desk;
+          told = told_one message told r.made v.items ticks r.fronts r.chain r.few;
           how = (
             by_calls (record {
               user = user;
@@ -127,5 +132,6 @@ module _ (site : Site) (close : Bool) (message : Message) (user : ℕ) (told : �
               shows = shows ∙ ap response_text (shown_reply close (asked_in message.body) reply r.how.1);
             }),
             refl,
+            r.how.2,
           );
         }

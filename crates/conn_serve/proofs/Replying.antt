@@ -1,18 +1,21 @@
 -- What a batch made of a request is a reply to it.
-use Rattle.std.proofs.Common.{◌≡◌, ℕ, ℤ, ◌+◌, ◌≤◌, List, [], Bool, true, false, Option, Some, None, Result, Ok, Err, inl, inr, length, refl, sym, ap, ◌∙◌, subst, arith, append-nil, true≢false}
+use Rattle.std.proofs.Common.{◌≡◌, ℕ, ℤ, ◌+◌, ◌≤◌, List, [], ◌∷◌, Bool, true, false, Option, Some, None, Result, Ok, Err, inl, inr, length, length-append, map, refl, sym, ap, ◌∙◌, subst, arith, append-nil, true≢false}
 use Rattle.std.proofs.lemmas.Bool.Decides.{nat_tests}
+use Rattle.std.proofs.lemmas.List.{length-map}
 use Rattle.std.specs.Prelude.{◌<◌, if◌then◌else◌, not, nat_lt}
-use Rattle.model_batch.proofs.Sessions.{still}
-use Rattle.model_batch.specs.Asked.{Asked, asked, asked_by, checked, is_refused, max_calls_in_request, refused}
+use Rattle.model_batch.proofs.Chains.{still}
+use Rattle.model_batch.specs.Asked.{Asked, asked, asked_by, checked, is_refused, refused}
 use Rattle.model_core.specs.Capabilities.{is_capability}
 use Rattle.std.specs.List.{list_all}
 use Rattle.model_batch.specs.Batch.{IsBatch, IsBegun, IsStopped, IsUntouched, Step, made_in}
-use Rattle.model_batch.specs.Reply.{BeginsReply, Replies, asked_by_reading, asked_in, max_size_request}
+use Rattle.model_core.specs.declared.limits.TheConstants.{MAX_CALLS_IN_REQUEST, MAX_SIZE_REQUEST}
+use Rattle.model_batch.specs.Reply.{BeginsReply, Replies, asked_by_reading, asked_in}
 use Rattle.model_batch.specs.Requests.{request_of}
 use Rattle.model_json.specs.Json.{reading}
+use Rattle.model_json.specs.Parts.{some_of}
 use Rattle.model_batch.specs.declared.request.Limit.TheVariants.{CallsInRequest, SizeRequest}
 use Rattle.model_batch.specs.declared.request.RequestError.TheVariants.{Limit, UnknownCapability}
-use Rattle.model_batch.specs.Session.{Shown}
+use Rattle.model_batch.specs.Chain.{Made, Shown}
 use Rattle.model_json.specs.Data.{Data}
 use Rattle.model_json.specs.TreeData.{data_of}
 use Rattle.model_batch.specs.declared.desk.DeskError.{DeskError}
@@ -42,73 +45,84 @@ request_in d (refused e) = d
 few_checked : (o : Option Request) (r : Request) → checked o ≡ asked r → length r.calls ≤ 16
 few_checked None r is = absurd (true≢false (ap is_refused is))
 few_checked (Some x) r is =
-    let parts = few_if (list_all is_capability x.using) (nat_lt max_calls_in_request (length x.calls)) UnknownCapability (Limit CallsInRequest) x r is in
+    let parts = few_if (list_all is_capability x.using) (nat_lt MAX_CALLS_IN_REQUEST (length x.calls)) UnknownCapability (Limit CallsInRequest) x r is in
     let same : x ≡ r = ap (request_in x) parts.1 in
-    let few : nat_lt max_calls_in_request (length x.calls) ≡ false = parts.0 in
+    let few : nat_lt MAX_CALLS_IN_REQUEST (length x.calls) ≡ false = parts.0 in
     let most : length x.calls ≤ 16 = search (arith, nat_tests, few) in
     subst (λ (y : Request). length y.calls ≤ 16) same most
+
+some_few : (o : Option Made) → length (some_of o) ≤ 1
+some_few None = omega arith
+some_few (Some m) = omega arith
+
+made_few : (steps : List Step) → length (made_in steps) ≤ length steps
+made_few [] = omega arith
+made_few (s ∷ ss) = (let e = length-append (some_of s.made) (made_in ss) in let one = some_few s.made in let rest = made_few ss in omega arith)
 
 module _ {user : User} {moment : ℤ} where
   -- ---- nothing was called
 
   pub no_reply : {what : Asked} {f : List Front} {d : Shown} → IsReply user moment what f f d d (Err NoMemory)
-  no_reply {what} {f} {d} = record { made = []; session = still d; fronts = sym (append-nil f); turns = omega arith; how = inl refl }
+  no_reply {what} {f} {d} = record { made = []; desk = d; chain = still d; fronts = sym (append-nil f); few = omega arith; how = inl (refl, refl, refl) }
 
   pub refused_reply : {what : Asked} {e : RequestError} {f : List Front} {d : Shown} (r : Result Reply DeskError) → what ≡ refused e → IsRefusal e r → IsReply user moment what f f d d r
   refused_reply {what} {e} {f} {d} (Ok reply) is h = record {
     made = [];
-    session = still d;
+    desk = d;
+    chain = still d;
     fronts = sym (append-nil f);
-    turns = omega arith;
-    how = (subst (λ (a : Asked). Replies user moment a [] (data_of reply.tree)) (sym is) (refl, h.0), ap is_refused is ∙ sym h.1);
+    few = omega arith;
+    how = (subst (λ (a : Asked). Replies user moment a [] (data_of reply.tree)) (sym is) (refl, h.0), ap is_refused is ∙ sym h.1, refl);
   }
   refused_reply {what} {e} {f} {d} (Err x) is h = subst (λ (y : DeskError). IsReply user moment what f f d d (Err y)) (sym h) no_reply
 
   -- ---- the desk was asked
 
+  module _ (d : Data) {f0 f1 : List Front} {d0 : Shown} where
+    begins_of : (u : Shown) (steps : List Step) (rest : List Invocation) → IsBegun user moment d f0 f1 d0 u steps rest → BeginsReply user moment (asked_by d) (made_in steps)
+    begins_of u steps rest b = record { request = b.request; is_request = b.is_asked; steps = steps; rest = rest; invoked = b.progress.invoked; fit = b.progress.fit; made_is = refl }
+
+    few_made : (u : Shown) (steps : List Step) (rest : List Invocation) → IsBegun user moment d f0 f1 d0 u steps rest → length (made_in steps) ≤ 16
+    few_made u steps rest b =
+        let few = few_checked (request_of d) b.request b.is_asked in
+        let each = made_few steps in
+        let whole = ap length b.progress.invoked ∙ length-append (map (λ (x : Step). x.invocation) steps) rest in
+        let count = length-map steps (λ (x : Step). x.invocation) in
+        omega arith
+
   module _ (d : Data) {f0 f1 : List Front} {d0 d1 : Shown} where
-    begins_of : (steps : List Step) (rest : List Invocation) → IsBegun user moment d f0 f1 d0 d1 steps rest → BeginsReply user moment (asked_by d) (made_in steps)
-    begins_of steps rest b = record { request = b.request; is_request = b.is_asked; steps = steps; rest = rest; invoked = b.progress.invoked; fit = b.progress.fit; made_is = refl }
-
-    few_turns : (steps : List Step) (rest : List Invocation) → IsBegun user moment d f0 f1 d0 d1 steps rest → d1.turns ≤ d0.turns + 16
-    few_turns steps rest b = let few = few_checked (request_of d) b.request b.is_asked in let t = b.turns in omega arith
-
     pub batch_reply : (tree : Tree) → IsBatch user moment d f0 f1 d0 d1 (Ok tree) → IsReply user moment (asked_by d) f0 f1 d0 d1 (Ok (record { tree = tree; is_refusal = false }))
     batch_reply tree b =
         let begun = b.1 in
         let invoked = begun.progress.invoked ∙ append-nil _ in
         record {
           made = made_in b.0;
-          session = begun.progress.session;
+          desk = d1;
+          chain = begun.progress.chain;
           fronts = begun.progress.fronts_grew;
-          turns = few_turns b.0 [] begun;
-          how = (subst (λ (a : Asked). Replies user moment a (made_in b.0) (data_of tree)) (sym begun.is_asked) (b.0, invoked, begun.progress.fit, refl, b.2), ap is_refused begun.is_asked);
+          few = few_made d d1 b.0 [] begun;
+          how = (subst (λ (a : Asked). Replies user moment a (made_in b.0) (data_of tree)) (sym begun.is_asked) (b.0, invoked, begun.progress.fit, refl, b.2), ap is_refused begun.is_asked, refl);
         }
 
-    stopped_reply : IsStopped user moment d f0 f1 d0 d1 → IsReply user moment (asked_by d) f0 f1 d0 d1 (Err NoMemory)
-    stopped_reply b = record {
+    stopped_reply : (e : DeskError) → IsStopped user moment d f0 f1 d0 d1 e → IsReply user moment (asked_by d) f0 f1 d0 d1 (Err e)
+    stopped_reply e b = record {
       made = made_in b.0;
-      session = b.2.progress.session;
-      fronts = b.2.progress.fronts_grew;
-      turns = few_turns b.0 b.1 b.2;
-      how = inr (begins_of b.0 b.1 b.2);
+      desk = b.2;
+      chain = b.3.progress.chain;
+      fronts = b.3.progress.fronts_grew;
+      few = few_made d b.2 b.0 b.1 b.3;
+      how = inr (begins_of d b.2 b.0 b.1 b.3, b.4);
     }
 
     untouched_reply : (r : Result Reply DeskError) → IsUntouched user moment d f0 f1 d0 d1 → IsReply user moment (asked_by d) f0 f0 d0 d0 r → IsReply user moment (asked_by d) f0 f1 d0 d1 r
     untouched_reply r u x = subst (λ (y : List Front × Shown). IsReply user moment (asked_by d) f0 y.0 d0 y.1 r) (λ i. (sym u.1 i, sym u.0 i)) x
 
     pub spent_reply : IsBatch user moment d f0 f1 d0 d1 (Err batch.PassSpent) → IsReply user moment (asked_by d) f0 f1 d0 d1 (Err PassSpent)
-    spent_reply b = record {
-      made = made_in b.0.0;
-      session = b.0.2.progress.session;
-      fronts = b.0.2.progress.fronts_grew;
-      turns = few_turns b.0.0 b.0.1 b.0.2;
-      how = (begins_of b.0.0 b.0.1 b.0.2, b.1);
-    }
+    spent_reply b = stopped_reply PassSpent b
 
     pub memory_reply : IsBatch user moment d f0 f1 d0 d1 (Err batch.NoMemory) → IsReply user moment (asked_by d) f0 f1 d0 d1 (Err NoMemory)
     memory_reply (inl u) = untouched_reply (Err NoMemory) u no_reply
-    memory_reply (inr b) = stopped_reply b
+    memory_reply (inr b) = stopped_reply NoMemory b
 
     pub refused_batch_reply : (e : RequestError) (r : Result Reply DeskError) → IsBatch user moment d f0 f1 d0 d1 (Err (batch.Refused e)) → IsRefusal e r → IsReply user moment (asked_by d) f0 f1 d0 d1 r
     refused_batch_reply e r b h = untouched_reply r b.1 (refused_reply r b.0 h)
@@ -130,12 +144,12 @@ module _ {user : User} (d : Data) {f0 f1 : List Front} {d0 d1 : Shown} (w moment
   pub memory_of_batch : {x : BatchError} → IsBatch user w d f0 f1 d0 d1 (Err x) → x ≡ batch.NoMemory → IsReply user moment (asked_by d) f0 f1 d0 d1 (Err NoMemory)
   memory_of_batch b is = at_moment _ (memory_reply d (subst (λ (y : BatchError). IsBatch user w d f0 f1 d0 d1 (Err y)) is b))
 
-pub over_limit : (bytes : List ℕ) → max_size_request < length bytes → asked_in bytes ≡ refused (Limit SizeRequest)
+pub over_limit : (bytes : List ℕ) → MAX_SIZE_REQUEST < length bytes → asked_in bytes ≡ refused (Limit SizeRequest)
 over_limit bytes h =
-    let over : nat_lt max_size_request (length bytes) ≡ true = search (arith, nat_tests, h) in
+    let over : nat_lt MAX_SIZE_REQUEST (length bytes) ≡ true = search (arith, nat_tests, h) in
     rw over refl
 
-pub as_read : (bytes : List ℕ) → length bytes ≤ max_size_request → asked_in bytes ≡ asked_by_reading (reading bytes)
+pub as_read : (bytes : List ℕ) → length bytes ≤ MAX_SIZE_REQUEST → asked_in bytes ≡ asked_by_reading (reading bytes)
 as_read bytes h =
-    let within : nat_lt max_size_request (length bytes) ≡ false = search (arith, nat_tests, h) in
+    let within : nat_lt MAX_SIZE_REQUEST (length bytes) ≡ false = search (arith, nat_tests, h) in
     rw within refl

@@ -2,9 +2,9 @@
 use Rattle.std.proofs.Common.{◌≡◌, ℕ, ℤ, zero, suc, ◌+◌, List, [], ◌∷◌, ◌++◌, length, length-append, map, sym, refl, ap, ◌∙◌, subst, arith, append-nil, append_assoc, Option, Some, None}
 use Rattle.std.proofs.lemmas.List.{map-append}
 use Rattle.std.proofs.lemmas.Grind.{flat_map-append}
-use Rattle.model_batch.proofs.Sessions.{join, still}
-use Rattle.model_batch.specs.Session.{Session, Shown, front_of}
-use Rattle.model_connection.specs.Turns.{AllFit, Fits, Ticked, Told, Turn, all_made, all_moments, closes, moment_behind}
+use Rattle.model_batch.proofs.Chains.{join, still}
+use Rattle.model_batch.specs.Chain.{Chain, Shown, front_of}
+use Rattle.model_connection.specs.Exchanges.{AllFit, Fits, Ticked, Told, Exchange, all_made, all_moments, closes, moment_behind}
 use Rattle.model_site.specs.Configuration.{Site}
 use Rattle.model_batch.specs.declared.desk.Front.{Front}
 
@@ -24,20 +24,20 @@ ticked_none None = tt
 ticked_none (Some a) = λ n. refl
 
 pub told_none : (c : Option (ℕ → ℤ)) (f : List Front) (d : Shown) → Told c c f f d d []
-told_none c f d = record { ticked = ticked_none c; fronts = sym (append-nil f); session = still d; turns = omega arith }
+told_none c f d = record { ticked = ticked_none c; fronts = sym (append-nil f); chain = still d; few = omega arith }
 
-pub told_join : (c0 c1 c2 : Option (ℕ → ℤ)) (f0 f1 f2 : List Front) (d0 d1 d2 : Shown) (ts us : List Turn) → Told c0 c1 f0 f1 d0 d1 ts → Told c1 c2 f1 f2 d1 d2 us → Told c0 c2 f0 f2 d0 d2 (ts ++ us)
+pub told_join : (c0 c1 c2 : Option (ℕ → ℤ)) (f0 f1 f2 : List Front) (d0 d1 d2 : Shown) (ts us : List Exchange) → Told c0 c1 f0 f1 d0 d1 ts → Told c1 c2 f1 f2 d1 d2 us → Told c0 c2 f0 f2 d0 d2 (ts ++ us)
 told_join c0 c1 c2 f0 f1 f2 d0 d1 d2 ts us h g =
-    let all : all_made (ts ++ us) ≡ all_made ts ++ all_made us = flat_map-append (λ (t : Turn). t.made) ts us in
+    let all : all_made (ts ++ us) ≡ all_made ts ++ all_made us = flat_map-append (λ (t : Exchange). t.made) ts us in
     record {
-      ticked = subst (Ticked c0 c2) (sym (flat_map-append (λ (t : Turn). t.moments) ts us)) (ticked_join c0 c1 c2 (all_moments ts) (all_moments us) h.ticked g.ticked);
+      ticked = subst (Ticked c0 c2) (sym (flat_map-append (λ (t : Exchange). t.moments) ts us)) (ticked_join c0 c1 c2 (all_moments ts) (all_moments us) h.ticked g.ticked);
       fronts = g.fronts ∙ (ap (λ (l : List Front). l ++ map front_of (all_made us)) h.fronts ∙ (append_assoc f0 (map front_of (all_made ts)) (map front_of (all_made us))
           ∙ ap (λ (l : List Front). f0 ++ l) (sym (ap (map front_of) all ∙ map-append front_of (all_made ts) (all_made us)))));
-      session = subst (Session d0 d2) (sym all) (join d0 d1 d2 (all_made ts) (all_made us) h.session g.session);
-      turns = (let a = h.turns in let b = g.turns in let e = length-append ts us in omega arith);
+      chain = subst (Chain d0 d2) (sym all) (join d0 d1 d2 (all_made ts) (all_made us) h.chain g.chain);
+      few = (let a = h.few in let b = g.few in let e = length-append ts us in let m = ap length all ∙ length-append (all_made ts) (all_made us) in omega arith);
     }
 
-pub fit_more : (site : Site) (most n : ℕ) (ts : List Turn) (t : Turn) → AllFit site most n ts → Fits site (closes most (n + length ts) t.message) t → AllFit site most n (ts ++ t ∷ [])
+pub fit_more : (site : Site) (most n : ℕ) (ts : List Exchange) (t : Exchange) → AllFit site most n ts → Fits site (closes most (n + length ts) t.message) t → AllFit site most n (ts ++ t ∷ [])
 fit_more site most n [] t h f =
     let same : n + 0 ≡ n = omega arith in
     (subst (λ (k : ℕ). Fits site (closes most k t.message) t) same f, tt)

@@ -1,11 +1,11 @@
 -- What a connection comes to where neither its source nor its sink fails and its desk may make more calls.
 use Rattle.std.specs.Prelude.{◌≡◌, ◌≢◌, ℕ, ℤ, ◌<◌, List, [], ◌++◌, Option, Some, IfSome, length, ⊤}
 use Rattle.std.specs.Io.KnownBytes.{Consumes, IsAtEnd}
-use Rattle.model_batch.specs.Session.{Shown}
+use Rattle.model_batch.specs.Chain.{Shown}
 use Rattle.model_http.specs.Messages.{Message}
 use Rattle.model_http.specs.Pipeline.{Ending, EndsAs, Reads, undecided, bad_head, close_asked, quota_spent}
 use Rattle.model_connection.specs.Serving.{Serves, refusal_text}
-use Rattle.model_connection.specs.Turns.{AllFit, Told, Turn, all_bytes, messages_of}
+use Rattle.model_connection.specs.Exchanges.{AllFit, Told, Exchange, all_bytes, messages_of}
 use Rattle.model_history.specs.MostTurns.{most_turns}
 use Rattle.io_edge.specs.Outside.{Grows, Rose}
 use Rattle.model_site.specs.Configuration.{Site}
@@ -21,15 +21,15 @@ module _ (site : Site) (most : ℕ) (before now held0 held1 : Option (List ℕ))
   -- all messages of the bytes that were taken were answered, n in number, and the sink got their responses, this text behind them, and nothing else
   pub record AllAnswered (left : List ℕ) (ending : Ending) (text : List ℕ) : Type 0 where
     pub taken : List ℕ
-    pub turns : List Turn
+    pub exchanges : List Exchange
     pub consumed : Consumes before now taken
-    pub count : length turns ≡ n
-    pub holds : Holds most taken (messages_of turns) left ending
+    pub count : length exchanges ≡ n
+    pub holds : Holds most taken (messages_of exchanges) left ending
     -- the messages and the end are those of all bytes that the source had, where it tells them
-    pub holds_told : IfSome before (λ bytes. (rest : List ℕ) × Holds most bytes (messages_of turns) rest ending)
-    pub fit : AllFit site most 0 turns
-    pub told : Told c0 c1 [] fronts d0 d1 turns
-    pub written : Grows held0 held1 (all_bytes turns ++ text)
+    pub holds_told : IfSome before (λ bytes. (rest : List ℕ) × Holds most bytes (messages_of exchanges) rest ending)
+    pub fit : AllFit site most 0 exchanges
+    pub told : Told c0 c1 [] fronts d0 d1 exchanges
+    pub written : Grows held0 held1 (all_bytes exchanges ++ text)
 
   -- the connection ended as its bytes do, or for want of memory
   abbrev pub EndsWithBytes : ConnEnd → Type 0
@@ -71,7 +71,7 @@ pub record IsFaultless (most : ℕ) (bytes : List ℕ) (ms : List Message) (e : 
   pub fronts : List Front
   pub n : ℕ
   pub serves : Serves site most (Some bytes) now held0 held1 s0 s1 k0 k1 c0 c1 d0 d1 fronts n e
-  pub answered : messages_of serves.turns ≡ ms
+  pub answered : messages_of serves.exchanges ≡ ms
   pub read : Rose s0 s1 → ⊥
   pub wrote : Rose k0 k1 → ⊥
   pub may_call : d1.turns < most_turns

@@ -1,7 +1,7 @@
 -- How a connection ends that wasn't served to the end of its bytes.
 use Rattle.std.specs.Prelude.{◌≡◌, ◌≤◌, ℕ, List, Option}
 use Rattle.model_connection.specs.Serving.{refusal_text}
-use Rattle.io_edge.specs.Outside.{Grows, GrowsByFront, Rose}
+use Rattle.io_edge.specs.Outside.{Grows, GrowsByPrefix, Rose}
 use Rattle.model_batch.specs.declared.desk.DeskError.{DeskError}
 use Rattle.model_batch.specs.declared.desk.DeskError.TheVariants as desk
 use Rattle.model_connection.specs.declared.served.ConnEnd.{ConnEnd}
@@ -14,7 +14,7 @@ end_for desk.NoMemory = NoMemory
 -- the response to a head that is refused with this status was given, or a front of it, or none of it
 abbrev pub RefusalHow : Option (List ℕ) → Option (List ℕ) → ℕ → ℕ → ℕ → ConnEnd → Type 0
 RefusalHow held0 held1 k0 k1 status (BadHead s) = (s ≡ status) × Grows held0 held1 (refusal_text status)
-RefusalHow held0 held1 k0 k1 status WriteFault = GrowsByFront held0 held1 (refusal_text status) × Rose k0 k1
+RefusalHow held0 held1 k0 k1 status WriteFault = GrowsByPrefix held0 held1 (refusal_text status) × Rose k0 k1
 RefusalHow held0 held1 k0 k1 status NoMemory = held1 ≡ held0
 RefusalHow held0 held1 k0 k1 status _ = ⊥
 

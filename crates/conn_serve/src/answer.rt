@@ -5,9 +5,9 @@ ghost use Rattle.model_connection.specs.Routes.{api, route};
 ghost use Rattle.conn_serve.specs.Answering.{Answers, reply_response};
 ghost use Rattle.http_edge.specs.Reading.{message_shown, response_shown};
 
-use crate::moment::clamped_moment;
 use crate::reply::{Reply, reply_to};
 use crate::route::{Route, route_of, success, with_problem};
+use model_time::moment::Moment;
 use model_batch::desk::{Desk, DeskError, Front};
 use http_edge::message::Message;
 use http_edge::response::response_bytes;
@@ -57,10 +57,9 @@ fn answer_api<D: Desk, C: Clock>(
     requires routed { route site.now close (message_shown message.now) ≡ api user }
     ensures { Answers site.now close (message_shown message.now) (C.moments clock.old) (C.moments clock.new) fronts.old.items fronts.new.items (D.shown desk.old) (D.shown desk.new) result }
 {
-    let told = clock.now();
-    let moment = clamped_moment(&told);
+    let moment = Moment::clamped(clock.now());
     let body = message.body.as_slice();
-    let reply = match reply_to(alloc, body, site.user(user), desk, &moment, fronts) {
+    let reply = match reply_to(alloc, body, site.user(user), desk, moment, fronts) {
         Ok(reply) => reply,
         Err(error) => return Err(error),
     };

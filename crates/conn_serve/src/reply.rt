@@ -10,12 +10,11 @@ use batch_exec::run::run_batch;
 use model_batch::desk::{Desk, DeskError, Front};
 use model_batch::request::{BatchError, Limit, RequestError};
 use model_json::tree::Tree;
+use model_core::limits::MAX_SIZE_REQUEST;
 use model_core::user::User;
+use model_time::moment::Moment;
 use json_edge::read::{ReadError, read_tree};
 use std::alloc::Global;
-
-/// The most bytes of a request (RFC 8620 section 2, `maxSizeRequest`).
-pub const MAX_SIZE_REQUEST: usize = 10_000_000;
 
 /// What a request came to.
 #[derive(Drop)]
@@ -26,7 +25,7 @@ pub struct Reply {
     pub is_refusal: bool,
 }
 
-/// Answers bytes as a request of a user, on the accounts of a desk, at a moment in seconds of UTC from 1970.
+/// Answers bytes as a request of a user, on the accounts of a desk, at a moment.
 ///
 /// A front is added for each call that the desk answered, in order. `PassSpent` comes only where the desk made as many calls as it
 /// may. At both errors the calls that were answered stay in the accounts' histories, and their fronts are in the list.
@@ -35,11 +34,11 @@ pub fn reply_to<D: Desk>(
     bytes: &[u8],
     user: &User,
     desk: &mut D,
-    moment: &i64,
+    moment: Moment,
     fronts: &mut Vec<Front>,
 ) -> Result<Reply, DeskError>
     requires { All (λ g. g.account < (D.shown desk.old).accounts) user.now.grants }
-    ensures { IsReply user.now moment.now (asked_in bytes.now) fronts.old.items fronts.new.items (D.shown desk.old) (D.shown desk.new) result }
+    ensures { IsReply user.now moment (asked_in bytes.now) fronts.old.items fronts.new.items (D.shown desk.old) (D.shown desk.new) result }
 {
     if bytes.len() > MAX_SIZE_REQUEST {
         return refusal(alloc, RequestError::Limit(Limit::SizeRequest));
@@ -57,13 +56,13 @@ fn reply_to_tree<D: Desk>(
     request: Tree,
     user: &User,
     desk: &mut D,
-    moment: &i64,
+    moment: Moment,
     fronts: &mut Vec<Front>,
 ) -> Result<Reply, DeskError>
     requires { All (λ g. g.account < (D.shown desk.old).accounts) user.now.grants }
-    ensures { IsReply user.now moment.now (asked_by (data_of request)) fronts.old.items fronts.new.items (D.shown desk.old) (D.shown desk.new) result }
+    ensures { IsReply user.now moment (asked_by (data_of request)) fronts.old.items fronts.new.items (D.shown desk.old) (D.shown desk.new) result }
 {
-    match run_batch(alloc, request, user, desk, *moment, fronts) {
+    match run_batch(alloc, request, user, desk, moment, fronts) {
         Ok(tree) => Ok(Reply {
             tree,
             is_refusal: false,

@@ -2,7 +2,7 @@
 ghost use Rattle.std.specs.Prelude.{◌≡◌, ◌<◌, length, IfOk};
 ghost use Rattle.model_http.specs.Responses.{IsStatus};
 ghost use Rattle.model_connection.specs.Serving.{Serves, refusal_text};
-ghost use Rattle.model_connection.specs.Turns.{closes};
+ghost use Rattle.model_connection.specs.Exchanges.{closes};
 ghost use Rattle.http_edge.specs.Reading.{message_shown};
 ghost use Rattle.conn_serve.specs.Ending.{IsRefusalEnd, end_for};
 

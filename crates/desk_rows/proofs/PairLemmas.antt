@@ -1,8 +1,10 @@
 -- A call on the second account of a pair is a call on a desk.
 use Rattle.std.proofs.Common.{◌≡◌, ◌≢◌, ℕ, ℤ, ◌+◌, ◌-◌, ◌<◌, ◌==◌, ◌^◌, List, [], ◌++◌, Result, Ok, Err, IfOk, OnOk, OnErr, refl, sym, ap, ◌∙◌, subst, arith, append-nil, ne_eqb, if◌then◌else◌}
+use Rattle.cal_model.specs.AnswerPlaces.{answer_place}
+use Rattle.cal_model.specs.AddedEntries.{added_signed}
 use Rattle.cal_model.specs.Answer.{answer, added}
 use Rattle.model_history.specs.Base.{Base}
-use Rattle.model_batch.specs.Session.{Called, StaysBeside}
+use Rattle.model_batch.specs.Chain.{Called, StaysBeside}
 use Rattle.model_history.specs.MostTurns.{most_turns}
 use Rattle.model_call.specs.declared.call.Call.{Call}
 use Rattle.model_call.specs.declared.call.Reply.{Reply}
@@ -19,6 +21,7 @@ module _ (first h h' : Base × List Entry) (left : ℕ) (some : 0 < left) (few :
   beside : h'.0 ≡ h.0 → StaysBeside (pair_shown first h left) (pair_shown first h' (left - 1)) 1
   beside base = record {
     accounts = refl;
+    rules = refl;
     turns = omega (arith, some, few);
     base = λ j. ap (λ (b : Base). if j == 0 then first.0 else b) base;
     author = λ j. refl;
@@ -31,7 +34,7 @@ module _ (first h h' : Base × List Entry) (left : ℕ) (some : 0 < left) (few :
       → Called (pair_shown first h left) (pair_shown first h' (left - 1)) 1 call moment (of_desk r)
   called (Ok reply) base replied grown same = (
     omega (arith, some, few),
-    record { beside = beside base; history = h.1; begins = ([], sym (append-nil h.1), refl); later = omega (arith, some, few); replied = replied; seen = grown },
+    record { beside = beside base; history = h.1; begins = ([], sym (append-nil h.1), refl); later = omega (arith, some, few); replied = replied; placed = ap (λ (x : Reply). x.place) replied ∙ answer_place h.0 h.1 call (stamp_next left moment); signed = added_signed h.0 h.1 call (stamp_next left moment); seen = grown },
   )
   called (Err e) base replied grown same =
       (omega (arith, some, few), record { beside = beside base; begins = ([], same ∙ sym (append-nil h.1), refl); later = omega (arith, some, few) })

@@ -10,6 +10,7 @@ ghost use Rattle.http_edge.specs.declared.head.HeadError.TheVariants.{NoMemory};
 
 use crate::bytes::Bytes;
 use crate::fields::{ContentLength, ascii_text, content_length, first_of, is_closing, token_in};
+use model_core::limits::MAX_SIZE_REQUEST;
 use model_json::text::Text;
 use httparse::Status;
 use httparse::spans::{EMPTY_HEADER_SPAN, HeaderSpan, RequestSpans, parse_request};
@@ -19,8 +20,6 @@ use std::alloc::{AllocError, Global};
 const MOST_FIELDS: usize = 64;
 /// The most line feeds of a head.
 const MOST_LINES: usize = 66;
-/// The most bytes of a body.
-const MOST_BODY: u64 = 10_000_000;
 
 /// What a head says.
 #[derive(Drop)]
@@ -120,7 +119,7 @@ fn body_length(method: &[u8], head: &[u8], fields: &[HeaderSpan]) -> Result<usiz
             }
         }
         ContentLength::Known(length) => {
-            if length > MOST_BODY {
+            if length > MAX_SIZE_REQUEST as u64 {
                 Err(413)
             } else {
                 Ok(length as usize)

@@ -1,5 +1,5 @@
 -- What the outside does, where it tells it, and when it may fail. For what a source gives, std has the words.
-use Rattle.std.specs.Prelude.{◌≡◌, ◌≢◌, ℕ, ◌+◌, ◌-◌, ◌^◌, ◌≤◌, min, ℤ, List, [], ◌∷◌, ◌++◌, length, take, if◌then◌else◌, Option, Some, None, option_map, IfSome, Result, OnErr, ⊤}
+use Rattle.std.specs.Prelude.{◌≡◌, ◌≢◌, ℕ, ◌+◌, ◌-◌, ◌^◌, ◌<◌, ◌≤◌, min, ℤ, List, [], ◌∷◌, ◌++◌, length, take, if◌then◌else◌, Option, Some, None, option_map, IfSome, Result, OnErr, ⊤}
 use Rattle.std.specs.Str.{bytes_eq}
 use Rattle.std.specs.Io.KnownBytes.{Consumes}
 
@@ -23,9 +23,9 @@ Grows held None piece = ⊤
 Grows (Some held) (Some now) piece = now ≡ held ++ piece
 Grows None (Some now) piece = ⊥
 
--- it holds a front of this piece more
-abbrev pub GrowsByFront : Option (List ℕ) → Option (List ℕ) → List ℕ → Type 0
-GrowsByFront held now piece = (n : ℕ) × (n ≤ length piece) × Grows held now (take n piece)
+-- it holds a part of this piece more, from its beginning and less than the whole
+abbrev pub GrowsByPrefix : Option (List ℕ) → Option (List ℕ) → List ℕ → Type 0
+GrowsByPrefix held now piece = (n : ℕ) × (n < length piece) × Grows held now (take n piece)
 
 -- A clock that tells its moments, by the number of the call from 0, gave the first of them, and the others are still to come.
 abbrev pub Ticks : Option (ℕ → ℤ) → Option (ℕ → ℤ) → ℤ → Type 0

@@ -2,7 +2,7 @@
 
 ghost use Rattle.std.specs.Prelude.{◌≡◌, ℕ, ◌<◌, List, length, take, Option, IfOk, OnErr, OnOk};
 ghost use Rattle.std.specs.Io.{WritesAtMost};
-ghost use Rattle.io_edge.specs.Outside.{Grows, GrowsByFront, HasCause};
+ghost use Rattle.io_edge.specs.Outside.{Grows, GrowsByPrefix, HasCause};
 
 use crate::fault::Failed;
 
@@ -31,7 +31,7 @@ pub trait Sink {
 #[tactic(auto, using(crate::proofs::Pieces::given_more))]
 pub fn put_all<K: Sink>(sink: &mut K, bytes: &[u8]) -> Result<(), Failed>
     ensures ok { OnOk result (Grows (K.holds sink.old) (K.holds sink.new) bytes.now) }
-    ensures err { OnErr result (GrowsByFront (K.holds sink.old) (K.holds sink.new) bytes.now) }
+    ensures err { OnErr result (GrowsByPrefix (K.holds sink.old) (K.holds sink.new) bytes.now) }
     ensures cause { HasCause (K.faults sink.old) (K.faults sink.new) result }
 {
     let mut given = 0;

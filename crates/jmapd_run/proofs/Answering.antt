@@ -1,21 +1,26 @@
 -- What was read, answered and put together is an answer.
-use Rattle.std.proofs.Common.{◌≡◌, ◌≤◌, ◌+◌, ◌++◌, ◌∷◌, [], ℕ, ℤ, List, Option, Bool, true, false, Result, Ok, Err, IfOk, length, ap, arith, subst, sym, ◌∙◌}
+use Rattle.std.proofs.Common.{◌≡◌, ◌≤◌, ◌+◌, ◌++◌, ◌∷◌, [], ℕ, ℤ, List, Option, Bool, true, false, Result, Ok, Err, IfOk, inl, inr, length, ap, arith, subst, sym, ◌∙◌}
 use Rattle.std.specs.Io.KnownBytes.{Consumes, IsAtEnd}
 use Rattle.std.specs.Prelude.{if◌then◌else◌}
-use Rattle.model_batch.specs.Reply.{Replies, asked_in, clamped, max_size_request}
-use Rattle.model_batch.specs.Session.{Session, Shown}
+use Rattle.model_batch.proofs.Chains.{turns_counted}
+use Rattle.model_time.specs.Moments.{clamped}
+use Rattle.model_batch.specs.Reply.{Replies, asked_in}
+use Rattle.model_core.specs.declared.limits.TheConstants.{MAX_SIZE_REQUEST}
+use Rattle.model_batch.specs.Chain.{Chain, Shown}
 use Rattle.account_desk.specs.FreshDesk.{IsSole, fresh_desk}
 use Rattle.jmapd_run.specs.Headline.{Answers, IsAnswer}
 use Rattle.model_json.specs.Json.{text_of}
+use Rattle.model_history.specs.MostTurns.{most_turns}
 use Rattle.io_edge.specs.Outside.{Grows, Ticks}
 use Rattle.model_site.specs.Configuration.{Site, user_at}
 use Rattle.model_json.specs.TreeData.{data_of}
-use Rattle.model_batch.specs.declared.desk.DeskError.TheVariants.{PassSpent}
+use Rattle.model_batch.specs.declared.desk.DeskError.{DeskError}
+use Rattle.model_batch.specs.declared.desk.DeskError.TheVariants.{NoMemory, PassSpent}
 use Rattle.model_batch.specs.declared.desk.Front.{Front}
 use Rattle.jmapd_run.specs.declared.status.Status.{Status}
 use Rattle.jmapd_run.specs.declared.status.Status.TheVariants.{Done, Refused}
 use Rattle.model_core.specs.declared.user.User.{User}
-use Rattle.conn_serve.specs.Answering.{IsReply}
+use Rattle.conn_serve.specs.Answering.{IsReply, ReplyHow}
 use Rattle.conn_serve.specs.declared.reply.Reply.{Reply}
 use Rattle.jmapd_run.specs.Runs.{RunsBatch}
 use Rattle.jmapd_run.specs.declared.batch.Answer.{Answer}
@@ -26,7 +31,7 @@ module _ (site : Site) (user : ℕ) (bytes : List ℕ) {u : User} {moment : ℤ}
   answered reply a user_is fresh sole r text refusal = record {
     made = r.made;
     desk = d1;
-    session = subst (λ (d : Shown). Session d d1 r.made) fresh r.session;
+    chain = subst (λ (y : Shown × Shown). Chain y.0 y.1 r.made) (λ i. (fresh i, sym r.how.2 i)) r.chain;
     sole = sole;
     reply = data_of reply.tree;
     replied = subst (λ (x : User). Replies x moment (asked_in bytes) r.made (data_of reply.tree)) user_is r.how.0;
@@ -39,18 +44,29 @@ module _ (site : Site) (user : ℕ) (bytes : List ℕ) {u : User} {moment : ℤ}
   answer_is reply (Ok a) user_is fresh sole replied text refusal = answered reply a user_is fresh sole replied text refusal
   answer_is reply (Err e) user_is fresh sole replied text refusal = tt
 
+  spent_behind : (r : IsReply u moment (asked_in bytes) f0 f1 d0 d1 (Err PassSpent)) → r.desk.turns ≡ most_turns
+  spent_behind r = by_how r.how
+    where
+      by_how : ReplyHow u moment (asked_in bytes) r.made r.desk d1 (Err PassSpent) → r.desk.turns ≡ most_turns
+      by_how (inl h) = absurd (let e : PassSpent ≡ NoMemory = h.0 in cc)
+      by_how (inr h) = h.1.0
+
   -- a fresh desk has turns left for a request
   pub never_spent : d0 ≡ fresh_desk site → IsReply u moment (asked_in bytes) f0 f1 d0 d1 (Err PassSpent) → ⊥
   never_spent fresh r =
       let none = ap (λ (d : Shown). d.turns) fresh in
-      let few = r.turns in
-      let spent = r.how.1 in
-      let bad : ⊥ = omega (arith, none, few, spent) in
+      let few = r.few in
+      let made = turns_counted d0 r.desk r.made r.chain in
+      let spent = spent_behind r in
+      let bad : ⊥ = omega (arith, none, few, made, spent) in
       bad
+
+  pub spent_never : {e : DeskError} → e ≡ PassSpent → d0 ≡ fresh_desk site → IsReply u moment (asked_in bytes) f0 f1 d0 d1 (Err e) → ⊥
+  spent_never is fresh r = never_spent fresh (subst (λ (x : DeskError). IsReply u moment (asked_in bytes) f0 f1 d0 d1 (Err x)) is r)
 
 module _ {site : Site} {user : ℕ} {left left' : Option (List ℕ)} {moments moments' : Option (ℕ → ℤ)} where
   pub answers_with : (bytes slice text : List ℕ) (told moment : ℤ) (is_refusal : Bool)
-      → Consumes left left' bytes → length bytes ≤ max_size_request + 1 → (length bytes ≤ max_size_request → IsAtEnd left') → Ticks moments moments' told → slice ≡ bytes → moment ≡ clamped told
+      → Consumes left left' bytes → length bytes ≤ MAX_SIZE_REQUEST + 1 → (length bytes ≤ MAX_SIZE_REQUEST → IsAtEnd left') → Ticks moments moments' told → slice ≡ bytes → moment ≡ clamped told
       → IsAnswer site user moment slice is_refusal text → Answers site user left left' moments moments' is_refusal text
   answers_with bytes slice text told moment is_refusal consumed most whole ticked same clamps answer = record {
     bytes = bytes;

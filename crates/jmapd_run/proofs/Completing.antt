@@ -1,6 +1,6 @@
 -- A run in which nothing fails does its work.
 use Rattle.std.proofs.Common.{◌≡◌, ℕ, ℤ, List, Option, Some, None, Ok, inl, inr, take, sym, ap, ◌∙◌, subst, option_map}
-use Rattle.model_batch.specs.Session.{Shown}
+use Rattle.model_batch.specs.Chain.{Shown}
 use Rattle.model_connection.specs.Serving.{Serves}
 use Rattle.io_edge.specs.Outside.{Rose}
 use Rattle.model_site.specs.Configuration.{Site, configured}

@@ -8,12 +8,15 @@ use Rattle.std.specs.Prelude.{if◌then◌else◌}
 use Rattle.account_desk.proofs.ConnectionLemmas.{connections_determined}
 use Rattle.account_desk.proofs.ReplyLemmas.{replies_determined}
 use Rattle.account_desk.specs.Determined.{RepliesAlone, ServesAlone}
-use Rattle.model_batch.specs.Reply.{asked_in, clamped, max_size_request}
+use Rattle.model_time.specs.Moments.{clamped}
+use Rattle.model_batch.specs.Reply.{asked_in}
+use Rattle.model_core.specs.declared.limits.TheConstants.{MAX_SIZE_REQUEST}
+use Rattle.model_batch.specs.Chain.{Shown}
 use Rattle.model_json.specs.Data.{Data}
-use Rattle.account_desk.specs.FreshDesk.{fresh_desk}
+use Rattle.account_desk.specs.FreshDesk.{IsSole, fresh_desk}
 use Rattle.jmapd_run.specs.Headline.{Answers, IsAnswer}
 use Rattle.model_connection.specs.Serving.{Serves, refusal_text}
-use Rattle.model_connection.specs.Turns.{all_bytes, messages_of}
+use Rattle.model_connection.specs.Exchanges.{all_bytes, messages_of}
 use Rattle.model_json.specs.Json.{text_of}
 use Rattle.model_history.specs.MostTurns.{most_turns}
 use Rattle.io_edge.specs.Outside.{Grows, Rose, Ticks}
@@ -23,9 +26,9 @@ use Rattle.model_connection.specs.declared.served.ConnEnd.TheVariants as end
 use Rattle.model_site.specs.declared.field.Field.{Field}
 use Rattle.jmapd_run.specs.declared.status.Status.{Status}
 use Rattle.jmapd_run.specs.declared.status.Status.TheVariants.{Config, Cut, Done, NoMemory, OpenFault, ReadFault, Refused, Usage, WriteFault}
-use Rattle.conn_serve.proofs.Completeness.{faultless_determined}
+use Rattle.conn_serve.proofs.Completeness.{faultless_determined, spent_turns}
 use Rattle.conn_serve.specs.Complete.{IsFaultless}
-use Rattle.jmapd_run.proofs.Connecting.{few_turns}
+use Rattle.jmapd_run.proofs.Connecting.{few_calls, same_desk}
 use Rattle.jmapd_run.proofs.StartLemmas.{some_same, start_is}
 use Rattle.jmapd_run.specs.Determined.{IsFinished, OutputsAreDetermined}
 use Rattle.jmapd_run.specs.Runs.{Runs, RunsBatch, RunsFrom, RunsStdio, status_of}
@@ -83,10 +86,10 @@ module _ (site : Site) (user : ℕ) (input : List ℕ) (clock : ℕ → ℤ) whe
   batch_end left moments s0 s1 k0 k1 Cut text r read wrote m = absurd r
 
   abbrev bytes_read : List ℕ
-  bytes_read = take (max_size_request + 1) input
+  bytes_read = take (MAX_SIZE_REQUEST + 1) input
 
   alone : {moment : ℤ} {bytes text : List ℕ} {is_refusal : Bool} (a : IsAnswer site user moment bytes is_refusal text) → RepliesAlone site (user_at site user) moment (asked_in bytes) a.reply
-  alone a = record { made = a.made; desk = a.desk; session = a.session; sole = a.sole; replied = a.replied }
+  alone a = record { made = a.made; desk = a.desk; chain = a.chain; sole = a.sole; replied = a.replied }
 
   same_answers : {moment : ℤ} {bytes x y : List ℕ} {p q : Bool} → IsAnswer site user moment bytes p x → IsAnswer site user moment bytes q y → (p ≡ q) × (x ≡ y)
   same_answers {moment} {bytes} a b =
@@ -96,7 +99,7 @@ module _ (site : Site) (user : ℕ) (input : List ℕ) (clock : ℕ → ℤ) whe
   settled : {status : Status} {text : List ℕ} (e : IsBatchEnd site user input clock status text) → IsAnswer site user (clamped (clock 0)) bytes_read e.is_refusal text
   settled {status} {text} e =
       let a = e.answers in
-      let bytes_are = all_read max_size_request input a.bytes e.left a.consumed a.most a.whole in
+      let bytes_are = all_read MAX_SIZE_REQUEST input a.bytes e.left a.consumed a.most a.whole in
       let moment_is = first_told clock e.moments a.moment a.ticked in
       subst (λ (y : ℤ × List ℕ). IsAnswer site user (clamped y.0) y.1 e.is_refusal text) (λ i. (moment_is i, bytes_are i)) a.answer
 
@@ -114,11 +117,14 @@ closing _ = []
 
 module _ (site : Site) (input : List ℕ) (clock : ℕ → ℤ) {left : Option (List ℕ)} {moments : Option (ℕ → ℤ)} {s0 s1 k0 k1 : ℕ} {text : List ℕ} {status : Status}
     (r : RunsStdio (Some input) left (Some []) (Some text) s0 s1 k0 k1 (Some clock) moments site status) (read : Rose s0 s1 → ⊥) (wrote : Rose k0 k1 → ⊥) (m : status ≢ NoMemory) where
-  may_call : r.desk.turns < most_turns
-  may_call = let few = few_turns r.serves in omega (arith, few)
-
   not_short : r.end ≢ end.NoMemory
   not_short e = m (sym (some_same NoMemory status (ap status_of (sym e) ∙ r.ended)))
+
+  same : r.desk ≡ r.serves.desk
+  same = same_desk r.end r.serves not_short r.ended
+
+  may_call : r.desk.turns < most_turns
+  may_call = let few = few_calls r.serves in let e = ap (λ (d : Shown). d.turns) same in omega (arith, few, e)
 
   faultless : IsFaultless 10000 input (messages_of r.serves.turns) r.end
   faultless = record {
@@ -150,9 +156,9 @@ module _ (site : Site) (input : List ℕ) (clock : ℕ → ℤ) {left : Option (
     unwritten = r.serves.unwritten;
     moments = moments;
     ticked = r.serves.told.ticked;
-    desk = r.desk;
-    session = r.serves.told.session;
-    sole = r.sole;
+    desk = r.serves.desk;
+    chain = r.serves.told.chain;
+    sole = subst IsSole same r.sole;
   }
 
   tail_is : (e : ConnEnd) (s : Serves site 10000 (Some input) left (Some []) (Some text) s0 s1 k0 k1 (Some clock) moments (fresh_desk site) r.desk r.fronts r.requests e) → e ≢ end.NoMemory → s.tail ≡ closing e
@@ -163,7 +169,7 @@ module _ (site : Site) (input : List ℕ) (clock : ℕ → ℤ) {left : Option (
   tail_is end.Quota s h = s.how.closing
   tail_is end.ReadFault s h = absurd (read s.how.1)
   tail_is end.WriteFault s h = absurd (wrote s.how.2)
-  tail_is end.PassSpent s h = let spent = s.how.2 in absurd (omega (arith, spent, may_call))
+  tail_is end.PassSpent s h = let spent = spent_turns s.how.0.begun in absurd (omega (arith, spent, may_call))
   tail_is end.NoMemory s h = absurd (h refl)
 
   text_is : text ≡ all_bytes r.serves.turns ++ closing r.end

@@ -3,19 +3,21 @@ use Rattle.std.specs.Prelude.{◌≡◌, ◌≤◌, ◌+◌, ℕ, ℤ, List, [],
 use Rattle.std.specs.Io.KnownBytes.{Consumes, IsAtEnd}
 use Rattle.account_desk.specs.FreshDesk.{IsSole, fresh_desk}
 use Rattle.model_batch.specs.Asked.{is_refused}
-use Rattle.model_batch.specs.Reply.{Replies, asked_in, clamped, max_size_request}
-use Rattle.model_batch.specs.Session.{Made, Session, Shown}
+use Rattle.model_batch.specs.Reply.{Replies, asked_in}
+use Rattle.model_time.specs.Moments.{clamped}
+use Rattle.model_core.specs.declared.limits.TheConstants.{MAX_SIZE_REQUEST}
+use Rattle.model_batch.specs.Chain.{Made, Chain, Shown}
 use Rattle.model_json.specs.Data.{Data}
 use Rattle.model_json.specs.Json.{text_of}
 use Rattle.io_edge.specs.Outside.{Ticks}
 use Rattle.model_site.specs.Configuration.{Site, user_at}
 
 -- This is the text that answers bytes for a user of a site at a moment: of the response, or of the problem of a request that is refused
--- as a whole, with a line feed. The calls are a session on fresh accounts, in which nobody else takes part.
+-- as a whole, with a line feed. The calls are a chain on fresh accounts, in which nobody else takes part.
 pub record IsAnswer (site : Site) (user : ℕ) (moment : ℤ) (bytes : List ℕ) (is_refusal : Bool) (text : List ℕ) : Type 0 where
   pub made : List Made
   pub desk : Shown
-  pub session : Session (fresh_desk site) desk made
+  pub chain : Chain (fresh_desk site) desk made
   pub sole : IsSole desk
   pub reply : Data
   pub replied : Replies (user_at site user) moment (asked_in bytes) made reply
@@ -27,8 +29,8 @@ pub record IsAnswer (site : Site) (user : ℕ) (moment : ℤ) (bytes : List ℕ)
 pub record Answers (site : Site) (user : ℕ) (left left' : Option (List ℕ)) (moments moments' : Option (ℕ → ℤ)) (is_refusal : Bool) (text : List ℕ) : Type 0 where
   pub bytes : List ℕ
   pub consumed : Consumes left left' bytes
-  pub most : length bytes ≤ max_size_request + 1
-  pub whole : length bytes ≤ max_size_request → IsAtEnd left'
+  pub most : length bytes ≤ MAX_SIZE_REQUEST + 1
+  pub whole : length bytes ≤ MAX_SIZE_REQUEST → IsAtEnd left'
   pub moment : ℤ
   pub ticked : Ticks moments moments' moment
   pub answer : IsAnswer site user (clamped moment) bytes is_refusal text

@@ -1,11 +1,11 @@
 -- What a run does, whatever bytes come: the main theorem's statement for the program.
 use Rattle.std.specs.Prelude.{◌≡◌, ◌⊎◌, ◌+◌, ℕ, ℤ, List, Bool, true, false, Option, Some, None}
-use Rattle.model_batch.specs.Reply.{max_size_request}
-use Rattle.model_batch.specs.Session.{Shown}
+use Rattle.model_core.specs.declared.limits.TheConstants.{MAX_SIZE_REQUEST}
+use Rattle.model_batch.specs.Chain.{Shown}
 use Rattle.account_desk.specs.FreshDesk.{IsSole, fresh_desk}
 use Rattle.jmapd_run.specs.Headline.{Answers}
 use Rattle.model_connection.specs.Serving.{Serves}
-use Rattle.io_edge.specs.Outside.{ConsumesAtMost, Grows, GrowsByFront, Rose}
+use Rattle.io_edge.specs.Outside.{ConsumesAtMost, Grows, GrowsByPrefix, Rose}
 use Rattle.model_site.specs.Configuration.{Site}
 use Rattle.model_batch.specs.declared.desk.Front.{Front}
 use Rattle.model_connection.specs.declared.served.ConnEnd.{ConnEnd}
@@ -35,10 +35,10 @@ module _ (left left' held held' : Option (List ℕ)) (s0 s1 k0 k1 : ℕ) (moment
   abbrev pub RunsBatch : Site → ℕ → Status → Type 0
   RunsBatch site user Done = (text : List ℕ) × Answers site user left left' moments moments' false text × Grows held held' text
   RunsBatch site user Refused = (text : List ℕ) × Answers site user left left' moments moments' true text × Grows held held' text
-  RunsBatch site user ReadFault = Rose s0 s1 × ConsumesAtMost left left' (max_size_request + 1) × (held' ≡ held) × (moments' ≡ moments)
+  RunsBatch site user ReadFault = Rose s0 s1 × ConsumesAtMost left left' (MAX_SIZE_REQUEST + 1) × (held' ≡ held) × (moments' ≡ moments)
   RunsBatch site user WriteFault =
-      Rose k0 k1 × (is_refusal : Bool) × (text : List ℕ) × Answers site user left left' moments moments' is_refusal text × GrowsByFront held held' text
-  RunsBatch site user NoMemory = ConsumesAtMost left left' (max_size_request + 1) × (held' ≡ held)
+      Rose k0 k1 × (is_refusal : Bool) × (text : List ℕ) × Answers site user left left' moments moments' is_refusal text × GrowsByPrefix held held' text
+  RunsBatch site user NoMemory = ConsumesAtMost left left' (MAX_SIZE_REQUEST + 1) × (held' ≡ held)
   RunsBatch site user _ = ⊥
 
   -- A connection of at most 10,000 messages was served over fresh accounts, in whose histories nobody else takes part.

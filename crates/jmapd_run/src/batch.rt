@@ -8,8 +8,9 @@ ghost use Rattle.jmapd_run.specs.Runs.{RunsBatch};
 use account_desk::sole_desk::SoleDesk;
 use model_batch::desk::DeskError;
 use crate::status::Status;
-use conn_serve::moment::clamped_moment;
-use conn_serve::reply::{MAX_SIZE_REQUEST, Reply, reply_to};
+use conn_serve::reply::{Reply, reply_to};
+use model_core::limits::MAX_SIZE_REQUEST;
+use model_time::moment::Moment;
 use io_edge::clock::Clock;
 use io_edge::sink::{Sink, put_all};
 use io_edge::source::{ReadError, Source, read_up_to};
@@ -44,9 +45,8 @@ pub(crate) fn run_batch<S: Source, K: Sink, C: Clock>(
         Err(ReadError::Failed) => return Status::ReadFault,
         Err(ReadError::NoMemory) => return Status::NoMemory,
     };
-    let told = clock.now();
-    let moment = clamped_moment(&told);
-    let Ok(answer) = answer_to(alloc, site, user, &bytes, &moment) else {
+    let moment = Moment::clamped(clock.now());
+    let Ok(answer) = answer_to(alloc, site, user, &bytes, moment) else {
         return Status::NoMemory;
     };
     match put_all(output, &answer.text) {
@@ -65,16 +65,16 @@ fn status_of(answer: &Answer) -> Status
     }
 }
 
-// The answer to a request on fresh accounts, at a moment in seconds of UTC from 1970.
+// The answer to a request on fresh accounts, at a moment.
 fn answer_to(
     alloc: Global,
     site: &Site,
     user: u32,
     bytes: &[u8],
-    moment: &i64,
+    moment: Moment,
 ) -> Result<Answer, AllocError>
     requires { user < length site.now.users }
-    ensures { IfOk result (λ a. IsAnswer site.now user moment.now bytes.now a.is_refusal a.text.items) }
+    ensures { IfOk result (λ a. IsAnswer site.now user moment bytes.now a.is_refusal a.text.items) }
 {
     let mut desk = SoleDesk::open(alloc, site)?;
     let mut fronts = Vec::new(alloc);

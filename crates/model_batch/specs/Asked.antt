@@ -2,6 +2,7 @@
 use Rattle.std.specs.Prelude.{ℕ, Bool, true, false, Option, Some, None, length, nat_lt, not, if◌then◌else◌}
 use Rattle.std.specs.List.{list_all}
 use Rattle.model_json.specs.Data.{Data}
+use Rattle.model_core.specs.declared.limits.TheConstants.{MAX_CALLS_IN_REQUEST}
 use Rattle.model_core.specs.Capabilities.{is_capability}
 use Rattle.model_batch.specs.Requests.{request_of}
 use Rattle.model_batch.specs.declared.request.Limit.TheVariants.{CallsInRequest}
@@ -13,15 +14,11 @@ pub data Asked : Type 0 where
   asked : Request → Asked
   refused : RequestError → Asked
 
--- the most calls of a request (RFC 8620 section 2, `maxCallsInRequest`)
-abbrev pub max_calls_in_request : ℕ
-max_calls_in_request = 16
-
 abbrev pub checked : Option Request → Asked
 checked None = refused NotRequest
 checked (Some r) =
     if not (list_all is_capability r.using) then refused UnknownCapability
-    else if nat_lt max_calls_in_request (length r.calls) then refused (Limit CallsInRequest) else asked r
+    else if nat_lt MAX_CALLS_IN_REQUEST (length r.calls) then refused (Limit CallsInRequest) else asked r
 
 -- a request that uses a capability that isn't there, or has too many calls, is refused
 abbrev pub asked_by : Data → Asked

@@ -1,23 +1,24 @@
 -- The responses to a request, each determined by the steps before it (RFC 8620 sections 3.2 to 3.7).
-use Rattle.std.specs.Prelude.{◌≡◌, ℕ, ◌+◌, ◌≤◌, ◌⊎◌, ℤ, List, [], ◌∷◌, ◌++◌, Option, Some, None, codes, flat_map, length, map, unwrap_or, Result, Ok, Err}
+use Rattle.std.specs.Prelude.{◌≡◌, ℕ, ◌⊎◌, ℤ, List, [], ◌∷◌, ◌++◌, Option, Some, None, codes, flat_map, length, map, unwrap_or, Result, Ok, Err}
 use Rattle.model_batch.specs.Asked.{asked, refused, asked_by}
 use Rattle.model_json.specs.Data.{Data, text, list, object, Pair, items_of, members_of}
 use Rattle.model_json.specs.Edit.{put_all}
-use Rattle.model_history.specs.MostTurns.{most_turns}
 use Rattle.model_batch.specs.Meaning.{Meaning, refuses, echoes, calls, meaning_of_method}
 use Rattle.model_call.specs.Methods.{method_used}
 use Rattle.model_json.specs.Parts.{some_of}
 use Rattle.model_batch.specs.Requests.{id_pair_of}
-use Rattle.model_batch.specs.Session.{Made, Shown, Session, front_of}
+use Rattle.model_batch.specs.Chain.{Made, Shown, Chain, Stops, front_of}
 use Rattle.model_json.specs.TreeData.{data_of}
 use Rattle.model_call.specs.declared.call.MethodError.{MethodError}
 use Rattle.model_call.specs.declared.call.MethodError.TheVariants.{UnknownMethod, InvalidArguments, InvalidResultReference, AccountNotFound, AccountReadOnly, RequestTooLarge, NotBuilt}
+use Rattle.model_batch.specs.declared.desk.DeskError.{DeskError}
+use Rattle.model_batch.specs.declared.desk.DeskError.TheVariants as reason
 use Rattle.model_batch.specs.declared.desk.Front.{Front}
 use Rattle.model_batch.specs.declared.request.BatchError.{BatchError}
 use Rattle.model_batch.specs.declared.request.BatchError.TheVariants.{Refused, PassSpent, NoMemory}
 use Rattle.model_batch.specs.declared.request.Invocation.{Invocation}
 use Rattle.model_batch.specs.declared.request.Request.{Request}
-use Rattle.model_batch.specs.declared.response.Response.{Response}
+use Rattle.model_batch.specs.declared.method_response.MethodResponse.{MethodResponse}
 use Rattle.model_json.specs.declared.tree.Tree.{Tree}
 use Rattle.model_json.specs.declared.tree.Tree.TheVariants.{Object}
 use Rattle.model_core.specs.declared.user.User.{User}
@@ -26,7 +27,7 @@ use Rattle.model_core.specs.declared.user.User.{User}
 pub record Step : Type 0 where
   pub invocation : Invocation
   pub made : Option Made
-  pub response : Response
+  pub response : MethodResponse
 
 abbrev pub made_in : List Step → List Made
 made_in steps = flat_map (λ s. some_of s.made) steps
@@ -35,7 +36,7 @@ made_in steps = flat_map (λ s. some_of s.made) steps
 abbrev pub created_in : List Step → List (List ℕ × List ℕ)
 created_in steps = flat_map (λ m. m.reply.created) (made_in steps)
 
-abbrev pub responses_in : List Step → List Response
+abbrev pub responses_in : List Step → List MethodResponse
 responses_in steps = map (λ s. s.response) steps
 
 abbrev pub error_type : MethodError → List ℕ
@@ -48,14 +49,14 @@ error_type RequestTooLarge = codes "requestTooLarge"
 error_type NotBuilt = codes "notBuilt"
 
 -- RFC 8620 section 3.4
-abbrev pub response_with : List ℕ → List ℕ → Tree → Response
+abbrev pub response_with : List ℕ → List ℕ → Tree → MethodResponse
 response_with name call_id arguments = record { name = name; arguments = arguments; call_id = call_id }
 
 -- RFC 8620 section 3.6.2
-abbrev pub error_response : List ℕ → MethodError → Response
+abbrev pub error_response : List ℕ → MethodError → MethodResponse
 error_response call_id e = response_with (codes "error") call_id (Object ((codes "type", text (error_type e)) ∷ []))
 
-abbrev pub reply_response : List ℕ → List ℕ → Tree → Option MethodError → Response
+abbrev pub reply_response : List ℕ → List ℕ → Tree → Option MethodError → MethodResponse
 reply_response name call_id arguments None = response_with name call_id arguments
 reply_response name call_id arguments (Some e) = error_response call_id e
 
@@ -87,14 +88,14 @@ module _ (user : User) (request : Request) (moment : ℤ) where
   Fit before [] = Unit {0}
   Fit before (s ∷ ss) = FollowsFrom moment (meaning_after before s.invocation) s × Fit (before ++ s ∷ []) ss
 
-  -- The first invocations led to these steps, which are in a session from one state of the desk to another.
+  -- The first invocations led to these steps, which are in a chain from one state of the desk to another.
   pub record Progress (fronts fronts' : List Front) (s t : Shown) (steps : List Step) (rest : List Invocation) : Type 0 where
     pub invoked : request.calls ≡ map (λ st. st.invocation) steps ++ rest
     pub fit : Fit [] steps
-    pub session : Session s t (made_in steps)
+    pub chain : Chain s t (made_in steps)
     pub fronts_grew : fronts' ≡ fronts ++ map front_of (made_in steps)
 
-abbrev pub response_data : Response → Data
+abbrev pub response_data : MethodResponse → Data
 response_data r = list (items_of (text r.name ∷ data_of r.arguments ∷ text r.call_id ∷ []))
 
 -- the created ids that a request gives, with those that the calls added in the place of ones of the same key
@@ -106,7 +107,7 @@ created_member None added = []
 created_member (Some given) added = (codes "createdIds", object (members_of (created_object given added))) ∷ []
 
 -- the response to a request that gives these created ids, where calls added those (RFC 8620 section 3.4)
-abbrev pub response_with_ids : Option (List Pair) → List (List ℕ × List ℕ) → List Response → Data
+abbrev pub response_with_ids : Option (List Pair) → List (List ℕ × List ℕ) → List MethodResponse → Data
 response_with_ids given added responses = object (members_of (
     created_member given added
     ++ (codes "methodResponses", list (items_of (map response_data responses))) ∷ (codes "sessionState", text (codes "1")) ∷ []))
@@ -114,23 +115,23 @@ response_with_ids given added responses = object (members_of (
 abbrev pub response_object : Request → List Step → Data
 response_object r steps = response_with_ids r.created_ids (created_in steps) (responses_in steps)
 
-module _ (user : User) (moment : ℤ) (d : Data) (fronts fronts' : List Front) (s t : Shown) where
-  -- d is a request whose first invocations were answered, and these are left
-  pub record IsBegun (steps : List Step) (rest : List Invocation) : Type 0 where
-    pub request : Request
-    pub is_asked : asked_by d ≡ asked request
-    pub progress : Progress user request moment fronts fronts' s t steps rest
-    pub turns : t.turns ≤ s.turns + length request.calls
+-- d is a request whose first invocations were answered, and these are left
+pub record IsBegun (user : User) (moment : ℤ) (d : Data) (fronts fronts' : List Front) (s t : Shown) (steps : List Step) (rest : List Invocation) : Type 0 where
+  pub request : Request
+  pub is_asked : asked_by d ≡ asked request
+  pub progress : Progress user request moment fronts fronts' s t steps rest
 
+module _ (user : User) (moment : ℤ) (d : Data) (fronts fronts' : List Front) (s t : Shown) where
   abbrev pub IsUntouched : Type 0
   IsUntouched = (t ≡ s) × (fronts' ≡ fronts)
 
-  abbrev pub IsStopped : Type 0
-  IsStopped = (steps : List Step) × (rest : List Invocation) × IsBegun steps rest
+  -- the first invocations were answered, and in the state that they left the desk answered no more
+  abbrev pub IsStopped : DeskError → Type 0
+  IsStopped e = (steps : List Step) × (rest : List Invocation) × (u : Shown) × IsBegun user moment d fronts fronts' s u steps rest × Stops e u t
 
   -- What answering d does. All invocations are answered, or none since the whole is refused, or the first ones since the desk makes no more calls or memory is wanted.
   abbrev pub IsBatch : Result Tree BatchError → Type 0
-  IsBatch (Ok tree) = (steps : List Step) × (begun : IsBegun steps []) × (data_of tree ≡ response_object begun.request steps)
+  IsBatch (Ok tree) = (steps : List Step) × (begun : IsBegun user moment d fronts fronts' s t steps []) × (data_of tree ≡ response_object begun.request steps)
   IsBatch (Err (Refused e)) = (asked_by d ≡ refused e) × IsUntouched
-  IsBatch (Err PassSpent) = IsStopped × (t.turns ≡ most_turns)
-  IsBatch (Err NoMemory) = IsUntouched ⊎ IsStopped
+  IsBatch (Err PassSpent) = IsStopped reason.PassSpent
+  IsBatch (Err NoMemory) = IsUntouched ⊎ IsStopped reason.NoMemory

@@ -3,6 +3,6 @@ pub mod Asked
 pub mod Problem
 pub mod References
 pub mod Meaning
-pub mod Session
+pub mod Chain
 pub mod Batch
 pub mod Reply

@@ -10,7 +10,7 @@ use Rattle.model_call.specs.declared.call.Call.{Call}
 use Rattle.model_call.specs.declared.call.MethodError.{MethodError}
 use Rattle.model_call.specs.declared.call.MethodError.TheVariants.{UnknownMethod, InvalidArguments, InvalidResultReference, AccountNotFound, AccountReadOnly}
 use Rattle.model_call.specs.declared.method.Method.{Method}
-use Rattle.model_batch.specs.declared.response.Response.{Response}
+use Rattle.model_batch.specs.declared.method_response.MethodResponse.{MethodResponse}
 use Rattle.model_core.specs.declared.user.Grant.{Grant}
 
 -- what an invocation comes to: an error, its own arguments, or a call on an account
@@ -40,6 +40,6 @@ module _ (grants : List Grant) (created : List (List ℕ × List ℕ)) where
   meaning_of_arguments m (resolved arguments) =
       if are_well_given m arguments then meaning_of_call grants m arguments (call_of arguments created m) else refuses InvalidArguments
 
-  abbrev pub meaning_of_method : List Response → List Pair → Option Method → Meaning
+  abbrev pub meaning_of_method : List MethodResponse → List Pair → Option Method → Meaning
   meaning_of_method responses arguments None = refuses UnknownMethod
   meaning_of_method responses arguments (Some m) = meaning_of_arguments m (resolution responses arguments)

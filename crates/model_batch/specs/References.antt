@@ -8,7 +8,7 @@ use Rattle.model_json.specs.Number.{number_in}
 use Rattle.model_json.specs.Parts.{as_text, all_some, behind_hash}
 use Rattle.model_json.specs.Pointer.{parts}
 use Rattle.model_json.specs.TreeData.{data_of}
-use Rattle.model_batch.specs.declared.response.Response.{Response}
+use Rattle.model_batch.specs.declared.method_response.MethodResponse.{MethodResponse}
 
 -- what the arguments of a call come to
 pub data Resolution : Type 0 where
@@ -45,15 +45,15 @@ path_parts [] = Some []
 path_parts (b ∷ bs) = if b == 47 then parts bs else None
 
 -- the first response to a call of this id
-abbrev pub response_with_id : List ℕ → List Response → Option Response
+abbrev pub response_with_id : List ℕ → List MethodResponse → Option MethodResponse
 response_with_id id [] = None
 response_with_id id (r ∷ rs) = if bytes_eq r.call_id id then Some r else response_with_id id rs
 
-abbrev pub value_in_response : List ℕ → List ℕ → Response → Option Data
+abbrev pub value_in_response : List ℕ → List ℕ → MethodResponse → Option Data
 value_in_response name path r =
     if bytes_eq r.name name then option_and_then (λ ps. value_by ps (data_of r.arguments)) (path_parts path) else None
 
-abbrev pub value_with : List Response → Option (List ℕ) → Option (List ℕ) → Option (List ℕ) → Option Data
+abbrev pub value_with : List MethodResponse → Option (List ℕ) → Option (List ℕ) → Option (List ℕ) → Option Data
 value_with responses (Some result_of) (Some name) (Some path) = option_and_then (value_in_response name path) (response_with_id result_of responses)
 value_with responses _ _ _ = None
 
@@ -61,7 +61,7 @@ abbrev pub text_field : List ℕ → Data → Option (List ℕ)
 text_field key d = option_and_then as_text (field key d)
 
 -- the value of a reference, an object with the texts `resultOf`, `name` and `path`
-abbrev pub value_of_reference : List Response → Data → Option Data
+abbrev pub value_of_reference : List MethodResponse → Data → Option Data
 value_of_reference responses d =
     value_with responses (text_field (codes "resultOf") d) (text_field (codes "name") d) (text_field (codes "path") d)
 
@@ -73,7 +73,7 @@ is_reference p = is_some (behind_hash p.0)
 abbrev pub has_both_forms : List Pair → Pair → Bool
 has_both_forms arguments p = is_some (option_and_then (λ key. lookup key arguments) (behind_hash p.0))
 
-abbrev pub referred_member : List Response → Pair → Option Pair
+abbrev pub referred_member : List MethodResponse → Pair → Option Pair
 referred_member responses p = option_map (λ d. (drop 1 p.0, d)) (value_of_reference responses p.1)
 
 abbrev pub with_referred : List Pair → Option (List Pair) → Resolution
@@ -81,7 +81,7 @@ with_referred arguments None = bad_reference
 with_referred arguments (Some referred) = resolved (put_all referred (filter (λ p. not (is_reference p)) arguments))
 
 -- the arguments, with the value of each reference in its place
-abbrev pub resolution : List Response → List Pair → Resolution
+abbrev pub resolution : List MethodResponse → List Pair → Resolution
 resolution responses arguments =
     if list_any (has_both_forms arguments) arguments then both_forms
     else with_referred arguments (all_some (referred_member responses) (filter is_reference arguments))

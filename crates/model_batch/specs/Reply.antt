@@ -1,10 +1,10 @@
 -- What bytes ask for, and what is replied.
-use Rattle.std.specs.Prelude.{◌≡◌, ℕ, ℤ, pos, List, [], ◌++◌, length, map, nat_lt, if◌then◌else◌}
-use Rattle.std.specs.Int.{int_min, int_max}
+use Rattle.std.specs.Prelude.{◌≡◌, ℕ, ℤ, List, [], ◌++◌, length, map, nat_lt, if◌then◌else◌}
+use Rattle.model_core.specs.declared.limits.TheConstants.{MAX_SIZE_REQUEST}
 use Rattle.model_batch.specs.Asked.{Asked, asked, refused, asked_by}
 use Rattle.model_batch.specs.Batch.{Step, Fit, made_in, response_object}
 use Rattle.model_batch.specs.Problem.{problem}
-use Rattle.model_batch.specs.Session.{Made}
+use Rattle.model_batch.specs.Chain.{Made}
 use Rattle.model_json.specs.Data.{Data}
 use Rattle.model_json.specs.Json.{Reading, not_json, not_whole, value, reading}
 use Rattle.model_batch.specs.declared.request.Invocation.{Invocation}
@@ -13,10 +13,6 @@ use Rattle.model_batch.specs.declared.request.Request.{Request}
 use Rattle.model_batch.specs.declared.request.RequestError.TheVariants.{NotJson, NotRequest, Limit}
 use Rattle.model_core.specs.declared.user.User.{User}
 
--- the most bytes of a request (RFC 8620 section 2, `maxSizeRequest`)
-abbrev pub max_size_request : ℕ
-max_size_request = 10000000
-
 abbrev pub asked_by_reading : Reading → Asked
 asked_by_reading not_json = refused NotJson
 asked_by_reading not_whole = refused NotRequest
@@ -24,11 +20,7 @@ asked_by_reading (value d) = asked_by d
 
 -- what bytes ask for
 abbrev pub asked_in : List ℕ → Asked
-asked_in bytes = if nat_lt max_size_request (length bytes) then refused (Limit SizeRequest) else asked_by_reading (reading bytes)
-
--- moments lie from 1970 to the end of the year 9998, in seconds of UTC
-abbrev pub clamped : ℤ → ℤ
-clamped moment = int_max (pos 0) (int_min moment (pos 253370764799))
+asked_in bytes = if nat_lt MAX_SIZE_REQUEST (length bytes) then refused (Limit SizeRequest) else asked_by_reading (reading bytes)
 
 -- This is the reply to what was asked, for a user at a moment, where these calls were made: the response to a request,
 -- each of whose invocations was answered, or the problem that tells why it was refused, with no call.

@@ -1,8 +1,9 @@
 //! What answers calls on accounts.
 ghost use Rattle.std.specs.Prelude.{◌≡◌, ◌<◌, ◌^◌};
-ghost use Rattle.model_batch.specs.Session.{Shown, Called};
+ghost use Rattle.model_batch.specs.Chain.{Shown, Called};
 
 use model_call::call::{Call, Reply};
+use model_time::moment::Moment;
 
 /// At which entries of an account's history a call was answered.
 #[derive(Clone, Copy, Debug, PartialEq, Eq, Drop)]
@@ -33,11 +34,11 @@ pub trait Desk {
     fn accounts(&self) -> u32
         ensures { result ≡ (shown self.now).accounts };
 
-    /// Answers a call on an account, at a moment in seconds of UTC from 1970.
+    /// Answers a call on an account, at a moment.
     ///
     /// PassSpent comes exactly where 2^40 calls were made, and changes nothing. After want of memory nothing of this call
     /// was added; entries of others may have come.
-    fn call(&mut self, account: u32, call: &Call, moment: i64) -> Result<Reply, DeskError>
+    fn call(&mut self, account: u32, call: &Call, moment: Moment) -> Result<Reply, DeskError>
         requires { account < (shown self.old).accounts }
         ensures called { Called (shown self.old) (shown self.new) account call.now moment result };
 }

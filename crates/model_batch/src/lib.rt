@@ -3,4 +3,4 @@
 
 pub mod desk;
 pub mod request;
-pub mod response;
+pub mod method_response;

@@ -1,3 +1,3 @@
 pub mod Routes
-pub mod Turns
+pub mod Exchanges
 pub mod Serving

@@ -1,4 +1,4 @@
--- How many calls one author may make.
+-- The number of calls that one author may make.
 use Rattle.std.specs.Prelude.{ℕ, ◌^◌}
 
 abbrev pub most_turns : ℕ

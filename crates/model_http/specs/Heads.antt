@@ -4,6 +4,7 @@ use Rattle.std.specs.Option.{option_or}
 use Rattle.std.specs.Str.{bytes_eq}
 use Rattle.httparse.specs.Grammar.{RequestHead, ReadsRequest}
 use Rattle.httparse.specs.Spans.{name_and_value}
+use Rattle.model_core.specs.declared.limits.TheConstants.{MAX_SIZE_REQUEST}
 use Rattle.model_http.specs.Fields.{NamedValue, values_of, first_value, length_said, Length, absent, known, unusable}
 
 -- ---- where a head ends
@@ -65,7 +66,7 @@ pub data Framing : Type 0 where
 abbrev pub framing_by_length : List ℕ → Length → Framing
 framing_by_length method unusable = refuse 400
 framing_by_length method absent = if bytes_eq method (codes "POST") then refuse 411 else body 0
-framing_by_length method (known n) = if nat_lt 10000000 n then refuse 413 else body n
+framing_by_length method (known n) = if nat_lt MAX_SIZE_REQUEST n then refuse 413 else body n
 
 -- no transfer coding is taken
 abbrev pub framing : List ℕ → List NamedValue → Framing

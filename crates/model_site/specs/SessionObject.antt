@@ -1,5 +1,6 @@
 -- The session object of a user (RFC 8620 section 2, draft JMAP for Calendars).
 use Rattle.std.specs.Prelude.{ℕ, pos, List, [], ◌∷◌, ◌++◌, Bool, true, false, codes, map, slice_index_or}
+use Rattle.model_core.specs.declared.limits.TheConstants.{MAX_CALLS_IN_REQUEST, MAX_OBJECTS_IN_GET, MAX_OBJECTS_IN_SET, MAX_SIZE_REQUEST}
 use Rattle.model_core.specs.Capabilities.{core, calendars, availability}
 use Rattle.model_json.specs.Data.{Data, Pair, truth, whole, text, list, object, items_of, members_of}
 use Rattle.model_json.specs.Edit.{put_all}
@@ -17,12 +18,12 @@ number n = whole (pos n)
 abbrev pub core_capability : Data
 core_capability = object (members_of (
     (codes "collationAlgorithms", list (items_of (text (codes "i;octet") ∷ [])))
-    ∷ (codes "maxCallsInRequest", number 16)
+    ∷ (codes "maxCallsInRequest", number MAX_CALLS_IN_REQUEST)
     ∷ (codes "maxConcurrentRequests", number 16)
     ∷ (codes "maxConcurrentUpload", number 0)
-    ∷ (codes "maxObjectsInGet", number 500)
-    ∷ (codes "maxObjectsInSet", number 500)
-    ∷ (codes "maxSizeRequest", number 10000000)
+    ∷ (codes "maxObjectsInGet", number MAX_OBJECTS_IN_GET)
+    ∷ (codes "maxObjectsInSet", number MAX_OBJECTS_IN_SET)
+    ∷ (codes "maxSizeRequest", number MAX_SIZE_REQUEST)
     ∷ (codes "maxSizeUpload", number 0) ∷ []))
 
 abbrev pub capabilities : Data

@@ -10,7 +10,7 @@ use Rattle.model_json.specs.Edit.{put_all}
 use Rattle.model_json.specs.ObjectKeys.{is_above, keys_rise}
 use Rattle.model_json.specs.Parts.{all_some}
 use Rattle.model_batch.specs.References.{resolved, has_both_forms, is_reference, referred_member, resolution, value_of_reference, with_referred}
-use Rattle.model_batch.specs.declared.response.Response.{Response}
+use Rattle.model_batch.specs.declared.method_response.MethodResponse.{MethodResponse}
 use Rattle.result_refs.specs.Parted.{plain_in, references_in, with_value}
 use Rattle.result_refs.specs.Reports.{Reports, ReportsNone}
 use Rattle.result_refs.specs.declared.arguments.ReferenceError.{ReferenceError}
@@ -70,11 +70,11 @@ valued k None rest vs h = cc
 valued k (Some d) None vs h = cc
 valued k (Some d) (Some ws) vs h = (d, ws, cc, refl)
 
-values_above : (k : List ℕ) (rs : List Response) (ps vs : List Pair) → all_some (λ p. with_value rs p) ps ≡ Some vs → is_above k ps ≡ true → is_above k vs ≡ true
+values_above : (k : List ℕ) (rs : List MethodResponse) (ps vs : List Pair) → all_some (λ p. with_value rs p) ps ≡ Some vs → is_above k ps ≡ true → is_above k vs ≡ true
 values_above k rs [] vs h a = let none : [] ≡ vs = cc in subst (λ us. is_above k us ≡ true) none refl
 values_above k rs (p ∷ ps) vs h a = let v = valued p.0 (value_of_reference rs p.1) (all_some (λ q. with_value rs q) ps) vs h in subst (λ us. is_above k us ≡ true) v.2 a
 
-pub values_rise : (rs : List Response) (ps vs : List Pair) → all_some (λ p. with_value rs p) ps ≡ Some vs → keys_rise ps ≡ true → keys_rise vs ≡ true
+pub values_rise : (rs : List MethodResponse) (ps vs : List Pair) → all_some (λ p. with_value rs p) ps ≡ Some vs → keys_rise ps ≡ true → keys_rise vs ≡ true
 values_rise rs [] vs h r = let none : [] ≡ vs = cc in subst (λ us. keys_rise us ≡ true) none refl
 values_rise rs (p ∷ ps) vs h r =
     let rise = both (is_above p.0 ps) (keys_rise ps) r in
@@ -82,21 +82,21 @@ values_rise rs (p ∷ ps) vs h r =
     subst (λ us. keys_rise us ≡ true) v.2 (and_from _ _ (values_above p.0 rs ps v.1 v.3 rise.0) (values_rise rs ps v.1 v.3 rise.1))
 
 -- arguments without both forms come to the plain ones with these values put in
-referred_as_named : (rs : List Response) (ps : List Pair) → all_some (referred_member rs) ps ≡ all_some (λ p. with_value rs p) (map (λ p. (drop 1 p.0, p.1)) ps)
+referred_as_named : (rs : List MethodResponse) (ps : List Pair) → all_some (referred_member rs) ps ≡ all_some (λ p. with_value rs p) (map (λ p. (drop 1 p.0, p.1)) ps)
 referred_as_named rs [] = refl
 referred_as_named rs (p ∷ ps) = rw (referred_as_named rs ps) refl
 
-resolution_of_parts : (rs : List Response) (arguments : List Pair) → list_any (λ p. has_both_forms arguments p) arguments ≡ false
+resolution_of_parts : (rs : List MethodResponse) (arguments : List Pair) → list_any (λ p. has_both_forms arguments p) arguments ≡ false
     → resolution rs arguments ≡ with_referred arguments (all_some (λ p. with_value rs p) (references_in arguments))
 resolution_of_parts rs arguments h = rw (h, referred_as_named rs (filter is_reference arguments)) refl
 
-pub resolved_by_parts : (rs : List Response) (arguments plain references values o : List Pair) → list_any (λ p. has_both_forms arguments p) arguments ≡ false → plain ≡ plain_in arguments → references ≡ references_in arguments
+pub resolved_by_parts : (rs : List MethodResponse) (arguments plain references values o : List Pair) → list_any (λ p. has_both_forms arguments p) arguments ≡ false → plain ≡ plain_in arguments → references ≡ references_in arguments
     → all_some (λ p. with_value rs p) references ≡ Some values → o ≡ put_all values plain → resolution rs arguments ≡ resolved o
 resolved_by_parts rs arguments plain references values o h p r v e =
     let found : all_some (λ q. with_value rs q) (references_in arguments) ≡ Some values = ap (λ ps. all_some (λ q. with_value rs q) ps) (sym r) ∙ v in
     resolution_of_parts rs arguments h ∙ (ap (λ found. with_referred arguments found) found ∙ ap resolved (sym (e ∙ ap (λ ps. put_all values ps) p)))
 
-pub reports_bad : (e : ReferenceError) (rs : List Response) (arguments references : List Pair) → list_any (λ p. has_both_forms arguments p) arguments ≡ false → references ≡ references_in arguments
+pub reports_bad : (e : ReferenceError) (rs : List MethodResponse) (arguments references : List Pair) → list_any (λ p. has_both_forms arguments p) arguments ≡ false → references ≡ references_in arguments
     → ReportsNone e (all_some (λ p. with_value rs p) references) → Reports e (resolution rs arguments)
 reports_bad BothForms rs arguments references h r n = absurd n
 reports_bad BadReference rs arguments references h r n = resolution_of_parts rs arguments h ∙ ap (λ found. with_referred arguments found) (ap (λ ps. all_some (λ q. with_value rs q) ps) (sym r) ∙ n)

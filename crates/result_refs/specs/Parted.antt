@@ -2,7 +2,7 @@
 use Rattle.std.specs.Prelude.{List, not, Option, option_map, filter, map, drop}
 use Rattle.model_json.specs.Data.{Pair}
 use Rattle.model_batch.specs.References.{is_reference, value_of_reference}
-use Rattle.model_batch.specs.declared.response.Response.{Response}
+use Rattle.model_batch.specs.declared.method_response.MethodResponse.{MethodResponse}
 
 abbrev pub plain_in : List Pair → List Pair
 plain_in arguments = filter (λ p. not (is_reference p)) arguments
@@ -12,5 +12,5 @@ abbrev pub references_in : List Pair → List Pair
 references_in arguments = map (λ p. (drop 1 p.0, p.1)) (filter is_reference arguments)
 
 -- the value of a reference, at its name
-abbrev pub with_value : List Response → Pair → Option Pair
+abbrev pub with_value : List MethodResponse → Pair → Option Pair
 with_value responses p = option_map (λ d. (p.0, d)) (value_of_reference responses p.1)

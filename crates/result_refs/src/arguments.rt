@@ -10,7 +10,7 @@ ghost use Rattle.result_refs.specs.declared.arguments.ReferenceError.TheVariants
 use crate::behind_sign::behind;
 use crate::forms::has_both_forms;
 use crate::reference::value_of_reference;
-use model_batch::response::Response;
+use model_batch::method_response::MethodResponse;
 use model_json::text::Text;
 use model_json::tree::{Member, Tree, TreeObject};
 use std::alloc::{AllocError, AllocFailed, Global};
@@ -51,7 +51,7 @@ impl<T: Drop> From<AllocFailed<T>> for ReferenceError {
 pub fn resolve(
     alloc: Global,
     arguments: TreeObject,
-    responses: &[Response],
+    responses: &[MethodResponse],
 ) -> Result<TreeObject, ReferenceError>
     ensures ok { IfOk result (λ o. resolution responses.now arguments ≡ resolved o) }
     ensures err { IfErr result (λ error. Reports error (resolution responses.now arguments)) }
@@ -98,7 +98,7 @@ fn take_apart(alloc: Global, arguments: TreeObject) -> Result<Parted, AllocError
 fn values_of(
     alloc: Global,
     references: TreeObject,
-    responses: &[Response],
+    responses: &[MethodResponse],
 ) -> Result<TreeObject, ReferenceError>
     ensures ok { IfOk result (λ o. all_some (λ p. with_value responses.now p) references ≡ Some o) }
     ensures err { IfErr result (λ error. ReportsNone error (all_some (λ p. with_value responses.now p) references)) }
@@ -111,7 +111,7 @@ fn values_of(
     Ok(TreeObject::new(values))
 }
 
-fn value_of(alloc: Global, reference: &Tree, responses: &[Response]) -> Result<Tree, ReferenceError>
+fn value_of(alloc: Global, reference: &Tree, responses: &[MethodResponse]) -> Result<Tree, ReferenceError>
     ensures ok { IfOk result (λ t. value_of_reference responses.now (data_of reference.now) ≡ Some (data_of t)) }
     ensures err { IfErr result (λ error. ReportsNone error (value_of_reference responses.now (data_of reference.now))) }
 {

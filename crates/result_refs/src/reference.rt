@@ -6,7 +6,7 @@ ghost use Rattle.model_batch.specs.References.{text_field, value_in_response, va
 ghost use Rattle.model_json.specs.TreeData.{data_of};
 
 use crate::path::value_at_path;
-use model_batch::response::Response;
+use model_batch::method_response::MethodResponse;
 use model_json::tree::Tree;
 use std::alloc::{AllocError, Global};
 
@@ -17,7 +17,7 @@ use std::alloc::{AllocError, Global};
 pub(crate) fn value_of_reference(
     alloc: Global,
     reference: &Tree,
-    responses: &[Response],
+    responses: &[MethodResponse],
 ) -> Result<Option<Tree>, AllocError>
     ensures { IfOk result (λ o. option_map data_of o ≡ value_of_reference responses.now (data_of reference.now)) }
 {
@@ -39,7 +39,7 @@ fn value_in_response(
     alloc: Global,
     name: &str,
     path: &str,
-    response: &Response,
+    response: &MethodResponse,
 ) -> Result<Option<Tree>, AllocError>
     ensures { IfOk result (λ o. option_map data_of o ≡ value_in_response name.now path.now response.now) }
 {
@@ -60,7 +60,7 @@ fn text_at<'a>(value: &'a Tree, key: &str) -> Option<&'a str>
 }
 
 // The first response to a call of this id.
-fn response_with_id<'a>(responses: &'a [Response], call_id: &str) -> Option<&'a Response>
+fn response_with_id<'a>(responses: &'a [MethodResponse], call_id: &str) -> Option<&'a MethodResponse>
     ensures { option_map (λ r. r.now) result ≡ find (λ r. bytes_eq r.call_id call_id.now) responses.now }
 {
     responses

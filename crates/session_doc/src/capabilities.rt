@@ -5,6 +5,7 @@ ghost use Rattle.model_site.specs.SessionObject.{account_capabilities, capabilit
 ghost use Rattle.model_json.specs.TreeData.{data_of};
 
 use model_core::capability::{AVAILABILITY, CALENDARS, CORE};
+use model_core::limits::{MAX_CALLS_IN_REQUEST, MAX_OBJECTS_IN_GET, MAX_OBJECTS_IN_SET, MAX_SIZE_REQUEST};
 use model_json::num::Num;
 use model_json::text::Text;
 use model_json::tree::{Tree, TreeList, TreeObject};
@@ -41,18 +42,18 @@ fn core_capability(alloc: Global) -> Result<Tree, AllocError>
     let collations = Tree::List(TreeList::new(vec![in alloc; collation]?));
     let members = vec![in alloc;
         ("collationAlgorithms", collations),
-        ("maxCallsInRequest", number(16)),
+        ("maxCallsInRequest", number(MAX_CALLS_IN_REQUEST)),
         ("maxConcurrentRequests", number(16)),
         ("maxConcurrentUpload", number(0)),
-        ("maxObjectsInGet", number(500)),
-        ("maxObjectsInSet", number(500)),
-        ("maxSizeRequest", number(10_000_000)),
+        ("maxObjectsInGet", number(MAX_OBJECTS_IN_GET)),
+        ("maxObjectsInSet", number(MAX_OBJECTS_IN_SET)),
+        ("maxSizeRequest", number(MAX_SIZE_REQUEST)),
         ("maxSizeUpload", number(0)),
     ]?;
     Tree::object(alloc, members)
 }
 
-fn number(value: u32) -> Tree
+fn number(value: usize) -> Tree
     ensures { data_of result ≡ whole (pos value) }
 {
     Tree::Whole(Num::new(value as i128))

@@ -1,11 +1,12 @@
-use Rattle.std.proofs.Common.{◌≡◌, ◌∷◌, ◌++◌, [], ◌<◌, All, List, Ok, Err, sym, subst, arith, rules}
+use Rattle.std.proofs.Common.{◌≡◌, ◌∷◌, ◌++◌, [], ◌<◌, All, List, Ok, Err, inl, refl, sym, subst, arith, rules}
 use Rattle.std.proofs.lemmas.Grind.{common_steps}
 use Rattle.std.specs.Vec.Iter.{into_iter_items}
+use Rattle.model_batch.proofs.Chains.{accounts_stay}
 use Rattle.model_batch.specs.declared.request.Invocation.{Invocation}
 use Rattle.model_batch.specs.declared.request.Request.{Request}
-use Rattle.model_batch.specs.declared.response.Response.{Response}
+use Rattle.model_batch.specs.declared.method_response.MethodResponse.{MethodResponse}
 use Rattle.batch_exec.specs.Answering.{Going}
-use Rattle.batch_exec.proofs.Progressing.{going_first, goes_on, took}
+use Rattle.batch_exec.proofs.Progressing.{going_first, goes_on, stopped_first}
 use Rattle.batch_exec.proofs.batch.answer_all.Goals as goal
 
 pub loop-invocation-init : goal.loop-invocation-init
@@ -13,12 +14,12 @@ loop-invocation-init g c =
     let a = c.args in
     let r : Request = record { using = a.capabilities.now; calls = a.calls; created_ids = a.given.now } in (
       [],
-      going_first a.user.now r a.moment.now a.fronts.now.items (g.D.Desk.shown a.desk.now) (into_iter_items c.into_iter-invocation-iterator.result) c.new-responses.result.items c.in-Ok.created
+      going_first a.user.now r a.moment a.fronts.now.items (g.D.Desk.shown a.desk.now) (into_iter_items c.into_iter-invocation-iterator.result) c.new-responses.result.items c.in-Ok.created
           (grind (arith, common_steps)) (search rules) (search rules),
     )
 
 pub respond-requires : goal.respond-requires
-respond-requires g c = subst (λ n. All (λ h. h.account < n) c.args.user.now.grants) (sym c.loop-invocation.invariant.1.progress.session.accounts) c.requires
+respond-requires g c = subst (λ n. All (λ h. h.account < n) c.args.user.now.grants) (sym (accounts_stay _ _ _ c.loop-invocation.invariant.1.progress.chain)) c.requires
 
 pub returns-in-Err : goal.returns-in-Err
 returns-in-Err g c =
@@ -26,8 +27,8 @@ returns-in-Err g c =
     let r : Request = record { using = a.capabilities.now; calls = a.calls; created_ids = a.given.now } in
     let l = c.loop-invocation in
     let next : into_iter_items l.invocation-iterator ≡ c.in-Some.invocation ∷ into_iter_items c.next.new.self = grind (arith, common_steps) in
-    let going = subst (λ (cs : List Invocation). Going a.user.now r a.moment.now a.fronts.now.items l.fronts.items (g.D.Desk.shown a.desk.now) (g.D.Desk.shown l.desk) l.invariant.0 cs l.responses.items l.created) next l.invariant.1 in
-    goes_on a.user.now r a.moment.now a.fronts.now.items l.fronts.items c.respond.new.fronts.items (g.D.Desk.shown a.desk.now) (g.D.Desk.shown l.desk) (g.D.Desk.shown c.respond.new.desk)
+    let going = subst (λ (cs : List Invocation). Going a.user.now r a.moment a.fronts.now.items l.fronts.items (g.D.Desk.shown a.desk.now) (g.D.Desk.shown l.desk) l.invariant.0 cs l.responses.items l.created) next l.invariant.1 in
+    goes_on a.user.now r a.moment a.fronts.now.items l.fronts.items c.respond.new.fronts.items (g.D.Desk.shown a.desk.now) (g.D.Desk.shown l.desk) (g.D.Desk.shown c.respond.new.desk)
     l.invariant.0 c.in-Some.invocation (into_iter_items c.next.new.self) c.deref.result.now l.responses.items c.deref-in-loop-invocation.result.now l.created c.respond.new.created (Err c.in-Err.error)
     (search rules) (search rules) going c.in-Err.ensures
 
@@ -37,11 +38,11 @@ returns-then-is_err g c =
     let r : Request = record { using = a.capabilities.now; calls = a.calls; created_ids = a.given.now } in
     let l = c.loop-invocation in
     let next : into_iter_items l.invocation-iterator ≡ c.in-Some.invocation ∷ into_iter_items c.next.new.self = grind (arith, common_steps) in
-    let going = subst (λ (cs : List Invocation). Going a.user.now r a.moment.now a.fronts.now.items l.fronts.items (g.D.Desk.shown a.desk.now) (g.D.Desk.shown l.desk) l.invariant.0 cs l.responses.items l.created) next l.invariant.1 in
-    let more = goes_on a.user.now r a.moment.now a.fronts.now.items l.fronts.items c.respond.new.fronts.items (g.D.Desk.shown a.desk.now) (g.D.Desk.shown l.desk) (g.D.Desk.shown c.respond.new.desk)
+    let going = subst (λ (cs : List Invocation). Going a.user.now r a.moment a.fronts.now.items l.fronts.items (g.D.Desk.shown a.desk.now) (g.D.Desk.shown l.desk) l.invariant.0 cs l.responses.items l.created) next l.invariant.1 in
+    let more = goes_on a.user.now r a.moment a.fronts.now.items l.fronts.items c.respond.new.fronts.items (g.D.Desk.shown a.desk.now) (g.D.Desk.shown l.desk) (g.D.Desk.shown c.respond.new.desk)
     l.invariant.0 c.in-Some.invocation (into_iter_items c.next.new.self) c.deref.result.now l.responses.items c.deref-in-loop-invocation.result.now l.created c.respond.new.created (Ok c.in-Ok-respond.response)
     (search rules) (search rules) going c.in-Ok-respond.ensures in
-    (more.0, into_iter_items c.next.new.self, took a.user.now r a.moment.now a.fronts.now.items c.respond.new.fronts.items (g.D.Desk.shown a.desk.now) (g.D.Desk.shown c.respond.new.desk) more.0 (into_iter_items c.next.new.self) _ _ more.1)
+    (more.0, into_iter_items c.next.new.self, g.D.Desk.shown c.respond.new.desk, more.1.progress, inl refl)
 
 pub loop-invocation-preserved : goal.loop-invocation-preserved
 loop-invocation-preserved g c =
@@ -49,12 +50,12 @@ loop-invocation-preserved g c =
     let r : Request = record { using = a.capabilities.now; calls = a.calls; created_ids = a.given.now } in
     let l = c.loop-invocation in
     let next : into_iter_items l.invocation-iterator ≡ c.in-Some.invocation ∷ into_iter_items c.next.new.self = grind (arith, common_steps) in
-    let going = subst (λ (cs : List Invocation). Going a.user.now r a.moment.now a.fronts.now.items l.fronts.items (g.D.Desk.shown a.desk.now) (g.D.Desk.shown l.desk) l.invariant.0 cs l.responses.items l.created) next l.invariant.1 in
-    let more = goes_on a.user.now r a.moment.now a.fronts.now.items l.fronts.items c.respond.new.fronts.items (g.D.Desk.shown a.desk.now) (g.D.Desk.shown l.desk) (g.D.Desk.shown c.respond.new.desk)
+    let going = subst (λ (cs : List Invocation). Going a.user.now r a.moment a.fronts.now.items l.fronts.items (g.D.Desk.shown a.desk.now) (g.D.Desk.shown l.desk) l.invariant.0 cs l.responses.items l.created) next l.invariant.1 in
+    let more = goes_on a.user.now r a.moment a.fronts.now.items l.fronts.items c.respond.new.fronts.items (g.D.Desk.shown a.desk.now) (g.D.Desk.shown l.desk) (g.D.Desk.shown c.respond.new.desk)
     l.invariant.0 c.in-Some.invocation (into_iter_items c.next.new.self) c.deref.result.now l.responses.items c.deref-in-loop-invocation.result.now l.created c.respond.new.created (Ok c.in-Ok-respond.response)
     (search rules) (search rules) going c.in-Ok-respond.ensures in
     let pushed : l.responses.items ++ c.in-Ok-respond.response ∷ [] ≡ c.push.new.self.items = grind (arith, common_steps) in
-    (more.0, subst (λ (rs : List Response). Going a.user.now r a.moment.now a.fronts.now.items c.respond.new.fronts.items (g.D.Desk.shown a.desk.now) (g.D.Desk.shown c.respond.new.desk) more.0 (into_iter_items c.next.new.self) rs c.respond.new.created) pushed more.1)
+    (more.0, subst (λ (rs : List MethodResponse). Going a.user.now r a.moment a.fronts.now.items c.respond.new.fronts.items (g.D.Desk.shown a.desk.now) (g.D.Desk.shown c.respond.new.desk) more.0 (into_iter_items c.next.new.self) rs c.respond.new.created) pushed more.1)
 
 pub returns : goal.returns
 returns g c =
@@ -62,5 +63,10 @@ returns g c =
     let r : Request = record { using = a.capabilities.now; calls = a.calls; created_ids = a.given.now } in
     let l = c.loop-invocation in
     let none : into_iter_items l.invocation-iterator ≡ [] = grind (arith, common_steps) in
-    let going = subst (λ (cs : List Invocation). Going a.user.now r a.moment.now a.fronts.now.items l.fronts.items (g.D.Desk.shown a.desk.now) (g.D.Desk.shown l.desk) l.invariant.0 cs l.responses.items l.created) none l.invariant.1 in
-    (l.invariant.0, took a.user.now r a.moment.now a.fronts.now.items l.fronts.items (g.D.Desk.shown a.desk.now) (g.D.Desk.shown l.desk) l.invariant.0 [] l.responses.items l.created going, going.responses_are, going.created_are)
+    let going = subst (λ (cs : List Invocation). Going a.user.now r a.moment a.fronts.now.items l.fronts.items (g.D.Desk.shown a.desk.now) (g.D.Desk.shown l.desk) l.invariant.0 cs l.responses.items l.created) none l.invariant.1 in
+    (l.invariant.0, going.progress, going.responses_are, going.created_are)
+
+pub returns-in_default : goal.returns-in_default
+returns-in_default g c =
+    let a = c.args in
+    stopped_first a.user.now (record { using = a.capabilities.now; calls = a.calls; created_ids = a.given.now }) a.moment a.fronts.now.items (g.D.Desk.shown a.desk.now)

@@ -11,7 +11,7 @@ returns-then-bytes-gt-MAX_SIZE_REQUEST g c = refused_reply c.refusal.result (ove
 pub returns-in-Ok : goal.returns-in-Ok
 returns-in-Ok g c =
     let is = as_read c.args.bytes.now (search rules) ∙ ap asked_by_reading c.in-Ok.ensures.ok in
-    subst (λ (what : Asked). IsReply c.args.user.now c.args.moment.now what c.args.fronts.now.items c.reply_to_tree.new.fronts.items
+    subst (λ (what : Asked). IsReply c.args.user.now c.args.moment what c.args.fronts.now.items c.reply_to_tree.new.fronts.items
     (g.D.Desk.shown c.args.desk.now) (g.D.Desk.shown c.reply_to_tree.new.desk) c.reply_to_tree.result) (sym is) c.reply_to_tree.ensures
 
 pub returns-in-Err-NotJson : goal.returns-in-Err-NotJson

@@ -1,5 +1,5 @@
 use Rattle.std.proofs.Common.{◌≡◌, ◌≢◌, ◌-◌, ◌<◌, ◌^◌, ℕ, ℤ, rules, subst, sym, w64, to_z, of_z, Result}
-use Rattle.model_batch.specs.Session.{Called}
+use Rattle.model_batch.specs.Chain.{Called}
 use Rattle.model_history.specs.MostTurns.{most_turns}
 use Rattle.model_call.specs.declared.call.Reply.{Reply}
 use Rattle.model_batch.specs.declared.desk.DeskError.{DeskError}

@@ -5,7 +5,7 @@ use model_json::tree::Tree;
 
 /// What a method call in a request came to (RFC 8620 section 3.4).
 #[derive(Drop)]
-pub struct Response {
+pub struct MethodResponse {
     /// The name of the method, or `error`.
     pub name: Text,
     /// What the method answered, or the type of the error.

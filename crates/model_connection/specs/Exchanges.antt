@@ -1,33 +1,36 @@
 -- A message of a connection and what came of it.
 use Rattle.std.specs.Prelude.{◌≡◌, ℕ, ℤ, zero, suc, ◌+◌, ◌*◌, ◌≤◌, ◌==◌, ◌||◌, List, [], ◌∷◌, ◌++◌, Bool, Option, Some, None, flat_map, length, map, ⊤}
 use Rattle.model_batch.specs.Asked.{Asked, asked, refused}
-use Rattle.model_batch.specs.Session.{Made, Session, Shown, front_of}
+use Rattle.model_batch.specs.Chain.{Made, Chain, Shown, Stops, front_of}
 use Rattle.model_json.specs.Data.{Data}
-use Rattle.model_batch.specs.Reply.{BeginsReply, Replies, asked_in, clamped}
+use Rattle.model_time.specs.Moments.{clamped}
+use Rattle.model_batch.specs.Reply.{BeginsReply, Replies, asked_in}
 use Rattle.model_http.specs.Messages.{Message}
 use Rattle.model_http.specs.Responses.{Response, response_text}
-use Rattle.model_connection.specs.Routes.{api, direct, route, success, with_problem}
+use Rattle.model_connection.specs.Routes.{Route, api, direct, route, success, with_problem}
 use Rattle.model_json.specs.Json.{text_of}
 use Rattle.model_site.specs.Configuration.{Site, user_at}
+use Rattle.model_batch.specs.declared.desk.DeskError.{DeskError}
+use Rattle.model_batch.specs.declared.desk.DeskError.TheVariants.{NoMemory}
 use Rattle.model_batch.specs.declared.desk.Front.{Front}
 
 -- a message, the moments that the clock gave for it, the calls that the desk answered for it, and the bytes of its response
-pub record Turn : Type 0 where
+pub record Exchange : Type 0 where
   pub message : Message
   pub moments : List ℤ
   pub made : List Made
   pub bytes : List ℕ
 
-abbrev pub messages_of : List Turn → List Message
+abbrev pub messages_of : List Exchange → List Message
 messages_of ts = map (λ t. t.message) ts
 
-abbrev pub all_made : List Turn → List Made
+abbrev pub all_made : List Exchange → List Made
 all_made ts = flat_map (λ t. t.made) ts
 
-abbrev pub all_moments : List Turn → List ℤ
+abbrev pub all_moments : List Exchange → List ℤ
 all_moments ts = flat_map (λ t. t.moments) ts
 
-abbrev pub all_bytes : List Turn → List ℕ
+abbrev pub all_bytes : List Exchange → List ℕ
 all_bytes ts = flat_map (λ t. t.bytes) ts
 
 -- the connection ends behind the response to a message that asks to close, or is the last of so many
@@ -38,7 +41,12 @@ abbrev pub api_response : Bool → Asked → Data → Response
 api_response close (asked r) reply = success close (text_of reply)
 api_response close (refused e) reply = with_problem close (text_of reply)
 
-module _ (site : Site) (close : Bool) (t : Turn) where
+-- the most moments that a message of this route takes
+abbrev pub moments_for : Route → ℕ
+moments_for (direct response) = 0
+moments_for (api user) = 1
+
+module _ (site : Site) (close : Bool) (t : Exchange) where
   -- a response that no call has a part in; the clock wasn't read
   pub record FitsDirect : Type 0 where
     pub response : Response
@@ -70,13 +78,15 @@ module _ (site : Site) (close : Bool) (t : Turn) where
     pub read : t.moments ≡ moment ∷ []
     pub begins : BeginsReply (user_at site user) (clamped moment) (asked_in t.message.body) t.made
 
-  -- No response was written, and maybe not all of its calls were made. The clock was read once at most.
-  pub data Begun : Type 0 where
-    uncalled : length t.moments ≤ 1 → t.made ≡ [] → Begun
-    called : BegunApi → Begun
+  -- No response was written, and the desk answered no more calls for this reason. In the state u it had answered the first of the message's calls,
+  -- and it was left in the state v. A message that needs no moment reads no clock.
+  module _ (e : DeskError) (u v : Shown) where
+    pub data Begun : Type 0 where
+      uncalled : e ≡ NoMemory → length t.moments ≤ moments_for (route site close t.message) → t.made ≡ [] → v ≡ u → Begun
+      called : BegunApi → Stops e u v → Begun
 
 -- each response is what its message asks for, where so many messages went before
-abbrev pub AllFit : Site → ℕ → ℕ → List Turn → Type 0
+abbrev pub AllFit : Site → ℕ → ℕ → List Exchange → Type 0
 AllFit site most before [] = ⊤
 AllFit site most before (t ∷ ts) = Fits site (closes most before t.message) t × AllFit site most (suc before) ts
 
@@ -92,10 +102,10 @@ Ticked None now ts = ⊤
 Ticked (Some old) None ts = ⊥
 Ticked (Some old) (Some now) ts = (n : ℕ) → old n ≡ moment_behind ts now n
 
--- What clock, fronts and desk were before and after these turns. All calls together are one session.
-pub record Told (c0 c1 : Option (ℕ → ℤ)) (f0 f1 : List Front) (d0 d1 : Shown) (ts : List Turn) : Type 0 where
+-- What clock, fronts and desk were before and after these exchanges. All calls together are one chain.
+pub record Told (c0 c1 : Option (ℕ → ℤ)) (f0 f1 : List Front) (d0 d1 : Shown) (ts : List Exchange) : Type 0 where
   pub ticked : Ticked c0 c1 (all_moments ts)
   pub fronts : f1 ≡ f0 ++ map front_of (all_made ts)
-  pub session : Session d0 d1 (all_made ts)
+  pub chain : Chain d0 d1 (all_made ts)
   -- a request has at most 16 calls
-  pub turns : d1.turns ≤ d0.turns + 16 * length ts
+  pub few : length (all_made ts) ≤ 16 * length ts
