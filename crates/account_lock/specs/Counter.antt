@@ -1,13 +1,9 @@
 -- A book of amounts, whose replies are their sum.
 use Rattle.std.specs.Prelude.{ℕ, ◌+◌, ◌==◌, ◌||◌, Bool, true, false, refl, List, [], ◌∷◌, length, min, None, if◌then◌else◌}
-use Rattle.model_history.specs.Base.{Base}
 use Rattle.model_history.specs.Signed.{AreSigned}
 use Rattle.model_history.specs.declared.entry.Entry.{Entry}
 use Rattle.model_history.specs.declared.entry.Kind.TheVariants.{Calendar}
 use Rattle.model_history.specs.declared.stamp.Stamp.{Stamp}
-
-abbrev pub no_base : Base
-no_base = record { account_id = []; zones = [] }
 
 abbrev pub sum_of_ids : List Entry → ℕ
 sum_of_ids [] = 0
@@ -20,7 +16,11 @@ amount_entry amount s = record { author = s.author; turn = s.turn; part = 0; mom
 abbrev pub most_entries : ℕ
 most_entries = 1099511627776
 
--- an amount above 1000 counts as 1000, and neither 0 nor a full book adds an entry
+-- what an amount counts: above 1000 as 1000, and nothing in a full book
+abbrev pub amount_counted : List Entry → ℕ → ℕ
+amount_counted h n = if length h == most_entries then 0 else min n 1000
+
+-- neither 0 nor a full book adds an entry
 abbrev pub amount_added : List Entry → ℕ → Stamp → List Entry
 amount_added h n s = if (min n 1000 == 0) || (length h == most_entries) then [] else amount_entry (min n 1000) s ∷ []
 

@@ -30,12 +30,12 @@ opened_pass lock base opened k = record { lock = lock; base = base; number = k; 
 abbrev pub next_stamp : PassState → ℤ → Stamp
 next_stamp p moment = record { author = p.number; turn = p.turns + 1; moment = moment }
 
-module _ {C R : Type 0} (answer : Base → List Entry → C → Stamp → R) (added : Base → List Entry → C → Stamp → List Entry) where
+module _ {C R : Type 0} (answer : Base → List Entry → C → ℤ → R) (added : Base → List Entry → C → Stamp → List Entry) where
   -- The reply is the book's at a history that begins with what the pass had seen, with no entry of the pass between. The pass has then seen that history with the call's entries.
   pub record IsAnswered (call : C) (moment : ℤ) (reply : R) (old new : PassState) : Type 0 where
     pub history : List Entry
     pub begins : Extends old.number old.seen history
-    pub replied : reply ≡ answer old.base history call (next_stamp old moment)
+    pub replied : reply ≡ answer old.base history call moment
     pub new_state : new ≡ record old { turns = old.turns + 1; seen = history ++ added old.base history call (next_stamp old moment); mine = old.mine ++ added old.base history call (next_stamp old moment) }
 
 -- The call took its turn and added nothing: the pass may have seen entries of others.

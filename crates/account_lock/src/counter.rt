@@ -61,8 +61,9 @@ impl CounterBook {
 }
 
 impl Book for CounterBook {
-    ghost use Rattle.std.specs.Prelude.{◌++◌};
-    ghost use Rattle.account_lock.specs.Counter.{no_base, sum_of_ids, amount_added, amount_added_signed};
+    ghost use Rattle.std.specs.Prelude.{◌+◌};
+    ghost use Rattle.account_lock.specs.Counter.{sum_of_ids, amount_added, amount_added_signed, amount_counted};
+    ghost use Rattle.model_history.specs.Base.{no_base};
 
     type Call = Add;
 
@@ -72,7 +73,7 @@ impl Book for CounterBook {
 
     ghost entries = { λ b. b };
 
-    ghost answer = { λ z h call stamp. sum_of_ids (h ++ amount_added h call.0 stamp) };
+    ghost answer = { λ z h call moment. sum_of_ids h + amount_counted h call.0 };
 
     ghost added = { λ z h call stamp. amount_added h call.0 stamp };
 

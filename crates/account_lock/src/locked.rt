@@ -151,7 +151,7 @@ fn act<B: Book>(
     requires book { (B.base book.old ≡ seat.old.me.0.base) × (B.entries book.old ≡ seat.old.me.0.hand.1) }
     ensures same { (seat.new.table_id ≡ seat.old.table_id) × (seat.new.me.1 ≡ seat.old.me.1) }
     ensures book { (B.base book.new ≡ seat.new.me.0.base) × (B.entries book.new ≡ seat.new.me.0.seen) }
-    ensures replied { IfOk result (λ r. r ≡ B.answer (B.base book.old) (B.entries book.old) call.now stamp.now) }
+    ensures replied { IfOk result (λ r. r ≡ B.answer (B.base book.old) (B.entries book.old) call.now stamp.now.moment) }
     ensures added { OnOk result (seat.new.me.0 ≡ having_added (having_read seat.old.me.0)
         (B.added (B.base book.old) (B.entries book.old) call.now stamp.now)) }
     ensures err { OnErr result (seat.new.me.0 ≡ having_added (having_read seat.old.me.0) []) }
