@@ -6,6 +6,7 @@ ghost use Rattle.model_json.specs.TreeData.{data_of, pair_of};
 
 mod edit;
 mod merge;
+mod read;
 
 use crate::num::Num;
 use crate::text::Text;
