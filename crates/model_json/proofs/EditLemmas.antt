@@ -1,5 +1,5 @@
 -- Objects with a member put in or taken out: their keys stay in order, other keys keep their values, and what was taken out may be put in again.
-use Rattle.std.proofs.Common.{◌≡◌, ℕ, List, [], ◌∷◌, Bool, true, false, if◌then◌else◌, refl, sym, ap, ◌∙◌, Ordering, Less, Equal, Greater}
+use Rattle.std.proofs.Common.{◌≡◌, ℕ, List, [], ◌∷◌, Bool, true, false, None, if◌then◌else◌, refl, sym, ap, ◌∙◌, Ordering, Less, Equal, Greater}
 use Rattle.std.proofs.lemmas.Bool.{and_from}
 use Rattle.std.proofs.lemmas.Cmp.{nat_list_cmp_total}
 use Rattle.std.proofs.lemmas.Map.Text.{is_eq-slice_cmp}
@@ -35,11 +35,20 @@ pub below_else : (j k : List ℕ) → is_lt (key_cmp j k) ≡ false → bytes_eq
 below_else j k h e = ap is_lt (nat_list_cmp_total.antisymm k j) ∙ reverse_less (key_cmp j k) h (is_eq-slice_cmp j k ∙ e)
 
 -- and that one is neither above nor equal
-not_above : (k j : List ℕ) → is_lt (key_cmp k j) ≡ true → (is_lt (key_cmp j k) ≡ false) × (is_eq (key_cmp j k) ≡ false)
+pub not_above : (k j : List ℕ) → is_lt (key_cmp k j) ≡ true → (is_lt (key_cmp j k) ≡ false) × (is_eq (key_cmp j k) ≡ false)
 not_above k j h = reverse_greater (key_cmp j k) (sym (ap is_lt (nat_list_cmp_total.antisymm k j)) ∙ h)
 
 pub not_equal : (k j : List ℕ) → is_lt (key_cmp k j) ≡ true → bytes_eq j k ≡ false
 not_equal k j h = sym (is_eq-slice_cmp j k) ∙ (not_above k j h).1
+
+less_not_equal : (o : Ordering) → is_lt o ≡ true → is_eq o ≡ false
+less_not_equal Less h = refl
+less_not_equal Equal h = cc
+less_not_equal Greater h = cc
+
+-- a key below another isn't that one
+pub below_unlike : (j k : List ℕ) → is_lt (key_cmp j k) ≡ true → bytes_eq j k ≡ false
+below_unlike j k h = sym (is_eq-slice_cmp j k) ∙ less_not_equal (key_cmp j k) h
 
 pub equal_not_below : (j k : List ℕ) → bytes_eq j k ≡ true → is_lt (key_cmp j k) ≡ false
 equal_not_below j k e = equal_not_less (key_cmp j k) (is_eq-slice_cmp j k ∙ e)
@@ -84,13 +93,19 @@ rises_without k (p ∷ ps) h =
     of_two keys_rise (bytes_eq p.0 k) ps (p ∷ without k ps) rise.1 (and_from _ _ (above_without p.0 k ps rise.1 rise.0) (rises_without k ps rise.1))
 
 -- a key below the first of some members is none of theirs, and goes first
-without_below : (k : List ℕ) (ps : List Pair) → is_above k ps ≡ true → keys_rise ps ≡ true → without k ps ≡ ps
+pub without_below : (k : List ℕ) (ps : List Pair) → is_above k ps ≡ true → keys_rise ps ≡ true → without k ps ≡ ps
 without_below k [] h r = refl
 without_below k (p ∷ ps) h r =
     let rise = both (is_above p.0 ps) (keys_rise ps) r in
     rw (not_equal k p.0 h) (ap (λ qs. p ∷ qs) (without_below k ps (above_later k p ps h rise.0) rise.1))
 
-with_below : (k : List ℕ) (v : Data) (ps : List Pair) → is_above k ps ≡ true → with_pair k v ps ≡ (k, v) ∷ ps
+pub lookup_below : (k : List ℕ) (ps : List Pair) → is_above k ps ≡ true → keys_rise ps ≡ true → lookup k ps ≡ None
+lookup_below k [] h r = refl
+lookup_below k (p ∷ ps) h r =
+    let rise = both (is_above p.0 ps) (keys_rise ps) r in
+    rw (not_equal k p.0 h) (lookup_below k ps (above_later k p ps h rise.0) rise.1)
+
+pub with_below : (k : List ℕ) (v : Data) (ps : List Pair) → is_above k ps ≡ true → with_pair k v ps ≡ (k, v) ∷ ps
 with_below k v [] h = refl
 with_below k v (p ∷ ps) h = rw ((not_above k p.0 h).0, not_equal k p.0 h) refl
 

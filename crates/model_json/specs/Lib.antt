@@ -8,6 +8,7 @@ pub mod Pointer
 pub mod Patch
 pub mod WholeNumber
 pub mod TreeData
+pub mod Place
 pub mod TreeDepth
 pub mod Json
 pub mod Fit

@@ -30,6 +30,14 @@ as_object _ = None
 abbrev pub members_in : Data → List Pair
 members_in d = unwrap_or (as_object d) []
 
+-- the truth at a key
+abbrev pub truth_at : List ℕ → Data → Option Bool
+truth_at key d = option_and_then as_truth (field key d)
+
+-- the number at a key
+abbrev pub number_at : List ℕ → Data → Option ℤ
+number_at key d = option_and_then as_whole (field key d)
+
 -- the text at a key
 abbrev pub text_at : List ℕ → Data → Option (List ℕ)
 text_at key d = option_and_then as_text (field key d)
@@ -37,6 +45,10 @@ text_at key d = option_and_then as_text (field key d)
 -- the items of a list at a key
 abbrev pub list_at : List ℕ → Data → Option (List Data)
 list_at key d = option_and_then as_list (field key d)
+
+-- the members of an object at a key
+abbrev pub object_at : List ℕ → Data → Option (List Pair)
+object_at key d = option_and_then as_object (field key d)
 
 -- f of each, where each has one
 abbrev pub all_some : {X Y : Type 0} → (X → Option Y) → List X → Option (List Y)

@@ -1,7 +1,6 @@
 -- What a `Tree` stands for, and the members of its objects.
-use Rattle.std.specs.Prelude.{ℕ, zero, suc, List as Many, [], ◌∷◌, Bool, false}
+use Rattle.std.specs.Prelude.{ℕ, List as Many}
 use Rattle.std.specs.Borrow.{Bor}
-use Rattle.std.specs.Str.{bytes_eq}
 use Rattle.model_json.specs.Data.{Data, null, truth, whole, text, list, object, items_of, members_of, Pair}
 use Rattle.model_json.specs.declared.tree.Member.{Member}
 use Rattle.model_json.specs.declared.tree.Tree.{Tree}
@@ -21,9 +20,3 @@ pair_of m = (m.key, data_of m.value)
 -- a member whose key stands in the code
 abbrev pub keyed : Bor (Many ℕ) × Tree → Pair
 keyed m = (m.0.now, data_of m.1)
-
--- the member at a place has this key
-abbrev pub is_key_at : ℕ → Many ℕ → Many Member → Bool
-is_key_at i k [] = false
-is_key_at zero k (m ∷ ms) = bytes_eq m.key k
-is_key_at (suc i) k (m ∷ ms) = is_key_at i k ms

@@ -6,7 +6,10 @@ ghost use Rattle.model_json.specs.TreeData.{data_of, pair_of};
 
 mod edit;
 mod merge;
+mod place;
+mod read;
 
+use self::place::place_of;
 use crate::num::Num;
 use crate::text::Text;
 use std::alloc::AllocError;
@@ -209,27 +212,26 @@ impl TreeObject {
     }
 
     /// The value at a key. Takes no memory.
+    #[tactic(auto, using(crate::proofs::MemberLemmas::found_here, crate::proofs::MemberLemmas::absent_here))]
     pub fn get(&self, key: &str) -> Option<&Tree>
         ensures { option_map (λ t. data_of t.now) result ≡ lookup key.now self.now }
     {
-        for member in &self.members {
-            if member.key.as_str() == key {
-                return Some(&member.value);
-            }
+        match place_of(&self.members, key) {
+            Ok(i) => Some(&self.members[i].value),
+            Err(_) => None,
         }
-        None
     }
 
     /// Gives up all but the value at a key. Takes no memory.
+    #[tactic(auto, using(crate::proofs::MemberLemmas::found_here, crate::proofs::MemberLemmas::absent_here))]
     pub fn into_value(self, key: &str) -> Option<Tree>
         ensures { option_map data_of result ≡ lookup key.now self }
     {
-        for Member { key: found, value } in self.members {
-            if found.as_str() == key {
-                return Some(value);
-            }
+        let mut members = self.members;
+        match place_of(&members, key) {
+            Ok(i) => Some(members.swap_remove(i).value),
+            Err(_) => None,
         }
-        None
     }
 
     /// Gives an equal object.
