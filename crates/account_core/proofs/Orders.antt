@@ -4,7 +4,7 @@ use Rattle.std.proofs.lemmas.Bool.{and_from}
 use Rattle.model_json.proofs.KeyOrder.{above_later, both}
 use Rattle.model_json.specs.Data.{Data, Pair}
 use Rattle.model_json.specs.ObjectKeys.{is_above, keys_rise}
-use Rattle.cal_model.specs.Sets.{Outcome, accepted, refused, created_member, not_created_member, of_each}
+use Rattle.cal_model.specs.Sets.{Outcome, accepted, refused, created_object_member, not_created_member, of_each}
 
 above_kept : (f : Pair → Bool) (k : List ℕ) (p : Pair) (ps : List Pair) (b : Bool) → f p ≡ b → is_above k (p ∷ ps) ≡ true → is_above k (filter f ps) ≡ true → is_above k (filter f (p ∷ ps)) ≡ true
 above_kept f k p ps true e h g = rw e h
@@ -46,7 +46,7 @@ rises_each f t (p ∷ ps) (o ∷ os) rise =
     let rest = rises_each f t ps os parts.1 in
     ⊎_elim (λ e. rw e rest) (λ e. rw e.1 (and_from _ _ (above_each f t p.0 ps os parts.0 parts.1) rest)) (t p o)
 
-created_tells : Tells created_member
+created_tells : Tells created_object_member
 created_tells p (accepted c) = inr (_, refl)
 created_tells p (refused e) = inl refl
 
@@ -55,8 +55,8 @@ not_created_tells p (accepted c) = inl refl
 not_created_tells p (refused e) = inr (_, refl)
 
 -- the keys of what is told of the creates are some of those of the creates
-pub created_rise : (ps : List Pair) (os : List Outcome) → keys_rise ps ≡ true → keys_rise (of_each created_member ps os) ≡ true
-created_rise ps os rise = rises_each created_member created_tells ps os rise
+pub created_rise : (ps : List Pair) (os : List Outcome) → keys_rise ps ≡ true → keys_rise (of_each created_object_member ps os) ≡ true
+created_rise ps os rise = rises_each created_object_member created_tells ps os rise
 
 pub not_created_rise : (ps : List Pair) (os : List Outcome) → keys_rise ps ≡ true → keys_rise (of_each not_created_member ps os) ≡ true
 not_created_rise ps os rise = rises_each not_created_member not_created_tells ps os rise

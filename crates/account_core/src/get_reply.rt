@@ -2,7 +2,7 @@
 ghost use Rattle.std.specs.Prelude.{◌≡◌, [], IfOk, map};
 ghost use Rattle.cal_model.specs.Answer.{answered};
 ghost use Rattle.model_json.specs.Data.{items_of, list, text};
-ghost use Rattle.cal_model.specs.Gets.{get_arguments};
+ghost use Rattle.cal_model.specs.Gets.{get_response};
 ghost use Rattle.model_history.specs.History.{changes_of};
 ghost use Rattle.model_json.specs.TreeData.{data_of};
 
@@ -33,7 +33,7 @@ fn get_arguments_tree(
     history: &[Entry],
     found: Found,
 ) -> Result<Tree, AllocError>
-    ensures { IfOk result (λ t. t ≡ get_arguments account.now (changes_of history.now) (map data_of found.list.items) found.missing.items) }
+    ensures { IfOk result (λ t. t ≡ get_response account.now (changes_of history.now) (map data_of found.list.items) found.missing.items) }
 {
     let id = Tree::Text(account.copy()?);
     let list = Tree::List(TreeList::new(found.list));
@@ -55,7 +55,7 @@ pub fn get_reply(
     history: &[Entry],
     found: Found,
 ) -> Result<Reply, AllocError>
-    ensures { IfOk result (λ r. r ≡ answered history.now (get_arguments account.now (changes_of history.now) (map data_of found.list.items) found.missing.items) []) }
+    ensures { IfOk result (λ r. r ≡ answered history.now (get_response account.now (changes_of history.now) (map data_of found.list.items) found.missing.items) []) }
 {
     Ok(Reply {
         arguments: get_arguments_tree(alloc, account, history, found)?,

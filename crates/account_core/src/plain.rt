@@ -2,7 +2,7 @@
 ghost use Rattle.std.specs.Prelude.{◌≡◌, map};
 ghost use Rattle.std.specs.List.{list_all};
 ghost use Rattle.cal_model.specs.Answer.{are_plain};
-ghost use Rattle.cal_model.specs.Calendar.{has_name_alone, is_name, is_plain_create};
+ghost use Rattle.cal_model.specs.Calendar.{has_name_alone, is_calendar_name, is_plain_create};
 ghost use Rattle.model_json.specs.ObjectKeys.{HasOrderedKeys};
 ghost use Rattle.model_json.specs.Parts.{members_in};
 ghost use Rattle.model_json.specs.TreeData.{data_of, pair_of};
@@ -12,7 +12,7 @@ use model_json::tree::{Member, Tree};
 use time_text::read_id;
 
 fn is_calendar_name(value: &Tree) -> bool
-    ensures { result ≡ is_name (data_of value.now) }
+    ensures { result ≡ is_calendar_name (data_of value.now) }
 {
     match value {
         Tree::Text(name) => !name.as_str().is_empty() && name.as_str().len() < 256,

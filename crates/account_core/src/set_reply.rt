@@ -5,7 +5,7 @@ ghost use Rattle.cal_model.specs.Answer.{set_answer};
 ghost use Rattle.model_json.specs.Data.{lookup};
 ghost use Rattle.model_history.specs.History.{changes_of, state_at};
 ghost use Rattle.model_json.specs.ObjectKeys.{HasOrderedKeys};
-ghost use Rattle.cal_model.specs.Sets.{accepted, changes_in, created_id, created_member, is_value, members_beyond, members_stored, not_created_member, object_or_null, of_each, refused, set_arguments, set_error};
+ghost use Rattle.cal_model.specs.Sets.{accepted, changes_in, created_id, created_object_member, is_value, members_beyond, members_stored, not_created_member, object_or_null, of_each, refused, set_arguments, set_error};
 ghost use Rattle.model_json.specs.TreeData.{data_of, pair_of};
 
 use crate::calendar::calendar_id;
@@ -71,7 +71,7 @@ fn stored_members(change: &Change) -> &[Member]
 /// What the reply tells of a create that made this change.
 #[tactic(auto, using(crate::proofs::Orders::rises_filter))]
 fn created(alloc: Global, create: &Member, change: &Change) -> Result<Member, AllocError>
-    ensures { IfOk result (λ m. pair_of m ∷ [] ≡ created_member (pair_of create.now) (accepted change.now)) }
+    ensures { IfOk result (λ m. pair_of m ∷ [] ≡ created_object_member (pair_of create.now) (accepted change.now)) }
 {
     let key = create.key.copy()?;
     let members = beyond(alloc, members_of(&create.value), stored_members(change))?;
@@ -108,7 +108,7 @@ fn all_created(
     outcomes: &[Outcome],
 ) -> Result<Vec<Member>, AllocError>
     requires { length creates.now ≡ length outcomes.now }
-    ensures { IfOk result (λ v. map pair_of v.items ≡ of_each created_member (map pair_of creates.now) (map outcome_in outcomes.now)) }
+    ensures { IfOk result (λ v. map pair_of v.items ≡ of_each created_object_member (map pair_of creates.now) (map outcome_in outcomes.now)) }
 {
     let mut all = Vec::new(alloc);
     for (i, create) in creates.iter().enumerate() {

@@ -3,7 +3,7 @@ use Rattle.std.proofs.Common.{◌≡◌, ℕ, suc, List, [], ◌∷◌, Option, 
 use Rattle.std.proofs.lemmas.List.{length-map}
 use Rattle.cal_model.specs.Answer.{Form, get_calendars, create_plain, not_built, form_of, answer, answer_to, added, added_by_form, entries_from, unless_error, get_found, refused}
 use Rattle.model_history.specs.Base.{Base}
-use Rattle.cal_model.specs.Gets.{get_arguments, get_error, ids_not_found, objects_asked, selected}
+use Rattle.cal_model.specs.Gets.{get_response, get_error, ids_not_found, objects_asked, selected}
 use Rattle.model_history.specs.History.{changes_of}
 use Rattle.cal_model.specs.Sets.{changes_in, created_id, of_each, outcomes, set_arguments}
 use Rattle.model_call.specs.declared.call.Call.{Call}
@@ -35,7 +35,7 @@ module _ (b : Base) (h h' : List Entry) (same : changes_of h ≡ changes_of h') 
   same_form : (f : Form) → answer_to b h f ≡ answer_to b h' f
   same_form (get_calendars ids properties created) =
       let found : get_found b h ids properties created ≡ get_found b h' ids properties created = λ i. record {
-        arguments = get_arguments b.account_id (same i) (map (selected properties) (objects_asked (same i) Calendar created ids)) (ids_not_found (same i) Calendar created ids);
+        arguments = get_response b.account_id (same i) (map (selected properties) (objects_asked (same i) Calendar created ids)) (ids_not_found (same i) Calendar created ids);
         error = None;
         created = [];
         place = same_length i;

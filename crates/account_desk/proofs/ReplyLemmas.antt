@@ -5,7 +5,7 @@ use Rattle.std.proofs.lemmas.Grind.{flat_map-append}
 use Rattle.cal_model.specs.Answer.{answer, added}
 use Rattle.model_history.specs.Base.{Base}
 use Rattle.model_batch.specs.Asked.{Asked, asked, refused}
-use Rattle.model_batch.specs.Batch.{Fit, FollowsFrom, Step, created_in, error_response, given_ids, made_in, meaning_after, reply_response, response_with, response_with_ids, responses_in}
+use Rattle.model_batch.specs.Batch.{Fit, FollowsFrom, Step, created_by, error_response, given_ids, made_in, meaning_after, reply_response, response_with, response_with_ids, responses_in}
 use Rattle.model_batch.specs.Meaning.{Meaning, refuses, echoes, calls, meaning_of_method}
 use Rattle.model_call.specs.Methods.{method_used}
 use Rattle.model_batch.specs.Reply.{Replies}
@@ -104,30 +104,30 @@ module _ (base : ℕ → Base) where
 responses_more : (before : List Step) (s : Step) → responses_in (before ++ s ∷ []) ≡ responses_in before ++ s.response ∷ []
 responses_more before s = map-append (λ (t : Step). t.response) before (s ∷ [])
 
-created_split : (xs ys : List Step) → created_in (xs ++ ys) ≡ created_in xs ++ created_in ys
+created_split : (xs ys : List Step) → created_by (xs ++ ys) ≡ created_by xs ++ created_by ys
 created_split xs ys =
     ap (flat_map (λ (m : Made). m.reply.created)) (flat_map-append (λ (t : Step). some_of t.made) xs ys)
     ∙ flat_map-append (λ (m : Made). m.reply.created) (made_in xs) (made_in ys)
 
-created_one : (s : Step) → created_in (s ∷ []) ≡ created_by s.made
+created_one : (s : Step) → created_by (s ∷ []) ≡ created_by s.made
 created_one s = ap (flat_map (λ (m : Made). m.reply.created)) (append-nil (some_of s.made))
 
-created_first : (s : Step) (ss : List Step) → created_in (s ∷ ss) ≡ created_by s.made ++ created_in ss
+created_first : (s : Step) (ss : List Step) → created_by (s ∷ ss) ≡ created_by s.made ++ created_by ss
 created_first s ss = flat_map-append (λ (m : Made). m.reply.created) (some_of s.made) (made_in ss)
 
 module _ (base : ℕ → Base) (user : User) (request : Request) (moment : ℤ) where
   -- what two lists of steps led to, where they were made from these histories
   record AllAlike (now now' : ℕ → List Entry) (ss ss' : List Step) : Type 0 where
     pub responses : responses_in ss ≡ responses_in ss'
-    pub created : created_in ss ≡ created_in ss'
+    pub created : created_by ss ≡ created_by ss'
     pub same_after : SameChanges (after base now (made_in ss)) (after base now' (made_in ss'))
 
-  same_meaning : (before before' : List Step) (c c' : Invocation) → responses_in before ≡ responses_in before' → created_in before ≡ created_in before' → c ≡ c'
+  same_meaning : (before before' : List Step) (c c' : Invocation) → responses_in before ≡ responses_in before' → created_by before ≡ created_by before' → c ≡ c'
       → meaning_after user request moment before c ≡ meaning_after user request moment before' c'
   same_meaning before before' c c' responses created invoked =
       λ i. meaning_of_method user.grants (given_ids request ++ created i) (responses i) (invoked i).arguments (method_used request.using (invoked i).name)
 
-  all_alike : (now now' : ℕ → List Entry) (before before' ss ss' : List Step) → SameChanges now now' → responses_in before ≡ responses_in before' → created_in before ≡ created_in before'
+  all_alike : (now now' : ℕ → List Entry) (before before' ss ss' : List Step) → SameChanges now now' → responses_in before ≡ responses_in before' → created_by before ≡ created_by before'
       → map (λ (s : Step). s.invocation) ss ≡ map (λ (s : Step). s.invocation) ss' → Fit user request moment before ss → Fit user request moment before' ss'
       → Played base now (made_in ss) → Played base now' (made_in ss') → AllAlike now now' ss ss'
   all_alike now now' before before' [] [] same responses created invoked f f' p p' = record { responses = refl; created = refl; same_after = same }

@@ -7,10 +7,10 @@ use Rattle.model_call.specs.declared.call.Reply.{Reply}
 use Rattle.model_batch.specs.declared.desk.DeskError.{DeskError}
 use Rattle.model_batch.specs.declared.desk.DeskError.TheVariants.{NoMemory, PassSpent}
 use Rattle.model_batch.specs.declared.desk.Front.{Front}
-use Rattle.batch_exec.specs.Stepping.{IsReply, IsUnanswered, Makes}
+use Rattle.batch_exec.specs.Stepping.{IsDeskReply, IsUnanswered, Makes}
 
 pub asking_ok : {fronts fronts' : List Front} {s t : Shown} {account : ℕ} {call : Call} {reply : Reply} (moment w : ℤ) → Called s t account call w (Ok reply) → w ≡ moment
-    → fronts' ≡ fronts ++ record { account = account; place = reply.place } ∷ [] → IsReply fronts fronts' s t account call moment (Ok reply)
+    → fronts' ≡ fronts ++ record { account = account; place = reply.place } ∷ [] → IsDeskReply fronts fronts' s t account call moment (Ok reply)
 asking_ok {fronts} {fronts'} {s} {t} {account} {call} {reply} moment w called is front = (
   made_of t account call w reply,
   record {
@@ -23,7 +23,7 @@ asking_ok {fronts} {fronts'} {s} {t} {account} {call} {reply} moment w called is
 )
 
 pub asking_err : {fronts fronts' : List Front} (s t : Shown) (account : ℕ) (call : Call) (moment w : ℤ) (e : DeskError) → Called s t account call w (Err e)
-    → fronts' ≡ fronts → IsReply fronts fronts' s t account call moment (Err e)
+    → fronts' ≡ fronts → IsDeskReply fronts fronts' s t account call moment (Err e)
 asking_err s t account call moment w NoMemory called same = (same, inr (account, called.0, called.1))
 asking_err s t account call moment w PassSpent called same = (same, called)
 

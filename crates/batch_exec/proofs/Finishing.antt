@@ -3,7 +3,7 @@ use Rattle.std.proofs.Common.{◌≡◌, ℕ, ℤ, ◌≤◌, inr, List, [], len
 use Rattle.std.proofs.lemmas.List.{length-map}
 use Rattle.std.proofs.Math.Seq.{drop-append_seam}
 use Rattle.model_batch.specs.Asked.{asked, asked_by}
-use Rattle.model_batch.specs.Batch.{Step, IsBatch, IsBegun, Progress, created_after, created_in, given_ids, response_with_ids, response_object, responses_in}
+use Rattle.model_batch.specs.Batch.{Step, IsBatch, IsBegun, Progress, created_after, created_by, given_ids, response_with_ids, response_object, responses_in}
 use Rattle.model_json.specs.Data.{Data}
 use Rattle.model_batch.specs.Requests.{id_pair_of}
 use Rattle.model_batch.specs.Chain.{Shown}
@@ -19,17 +19,17 @@ use Rattle.batch_exec.specs.Answering.{IsRequestAnswered}
 
 -- the created ids behind those that the request gives are the ones that the calls added
 pub added_behind : (request : Request) (steps : List Step) (created : List (List ℕ × List ℕ)) → created ≡ created_after request steps
-    → drop (length (unwrap_or request.created_ids [])) created ≡ created_in steps
+    → drop (length (unwrap_or request.created_ids [])) created ≡ created_by steps
 added_behind request steps created is =
     let given = unwrap_or request.created_ids [] in
     ap (drop (length given)) is
-    ∙ (ap (λ (n : ℕ). drop n (created_after request steps)) (sym (length-map given id_pair_of)) ∙ drop-append_seam (given_ids request) (created_in steps))
+    ∙ (ap (λ (n : ℕ). drop n (created_after request steps)) (sym (length-map given id_pair_of)) ∙ drop-append_seam (given_ids request) (created_by steps))
 
 pub given_first : (request : Request) (steps : List Step) (created : List (List ℕ × List ℕ)) → created ≡ created_after request steps
     → length (unwrap_or request.created_ids []) ≤ length created
 given_first request steps created is =
     let given = unwrap_or request.created_ids [] in
-    let whole = ap length is ∙ length-append (given_ids request) (created_in steps) in
+    let whole = ap length is ∙ length-append (given_ids request) (created_by steps) in
     let count = length-map given id_pair_of in
     omega arith
 

@@ -3,7 +3,7 @@ use Rattle.std.proofs.Common.{◌≡◌, ℕ, ℤ, inl, inr, List, [], ◌∷◌
 use Rattle.std.proofs.lemmas.Grind.{flat_map-append}
 use Rattle.std.proofs.lemmas.List.{map-append}
 use Rattle.model_batch.proofs.Chains.{join, still}
-use Rattle.model_batch.specs.Batch.{Step, Fit, FollowsFrom, Progress, created_after, created_in, given_ids, made_in, meaning_after, responses_in}
+use Rattle.model_batch.specs.Batch.{Step, Fit, FollowsFrom, Progress, created_after, created_by, given_ids, made_in, meaning_after, responses_in}
 use Rattle.model_batch.specs.Meaning.{meaning_of_method}
 use Rattle.model_call.specs.Methods.{method_used}
 use Rattle.model_json.specs.Parts.{some_of}
@@ -29,7 +29,7 @@ module _ (user : User) (request : Request) (moment : ℤ) where
   made_more : (steps : List Step) (s : Step) → made_in (steps ++ s ∷ []) ≡ made_in steps ++ some_of s.made
   made_more steps s = flat_map-append (λ (x : Step). some_of x.made) steps (s ∷ []) ∙ ap (λ (ms : List Made). made_in steps ++ ms) (append-nil (some_of s.made))
 
-  created_more : (steps : List Step) (s : Step) → created_in (steps ++ s ∷ []) ≡ created_in steps ++ created_in (s ∷ [])
+  created_more : (steps : List Step) (s : Step) → created_by (steps ++ s ∷ []) ≡ created_by steps ++ created_by (s ∷ [])
   created_more steps s =
       ap (λ (ms : List Made). flat_map (λ (m : Made). m.reply.created) ms) (flat_map-append (λ (x : Step). some_of x.made) steps (s ∷ []))
       ∙ flat_map-append (λ (m : Made). m.reply.created) (made_in steps) (made_in (s ∷ []))
@@ -58,15 +58,15 @@ module _ (user : User) (request : Request) (moment : ℤ) where
 
     going_more : (responses : List MethodResponse) (created created' : List (List ℕ × List ℕ)) (response : MethodResponse)
         → Going user request moment fronts fronts1 s t steps (c ∷ rest) responses created
-        → (x : (step : Step) × Takes fronts1 fronts2 t u user.grants request.using moment responses created created' c step × (created' ≡ created ++ created_in (step ∷ [])) × (step.response ≡ response))
+        → (x : (step : Step) × Takes fronts1 fronts2 t u user.grants request.using moment responses created created' c step × (created' ≡ created ++ created_by (step ∷ [])) × (step.response ≡ response))
         → Going user request moment fronts fronts2 s u (steps ++ x.0 ∷ []) rest (responses ++ response ∷ []) created'
     going_more responses created created' response g x =
         let step = x.0 in
         record {
           progress = progress_more responses created created' step g x.1;
           responses_are = (λ k. g.responses_are k ++ sym x.3 k ∷ []) ∙ sym (map-append (λ (y : Step). y.response) steps (step ∷ []));
-          created_are = x.2 ∙ (ap (λ (ps : List (List ℕ × List ℕ)). ps ++ created_in (step ∷ [])) g.created_are
-              ∙ (append_assoc (given_ids request) (created_in steps) (created_in (step ∷ [])) ∙ ap (λ (ps : List (List ℕ × List ℕ)). given_ids request ++ ps) (sym (created_more steps step))));
+          created_are = x.2 ∙ (ap (λ (ps : List (List ℕ × List ℕ)). ps ++ created_by (step ∷ [])) g.created_are
+              ∙ (append_assoc (given_ids request) (created_by steps) (created_by (step ∷ [])) ∙ ap (λ (ps : List (List ℕ × List ℕ)). given_ids request ++ ps) (sym (created_more steps step))));
         }
 
     -- nothing came of the first of the invocations that are left

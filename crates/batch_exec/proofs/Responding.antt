@@ -12,7 +12,7 @@ use Rattle.model_batch.specs.declared.desk.Front.{Front}
 use Rattle.model_batch.specs.declared.request.Invocation.{Invocation}
 use Rattle.model_batch.specs.declared.method_response.MethodResponse.{MethodResponse}
 use Rattle.model_core.specs.declared.user.Grant.{Grant}
-use Rattle.batch_exec.specs.Stepping.{Answers, IsCallResponse, IsResponse, Takes}
+use Rattle.batch_exec.specs.Stepping.{AnswersCall, IsCallResponse, IsResponse, Takes}
 use Rattle.batch_exec.proofs.Asking.{unasked}
 
 module _ (grants : List Grant) (using : List (List ℕ)) (moment : ℤ) (responses : List MethodResponse) (created created' : List (List ℕ × List ℕ)) (c : Invocation) where
@@ -32,7 +32,7 @@ module _ (grants : List Grant) (using : List (List ℕ)) (moment : ℤ) (respons
       )
 
   module _ (fronts fronts' : List Front) (s t : Shown) (account : ℕ) (call : Call) where
-    takes_call : (m : Made) (response : MethodResponse) → calls account call ≡ meant → Answers fronts fronts' s t account call moment m → response ≡ reply_response c.name c.call_id m.reply.arguments m.reply.error
+    takes_call : (m : Made) (response : MethodResponse) → calls account call ≡ meant → AnswersCall fronts fronts' s t account call moment m → response ≡ reply_response c.name c.call_id m.reply.arguments m.reply.error
         → Takes fronts fronts' s t grants using moment responses created created' c (record { invocation = c; made = Some m; response = response })
     takes_call m response is answers shows =
         let step : Step = record { invocation = c; made = Some m; response = response } in

@@ -1,7 +1,7 @@
 -- What one invocation of a request leads to.
 use Rattle.std.specs.Prelude.{◌≡◌, ℕ, ◌⊎◌, ℤ, List, [], ◌∷◌, ◌++◌, map, Result, Ok, Err}
-use Rattle.model_batch.specs.Batch.{Step, FollowsFrom, created_in, reply_response}
-use Rattle.model_call.specs.Calls.{created_in as created_with_call}
+use Rattle.model_batch.specs.Batch.{Step, FollowsFrom, created_by, reply_response}
+use Rattle.model_call.specs.Calls.{created_by as created_with_call}
 use Rattle.model_batch.specs.Meaning.{meaning_of_method}
 use Rattle.model_call.specs.Methods.{method_used}
 use Rattle.model_json.specs.Parts.{some_of}
@@ -27,20 +27,20 @@ module _ (fronts fronts' : List Front) (s t : Shown) where
 
   module _ (account : ℕ) (call : Call) (moment : ℤ) where
     -- this call was answered
-    pub record Answers (m : Made) : Type 0 where
+    pub record AnswersCall (m : Made) : Type 0 where
       pub makes : Makes (m ∷ [])
       pub on_account : m.account ≡ account
       pub asked : m.call ≡ call
       pub at_moment : m.moment ≡ moment
 
-    abbrev pub IsReply : Result Reply DeskError → Type 0
-    IsReply (Ok reply) = (m : Made) × Answers m × (m.reply ≡ reply)
-    IsReply (Err e) = IsUnanswered e
+    abbrev pub IsDeskReply : Result Reply DeskError → Type 0
+    IsDeskReply (Ok reply) = (m : Made) × AnswersCall m × (m.reply ≡ reply)
+    IsDeskReply (Err e) = IsUnanswered e
 
     -- the call's response and the created ids after it; or the call wasn't answered, or only its response is wanting
     abbrev pub IsCallResponse : List ℕ → List ℕ → List (List ℕ × List ℕ) → Result MethodResponse DeskError → Type 0
-    IsCallResponse name call_id created' (Ok response) = (m : Made) × Answers m × (created' ≡ created_with_call call ++ m.reply.created) × (response ≡ reply_response name call_id m.reply.arguments m.reply.error)
-    IsCallResponse name call_id created' (Err NoMemory) = IsUnanswered NoMemory ⊎ ((m : Made) × Answers m)
+    IsCallResponse name call_id created' (Ok response) = (m : Made) × AnswersCall m × (created' ≡ created_with_call call ++ m.reply.created) × (response ≡ reply_response name call_id m.reply.arguments m.reply.error)
+    IsCallResponse name call_id created' (Err NoMemory) = IsUnanswered NoMemory ⊎ ((m : Made) × AnswersCall m)
     IsCallResponse name call_id created' (Err PassSpent) = IsUnanswered PassSpent
 
   module _ (grants : List Grant) (using : List (List ℕ)) (moment : ℤ) (responses : List MethodResponse) (created created' : List (List ℕ × List ℕ)) (c : Invocation) where
@@ -52,6 +52,6 @@ module _ (fronts fronts' : List Front) (s t : Shown) where
 
     -- the response to the invocation and the created ids after it; or the step isn't taken, or only its response is wanting
     abbrev pub IsResponse : Result MethodResponse DeskError → Type 0
-    IsResponse (Ok response) = (step : Step) × Takes step × (created' ≡ created ++ created_in (step ∷ [])) × (step.response ≡ response)
+    IsResponse (Ok response) = (step : Step) × Takes step × (created' ≡ created ++ created_by (step ∷ [])) × (step.response ≡ response)
     IsResponse (Err NoMemory) = IsUnanswered NoMemory ⊎ ((step : Step) × Takes step)
     IsResponse (Err PassSpent) = IsUnanswered PassSpent

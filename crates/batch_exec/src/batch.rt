@@ -5,7 +5,7 @@ ghost use Rattle.model_json.specs.Parts.{as_text};
 ghost use Rattle.model_batch.specs.Requests.{id_pair_of};
 ghost use Rattle.model_json.specs.TreeData.{data_of, pair_of};
 ghost use Rattle.batch_exec.specs.Answering.{HasAnswered};
-ghost use Rattle.batch_exec.specs.Stepping.{IsCallResponse, IsReply, IsResponse};
+ghost use Rattle.batch_exec.specs.Stepping.{IsCallResponse, IsDeskReply, IsResponse};
 
 use crate::meaning::{Judgement, judge};
 use model_call::call::{Call, MethodError, Reply};
@@ -78,7 +78,7 @@ fn ask<D: Desk>(
     fronts: &mut Vec<Front>,
 ) -> Result<Reply, DeskError>
     requires { account < (D.shown desk.old).accounts }
-    ensures { IsReply fronts.old.items fronts.new.items (D.shown desk.old) (D.shown desk.new) account call.now moment result }
+    ensures { IsDeskReply fronts.old.items fronts.new.items (D.shown desk.old) (D.shown desk.new) account call.now moment result }
 {
     if fronts.reserve(1).is_err() {
         return Err(DeskError::NoMemory);

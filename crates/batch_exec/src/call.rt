@@ -5,7 +5,6 @@ ghost use Rattle.model_json.specs.Edit.{ChangesOnlyAt};
 ghost use Rattle.model_batch.specs.Meaning.{grant_of};
 ghost use Rattle.model_json.specs.Parts.{as_object, as_text, as_texts, as_truth, as_whole};
 
-use crate::parts::{into_list, into_object, into_text, into_texts};
 use model_call::call::Call;
 use model_history::entry::Kind;
 use model_json::lists::{Pairs, Texts};
@@ -242,7 +241,7 @@ fn take_texts(
     ensures others { ChangesOnlyAt key.now arguments.old arguments.new }
 {
     match arguments.take(key).and_then(into_list) {
-        Some(list) => into_texts(alloc, list),
+        Some(list) => list.into_texts(alloc),
         None => Ok(None),
     }
 }

@@ -5,7 +5,6 @@ pub mod arguments;
 mod batch;
 pub mod call;
 mod meaning;
-mod parts;
 pub mod problem;
 pub mod request;
 mod response;

@@ -8,7 +8,6 @@ ghost use Rattle.model_json.specs.Parts.{all_some, as_list, as_text};
 ghost use Rattle.model_batch.specs.Requests.{created_ids_of, invocation_of, invocation_with, is_id_pair, request_of, request_with};
 ghost use Rattle.model_json.specs.TreeData.{data_of, pair_of};
 
-use crate::parts::{into_list, into_object, into_text, into_texts};
 use model_json::lists::Texts;
 use model_core::capability::{AVAILABILITY, CALENDARS, CORE};
 use model_batch::request::{BatchError, Invocation, Invocations, Limit, Request, RequestError};
@@ -73,7 +72,7 @@ fn capabilities_from(alloc: Global, member: Option<Tree>) -> Result<Option<Texts
     ensures { IfOk result (λ o. o ≡ option_and_then (all_some as_text) (option_and_then as_list (option_map data_of member))) }
 {
     match member.and_then(into_list) {
-        Some(list) => into_texts(alloc, list),
+        Some(list) => list.into_texts(alloc),
         None => Ok(None),
     }
 }
@@ -100,9 +99,9 @@ fn calls_from(alloc: Global, member: Option<Tree>) -> Result<Option<Invocations>
 fn invocation_from(tree: Tree) -> Option<Invocation>
     ensures { result ≡ invocation_of (data_of tree) }
 {
-    let list = into_list(tree)?;
+    let list = tree.into_list()?;
     let (name, arguments, call_id) = three_of(list.into_items())?;
-    invocation(into_text(name), into_object(arguments), into_text(call_id))
+    invocation(name.into_text(), arguments.into_object(), call_id.into_text())
 }
 
 // The items, where there are three.

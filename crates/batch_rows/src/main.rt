@@ -11,7 +11,7 @@ use io_edge::memory_source::MemSource;
 use jmapd_run::run::run;
 use row_table::line::unrolled;
 use row_table::row::{Row, read_rows};
-use row_table::tally::Tally;
+use row_table::tally::RowTally;
 use std::alloc::{AllocError, Global};
 use std::io;
 
@@ -126,7 +126,7 @@ fn other_at_faults(alloc: Global, request: &str) -> Result<Option<String>, Alloc
 }
 
 fn main(rt: HostRuntime) -> io::Result<()> {
-    let mut tally = Tally::new();
+    let mut tally = RowTally::new();
     for row in &read_rows(&rt)? {
         let other = other_than(rt.alloc(), row)?;
         if let Some(other) = &other {

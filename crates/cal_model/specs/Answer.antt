@@ -5,7 +5,7 @@ use Rattle.model_history.specs.Base.{Base}
 use Rattle.model_core.specs.declared.limits.TheConstants.{MAX_OBJECTS_IN_SET}
 use Rattle.cal_model.specs.Calendar.{is_plain_create}
 use Rattle.model_json.specs.Data.{Pair}
-use Rattle.cal_model.specs.Gets.{get_arguments, get_error, ids_not_found, objects_asked, selected}
+use Rattle.cal_model.specs.Gets.{get_response, get_error, ids_not_found, objects_asked, selected}
 use Rattle.model_history.specs.History.{changes_of}
 use Rattle.cal_model.specs.Sets.{Outcome, changes_in, created_id, of_each, outcomes, set_arguments}
 use Rattle.model_call.specs.declared.call.Call.{Call}
@@ -43,7 +43,7 @@ abbrev pub refused : List Entry → MethodError → Reply
 refused h error = record { arguments = Null; error = Some error; created = []; place = length h }
 
 abbrev pub get_found : Base → List Entry → Option (List (List ℕ)) → Option (List (List ℕ)) → List (List ℕ × List ℕ) → Reply
-get_found base h ids properties created = answered h (get_arguments base.account_id (changes_of h)
+get_found base h ids properties created = answered h (get_response base.account_id (changes_of h)
     (map (selected properties) (objects_asked (changes_of h) Calendar created ids)) (ids_not_found (changes_of h) Calendar created ids)) []
 
 abbrev pub unless_error : List Entry → Option MethodError → Reply → Reply

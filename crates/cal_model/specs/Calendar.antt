@@ -21,13 +21,13 @@ abbrev pub is_calendar_property : List ℕ → Bool
 is_calendar_property name = is_some (lookup name (calendar 0 null))
 
 -- a text of 1 to 255 bytes
-abbrev pub is_name : Data → Bool
-is_name (text s) = nat_lt 0 (length s) && nat_lt (length s) 256
-is_name _ = false
+abbrev pub is_calendar_name : Data → Bool
+is_calendar_name (text s) = nat_lt 0 (length s) && nat_lt (length s) 256
+is_calendar_name _ = false
 
 -- exactly the member `name`
 abbrev pub has_name_alone : List Pair → Bool
-has_name_alone (p ∷ []) = bytes_eq p.0 (codes "name") && is_name p.1
+has_name_alone (p ∷ []) = bytes_eq p.0 (codes "name") && is_calendar_name p.1
 has_name_alone _ = false
 
 -- a creation id with an object that has a name and nothing else

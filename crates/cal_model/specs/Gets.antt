@@ -72,7 +72,7 @@ get_error cs ids properties =
     if not (are_calendar_properties properties) then Some InvalidArguments
     else if nat_lt MAX_OBJECTS_IN_GET (count_asked cs Calendar ids) then Some RequestTooLarge else None
 
-abbrev pub get_arguments : List ℕ → List Change → List Data → List (List ℕ) → Tree
-get_arguments account cs objects missing = Object (
+abbrev pub get_response : List ℕ → List Change → List Data → List (List ℕ) → Tree
+get_response account cs objects missing = Object (
     (codes "accountId", text account) ∷ (codes "list", list (items_of objects))
     ∷ (codes "notFound", list (items_of (map text missing))) ∷ (codes "state", text (state_text Calendar cs)) ∷ [])

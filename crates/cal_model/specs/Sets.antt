@@ -68,9 +68,9 @@ abbrev pub members_stored : Change → List Pair
 members_stored c = members_in (unwrap_or (option_map data_of c.object) null)
 
 -- what `created` tells of a create
-abbrev pub created_member : Pair → Outcome → List Pair
-created_member p (accepted c) = (p.0, object (members_of (members_beyond (members_in p.1) (members_stored c)))) ∷ []
-created_member p (refused e) = []
+abbrev pub created_object_member : Pair → Outcome → List Pair
+created_object_member p (accepted c) = (p.0, object (members_of (members_beyond (members_in p.1) (members_stored c)))) ∷ []
+created_object_member p (refused e) = []
 
 abbrev pub set_error_type : SetError → List ℕ
 set_error_type OverQuota = codes "overQuota"
@@ -99,7 +99,7 @@ of_each f creates os = flat_map (λ q. f q.0 q.1) (zip creates os)
 -- the reply to a set of which these outcomes came
 abbrev pub set_arguments : List ℕ → List Change → List Pair → List Outcome → Tree
 set_arguments account before creates os = Object (
-    (codes "accountId", text account) ∷ (codes "created", object_or_null (of_each created_member creates os))
+    (codes "accountId", text account) ∷ (codes "created", object_or_null (of_each created_object_member creates os))
     ∷ (codes "destroyed", null) ∷ (codes "newState", text (state_text Calendar (before ++ flat_map changes_in os)))
     ∷ (codes "notCreated", object_or_null (of_each not_created_member creates os)) ∷ (codes "notDestroyed", null)
     ∷ (codes "notUpdated", null) ∷ (codes "oldState", text (state_text Calendar before)) ∷ (codes "updated", null) ∷ [])

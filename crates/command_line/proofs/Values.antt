@@ -4,7 +4,7 @@ use Rattle.clap.specs.Words.{App, HasMatchesOf, first_of, first_value, found_of,
 use Rattle.clap.specs.declared.ArgMatches.{ArgMatches}
 use Rattle.clap.proofs.WalkLemmas.{first_value-rows}
 use Rattle.clap.proofs.OnLiterals.{clap_on_literals}
-use Rattle.command_line.specs.Commands.{batch, batch_app, batch_of, stdio, stdio_app, stdio_of, takes, value_of}
+use Rattle.command_line.specs.Commands.{batch, batch_app, batch_of, stdio, stdio_app, stdio_of, accepts, value_of}
 
 pub batch_is_simple : is_simple batch_app ≡ true
 unfolding batch_app clap_on_literals
@@ -30,7 +30,7 @@ value_found app known words m name is simple h =
     ∙ ap (first_of name) ((h (ap is_simple is ∙ simple)).0 ∙ ap (λ (a : App). matches_of a words) is)
 
 pub batch_found : (app : App) (words : List (List ℕ)) (m : ArgMatches) (config user : Option (List ℕ)) → app ≡ batch_app
-    → takes app words ≡ true → HasMatchesOf app words m
+    → accepts app words ≡ true → HasMatchesOf app words m
     → config ≡ first_value (found_of m) (codes "config") → user ≡ first_value (found_of m) (codes "user")
     → Some (batch config user) ≡ batch_of words
 batch_found app words m config user is taken h c u =
@@ -39,12 +39,12 @@ batch_found app words m config user is taken h c u =
     ap₂ (λ (x y : Option (List ℕ)). Some (batch x y))
     (c ∙ value_found app batch_app words m (codes "config") is batch_is_simple h)
     (u ∙ value_found app batch_app words m (codes "user") is batch_is_simple h) in
-    same ∙ sym (ap (λ b. cond b (Some (batch (value (codes "config")) (value (codes "user")))) None) (ap (λ (a : App). takes a words) (sym is) ∙ taken))
+    same ∙ sym (ap (λ b. cond b (Some (batch (value (codes "config")) (value (codes "user")))) None) (ap (λ (a : App). accepts a words) (sym is) ∙ taken))
 
 pub stdio_found : (app : App) (words : List (List ℕ)) (m : ArgMatches) (config : Option (List ℕ)) → app ≡ stdio_app
-    → takes app words ≡ true → HasMatchesOf app words m
+    → accepts app words ≡ true → HasMatchesOf app words m
     → config ≡ first_value (found_of m) (codes "config")
     → option_map stdio config ≡ stdio_of words
 stdio_found app words m config is taken h c =
     ap (option_map stdio) (c ∙ value_found app stdio_app words m (codes "config") is stdio_is_simple h)
-    ∙ sym (ap (λ b. cond b (option_map stdio (value_of stdio_app words (codes "config"))) None) (ap (λ (a : App). takes a words) (sym is) ∙ taken))
+    ∙ sym (ap (λ b. cond b (option_map stdio (value_of stdio_app words (codes "config"))) None) (ap (λ (a : App). accepts a words) (sym is) ∙ taken))

@@ -13,8 +13,8 @@ pub data Command : Type 0 where
   stdio : List ℕ → Command
 
 -- a command of `clap` without options, whose words don't begin with the program's name; it has no `--help` and no `--version`
-abbrev pub bare : List ℕ → App
-bare name = on_top (λ s. record s { no_binary_name = true; disable_help_flag = true; disable_version_flag = true }) (new_app name)
+abbrev pub without_flags : List ℕ → App
+without_flags name = on_top (λ s. record s { no_binary_name = true; disable_help_flag = true; disable_version_flag = true }) (new_app name)
 
 -- an option `--name VALUE`
 abbrev pub option_named : List ℕ → Bool → Rule
@@ -22,15 +22,15 @@ option_named name required = record (new_rule name) { long = Some name; action =
 
 -- `batch [--config NAME] [--user NAME]`
 unfoldable pub batch_app : App
-batch_app = with_rule (with_rule (bare (codes "batch")) (option_named (codes "config") false)) (option_named (codes "user") false)
+batch_app = with_rule (with_rule (without_flags (codes "batch")) (option_named (codes "config") false)) (option_named (codes "user") false)
 
 -- `stdio --config NAME`
 unfoldable pub stdio_app : App
-stdio_app = with_rule (bare (codes "stdio")) (option_named (codes "config") true)
+stdio_app = with_rule (without_flags (codes "stdio")) (option_named (codes "config") true)
 
 -- `clap` finds no fault with the words of a command
-abbrev pub takes : App → List (List ℕ) → Bool
-takes app words = is_empty (fault_of app words)
+abbrev pub accepts : App → List (List ℕ) → Bool
+accepts app words = is_empty (fault_of app words)
 
 -- the value of an option, where it is given
 abbrev pub value_of : App → List (List ℕ) → List ℕ → Option (List ℕ)
@@ -39,13 +39,13 @@ value_of app words name = first_of name (matches_of app words)
 -- what the words behind `batch` ask for
 abbrev pub batch_of : List (List ℕ) → Option Command
 batch_of words =
-    if takes batch_app words
+    if accepts batch_app words
     then Some (batch (value_of batch_app words (codes "config")) (value_of batch_app words (codes "user")))
     else None
 
 -- what the words behind `stdio` ask for
 abbrev pub stdio_of : List (List ℕ) → Option Command
-stdio_of words = if takes stdio_app words then option_map stdio (value_of stdio_app words (codes "config")) else None
+stdio_of words = if accepts stdio_app words then option_map stdio (value_of stdio_app words (codes "config")) else None
 
 -- what the words of the command line ask for, where they are a command's
 abbrev pub command_of : List (List ℕ) → Option Command

@@ -2,7 +2,7 @@
 
 ghost use Rattle.std.specs.Prelude.{◌≡◌, IfNone, IfOk, IfSome, false, map, string_bytes, true};
 ghost use Rattle.clap.specs.Words.{HasMatchesOf, app_of, is_simple_and_free, rule_of};
-ghost use Rattle.command_line.specs.Commands.{bare, batch_app, option_named, stdio_app, takes};
+ghost use Rattle.command_line.specs.Commands.{without_flags, batch_app, option_named, stdio_app, accepts};
 
 use clap::error::ErrorKind;
 use clap::{Arg, ArgAction, ArgMatches, Command};
@@ -37,7 +37,7 @@ pub fn matches_in<'a>(
     requires { is_simple_and_free (app_of command) ≡ true }
     ensures taken { IfOk result (λ found. IfSome found (λ matches.
         (takes (app_of command.entry) (map string_bytes words.entry.now) ≡ true) × HasMatchesOf (app_of command.entry) (map string_bytes words.entry.now) matches)) }
-    ensures refused { IfOk result (λ found. IfNone found (takes (app_of command.entry) (map string_bytes words.entry.now) ≡ false)) }
+    ensures refused { IfOk result (λ found. IfNone found (accepts (app_of command.entry) (map string_bytes words.entry.now) ≡ false)) }
 {
     match command.try_get_matches_from(words) {
         Ok(matches) => Ok(Some(matches)),
@@ -49,7 +49,7 @@ pub fn matches_in<'a>(
 }
 
 fn bare_command<'a>(alloc: Global, name: &'a str) -> Command<'a>
-    ensures { app_of result ≡ bare name.entry.now }
+    ensures { app_of result ≡ without_flags name.entry.now }
 {
     Command::new(alloc, name)
         .no_binary_name(true)

@@ -20,8 +20,8 @@ use Rattle.model_batch.specs.declared.desk.DeskError.TheVariants.{NoMemory}
 use Rattle.model_batch.specs.declared.desk.Front.{Front}
 use Rattle.model_core.specs.declared.user.User.{User}
 use Rattle.conn_serve.proofs.Turning.{told_none}
-use Rattle.conn_serve.specs.Answering.{AnswerHow, Answers, IsReply, ReplyHow, reply_response}
-use Rattle.conn_serve.specs.declared.reply.Reply.{Reply}
+use Rattle.conn_serve.specs.Answering.{AnswerHow, AnswersMessage, IsOutcome, OutcomeHow, outcome_response}
+use Rattle.conn_serve.specs.declared.reply.RequestOutcome.{RequestOutcome}
 
 -- ---- the clock
 
@@ -43,7 +43,7 @@ told_quiet : {message : Message} {c : Option (ℕ → ℤ)} {f : List Front} {d 
 told_quiet {message} {c} {f} {d} bytes = record { ticked = (told_none c f d).ticked; fronts = sym (append-nil f); chain = still d; few = omega arith }
 
 module _ {site : Site} {close : Bool} {message : Message} {c : Option (ℕ → ℤ)} {f : List Front} {d : Shown} where
-  pub answered_at_once : {r : Route} {response : Response} (v : Vec ℕ Global) → r ≡ route site close message → r ≡ direct response → v.items ≡ response_text response → Answers site close message c c f f d d (Ok v)
+  pub answered_at_once : {r : Route} {response : Response} (v : Vec ℕ Global) → r ≡ route site close message → r ≡ direct response → v.items ≡ response_text response → AnswersMessage site close message c c f f d d (Ok v)
   answered_at_once {r} {response} v routes is shows = record {
     exchange = quiet message v.items;
     is = refl;
@@ -52,7 +52,7 @@ module _ {site : Site} {close : Bool} {message : Message} {c : Option (ℕ → �
     how = (at_once (record { response = response; routed = sym routes ∙ is; unread = refl; uncalled = refl; shows = shows }), refl, refl);
   }
 
-  pub not_answered : Answers site close message c c f f d d (Err NoMemory)
+  pub not_answered : AnswersMessage site close message c c f f d d (Err NoMemory)
   not_answered = record { exchange = quiet message []; is = refl; desk = d; told = told_quiet []; how = uncalled refl (omega arith) refl refl }
 
 -- ---- calls were made
@@ -73,7 +73,7 @@ begins_whole : (user : User) (moment : ℤ) (what : Asked) (made : List Made) (d
 begins_whole user moment (asked r) made d h = inr (record { request = r; is_request = refl; steps = h.0; rest = []; invoked = h.1 ∙ sym (append-nil _); fit = h.2; made_is = h.3 })
 begins_whole user moment (refused e) made d h = inl h.0
 
-shown_reply : (close : Bool) (what : Asked) (reply : Reply) → is_refused what ≡ reply.is_refusal → reply_response close reply ≡ api_response close what (data_of reply.tree)
+shown_reply : (close : Bool) (what : Asked) (reply : RequestOutcome) → is_refused what ≡ reply.is_refusal → outcome_response close reply ≡ api_response close what (data_of reply.tree)
 shown_reply close (asked r) reply is = rw (sym is) refl
 shown_reply close (refused e) reply is = rw (sym is) refl
 
@@ -81,7 +81,7 @@ module _ (site : Site) (close : Bool) (message : Message) (user : ℕ) (told : �
   one_moment : 1 ≤ moments_for (route site close message)
   one_moment = subst (λ (r : Route). 1 ≤ moments_for r) (sym routed) (omega arith)
 
-  stop_how : (u v : Shown) (made : List Made) (e : DeskError) → ReplyHow (user_at site user) (clamped told) (asked_in message.body) made u v (Err e) → AnswerHow site close u v (turn_at message told made []) (Err e)
+  stop_how : (u v : Shown) (made : List Made) (e : DeskError) → OutcomeHow (user_at site user) (clamped told) (asked_in message.body) made u v (Err e) → AnswerHow site close u v (turn_at message told made []) (Err e)
   stop_how u v made e (inl h) = uncalled h.0 one_moment h.1 h.2
   stop_how u v made e (inr h) = called (record { user = user; routed = routed; moment = told; read = refl; begins = h.0 }) h.1
 
@@ -91,18 +91,18 @@ module _ (site : Site) (close : Bool) (message : Message) (user : ℕ) (told : �
   cut_how u v made (inr b) same = called (record { user = user; routed = routed; moment = told; read = refl; begins = b }) (inl same)
 
   module _ {f0 f1 : List Front} {d0 d1 : Shown} {u : User} {w : ℤ} {bytes : List ℕ} (user_is : u ≡ user_at site user) (clamps : w ≡ clamped told) (body : bytes ≡ message.body) where
-    of_message : (r : Result Reply DeskError) → IsReply u w (asked_in bytes) f0 f1 d0 d1 r → IsReply (user_at site user) (clamped told) (asked_in message.body) f0 f1 d0 d1 r
-    of_message r = subst (λ (y : (User × ℤ) × List ℕ). IsReply y.0.0 y.0.1 (asked_in y.1) f0 f1 d0 d1 r) (λ i. ((user_is i, clamps i), body i))
+    of_message : (r : Result RequestOutcome DeskError) → IsOutcome u w (asked_in bytes) f0 f1 d0 d1 r → IsOutcome (user_at site user) (clamped told) (asked_in message.body) f0 f1 d0 d1 r
+    of_message r = subst (λ (y : (User × ℤ) × List ℕ). IsOutcome y.0.0 y.0.1 (asked_in y.1) f0 f1 d0 d1 r) (λ i. ((user_is i, clamps i), body i))
 
   module _ {c0 c1 : Option (ℕ → ℤ)} {f0 f1 : List Front} {d0 d1 : Shown} (ticks : Ticks c0 c1 told) {u : User} {w : ℤ} {bytes : List ℕ} (user_is : u ≡ user_at site user) (clamps : w ≡ clamped told) (body : bytes ≡ message.body) where
     -- the desk made no more calls, or memory was wanted
-    pub stopped : (e : DeskError) → IsReply u w (asked_in bytes) f0 f1 d0 d1 (Err e) → Answers site close message c0 c1 f0 f1 d0 d1 (Err e)
+    pub stopped : (e : DeskError) → IsOutcome u w (asked_in bytes) f0 f1 d0 d1 (Err e) → AnswersMessage site close message c0 c1 f0 f1 d0 d1 (Err e)
     stopped e given =
         let r = of_message user_is clamps body (Err e) given in
         record { exchange = turn_at message told r.made []; is = refl; desk = r.desk; told = told_one message told r.made [] ticks r.fronts r.chain r.few; how = stop_how r.desk d1 r.made e r.how }
 
     -- there was no memory for the bytes of the response
-    pub unwritten : (reply : Reply) → IsReply u w (asked_in bytes) f0 f1 d0 d1 (Ok reply) → Answers site close message c0 c1 f0 f1 d0 d1 (Err NoMemory)
+    pub unwritten : (reply : RequestOutcome) → IsOutcome u w (asked_in bytes) f0 f1 d0 d1 (Ok reply) → AnswersMessage site close message c0 c1 f0 f1 d0 d1 (Err NoMemory)
     unwritten reply given =
         let r = of_message user_is clamps body (Ok reply) given in
         record {
@@ -113,7 +113,7 @@ module _ (site : Site) (close : Bool) (message : Message) (user : ℕ) (told : �
           how = cut_how r.desk d1 r.made (begins_whole (user_at site user) (clamped told) (asked_in message.body) r.made (data_of reply.tree) r.how.0) r.how.2;
         }
 
-    pub answered : (reply : Reply) (v : Vec ℕ Global) → IsReply u w (asked_in bytes) f0 f1 d0 d1 (Ok reply) → v.items ≡ response_text (reply_response close reply) → Answers site close message c0 c1 f0 f1 d0 d1 (Ok v)
+    pub answered : (reply : RequestOutcome) (v : Vec ℕ Global) → IsOutcome u w (asked_in bytes) f0 f1 d0 d1 (Ok reply) → v.items ≡ response_text (outcome_response close reply) → AnswersMessage site close message c0 c1 f0 f1 d0 d1 (Ok v)
     answered reply v given shows =
         let r = of_message user_is clamps body (Ok reply) given in
         record {

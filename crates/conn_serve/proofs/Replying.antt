@@ -28,8 +28,8 @@ use Rattle.model_batch.specs.declared.request.Request.{Request}
 use Rattle.model_batch.specs.declared.request.RequestError.{RequestError}
 use Rattle.model_json.specs.declared.tree.Tree.{Tree}
 use Rattle.model_core.specs.declared.user.User.{User}
-use Rattle.conn_serve.specs.Answering.{IsRefusal, IsReply}
-use Rattle.conn_serve.specs.declared.reply.Reply.{Reply}
+use Rattle.conn_serve.specs.Answering.{IsProblem, IsOutcome}
+use Rattle.conn_serve.specs.declared.reply.RequestOutcome.{RequestOutcome}
 
 -- ---- a request has few calls
 
@@ -62,10 +62,10 @@ made_few (s ∷ ss) = (let e = length-append (some_of s.made) (made_in ss) in le
 module _ {user : User} {moment : ℤ} where
   -- ---- nothing was called
 
-  pub no_reply : {what : Asked} {f : List Front} {d : Shown} → IsReply user moment what f f d d (Err NoMemory)
+  pub no_reply : {what : Asked} {f : List Front} {d : Shown} → IsOutcome user moment what f f d d (Err NoMemory)
   no_reply {what} {f} {d} = record { made = []; desk = d; chain = still d; fronts = sym (append-nil f); few = omega arith; how = inl (refl, refl, refl) }
 
-  pub refused_reply : {what : Asked} {e : RequestError} {f : List Front} {d : Shown} (r : Result Reply DeskError) → what ≡ refused e → IsRefusal e r → IsReply user moment what f f d d r
+  pub refused_reply : {what : Asked} {e : RequestError} {f : List Front} {d : Shown} (r : Result RequestOutcome DeskError) → what ≡ refused e → IsProblem e r → IsOutcome user moment what f f d d r
   refused_reply {what} {e} {f} {d} (Ok reply) is h = record {
     made = [];
     desk = d;
@@ -74,7 +74,7 @@ module _ {user : User} {moment : ℤ} where
     few = omega arith;
     how = (subst (λ (a : Asked). Replies user moment a [] (data_of reply.tree)) (sym is) (refl, h.0), ap is_refused is ∙ sym h.1, refl);
   }
-  refused_reply {what} {e} {f} {d} (Err x) is h = subst (λ (y : DeskError). IsReply user moment what f f d d (Err y)) (sym h) no_reply
+  refused_reply {what} {e} {f} {d} (Err x) is h = subst (λ (y : DeskError). IsOutcome user moment what f f d d (Err y)) (sym h) no_reply
 
   -- ---- the desk was asked
 
@@ -91,7 +91,7 @@ module _ {user : User} {moment : ℤ} where
         omega arith
 
   module _ (d : Data) {f0 f1 : List Front} {d0 d1 : Shown} where
-    pub batch_reply : (tree : Tree) → IsBatch user moment d f0 f1 d0 d1 (Ok tree) → IsReply user moment (asked_by d) f0 f1 d0 d1 (Ok (record { tree = tree; is_refusal = false }))
+    pub batch_reply : (tree : Tree) → IsBatch user moment d f0 f1 d0 d1 (Ok tree) → IsOutcome user moment (asked_by d) f0 f1 d0 d1 (Ok (record { tree = tree; is_refusal = false }))
     batch_reply tree b =
         let begun = b.1 in
         let invoked = begun.progress.invoked ∙ append-nil _ in
@@ -104,7 +104,7 @@ module _ {user : User} {moment : ℤ} where
           how = (subst (λ (a : Asked). Replies user moment a (made_in b.0) (data_of tree)) (sym begun.is_asked) (b.0, invoked, begun.progress.fit, refl, b.2), ap is_refused begun.is_asked, refl);
         }
 
-    stopped_reply : (e : DeskError) → IsStopped user moment d f0 f1 d0 d1 e → IsReply user moment (asked_by d) f0 f1 d0 d1 (Err e)
+    stopped_reply : (e : DeskError) → IsStopped user moment d f0 f1 d0 d1 e → IsOutcome user moment (asked_by d) f0 f1 d0 d1 (Err e)
     stopped_reply e b = record {
       made = made_in b.0;
       desk = b.2;
@@ -114,34 +114,34 @@ module _ {user : User} {moment : ℤ} where
       how = inr (begins_of d b.2 b.0 b.1 b.3, b.4);
     }
 
-    untouched_reply : (r : Result Reply DeskError) → IsUntouched user moment d f0 f1 d0 d1 → IsReply user moment (asked_by d) f0 f0 d0 d0 r → IsReply user moment (asked_by d) f0 f1 d0 d1 r
-    untouched_reply r u x = subst (λ (y : List Front × Shown). IsReply user moment (asked_by d) f0 y.0 d0 y.1 r) (λ i. (sym u.1 i, sym u.0 i)) x
+    untouched_reply : (r : Result RequestOutcome DeskError) → IsUntouched user moment d f0 f1 d0 d1 → IsOutcome user moment (asked_by d) f0 f0 d0 d0 r → IsOutcome user moment (asked_by d) f0 f1 d0 d1 r
+    untouched_reply r u x = subst (λ (y : List Front × Shown). IsOutcome user moment (asked_by d) f0 y.0 d0 y.1 r) (λ i. (sym u.1 i, sym u.0 i)) x
 
-    pub spent_reply : IsBatch user moment d f0 f1 d0 d1 (Err batch.PassSpent) → IsReply user moment (asked_by d) f0 f1 d0 d1 (Err PassSpent)
+    pub spent_reply : IsBatch user moment d f0 f1 d0 d1 (Err batch.PassSpent) → IsOutcome user moment (asked_by d) f0 f1 d0 d1 (Err PassSpent)
     spent_reply b = stopped_reply PassSpent b
 
-    pub memory_reply : IsBatch user moment d f0 f1 d0 d1 (Err batch.NoMemory) → IsReply user moment (asked_by d) f0 f1 d0 d1 (Err NoMemory)
+    pub memory_reply : IsBatch user moment d f0 f1 d0 d1 (Err batch.NoMemory) → IsOutcome user moment (asked_by d) f0 f1 d0 d1 (Err NoMemory)
     memory_reply (inl u) = untouched_reply (Err NoMemory) u no_reply
     memory_reply (inr b) = stopped_reply NoMemory b
 
-    pub refused_batch_reply : (e : RequestError) (r : Result Reply DeskError) → IsBatch user moment d f0 f1 d0 d1 (Err (batch.Refused e)) → IsRefusal e r → IsReply user moment (asked_by d) f0 f1 d0 d1 r
+    pub refused_batch_reply : (e : RequestError) (r : Result RequestOutcome DeskError) → IsBatch user moment d f0 f1 d0 d1 (Err (batch.Refused e)) → IsProblem e r → IsOutcome user moment (asked_by d) f0 f1 d0 d1 r
     refused_batch_reply e r b h = untouched_reply r b.1 (refused_reply r b.0 h)
 
 -- w is the moment that the batch was given
 module _ {user : User} (d : Data) {f0 f1 : List Front} {d0 d1 : Shown} (w moment : ℤ) (same : w ≡ moment) where
-  at_moment : (r : Result Reply DeskError) → IsReply user w (asked_by d) f0 f1 d0 d1 r → IsReply user moment (asked_by d) f0 f1 d0 d1 r
-  at_moment r = subst (λ (t : ℤ). IsReply user t (asked_by d) f0 f1 d0 d1 r) same
+  at_moment : (r : Result RequestOutcome DeskError) → IsOutcome user w (asked_by d) f0 f1 d0 d1 r → IsOutcome user moment (asked_by d) f0 f1 d0 d1 r
+  at_moment r = subst (λ (t : ℤ). IsOutcome user t (asked_by d) f0 f1 d0 d1 r) same
 
-  pub reply_of_batch : (tree : Tree) → IsBatch user w d f0 f1 d0 d1 (Ok tree) → IsReply user moment (asked_by d) f0 f1 d0 d1 (Ok (record { tree = tree; is_refusal = false }))
+  pub reply_of_batch : (tree : Tree) → IsBatch user w d f0 f1 d0 d1 (Ok tree) → IsOutcome user moment (asked_by d) f0 f1 d0 d1 (Ok (record { tree = tree; is_refusal = false }))
   reply_of_batch tree b = at_moment _ (batch_reply d tree b)
 
-  pub refused_of_batch : {x : BatchError} (e : RequestError) (r : Result Reply DeskError) → IsBatch user w d f0 f1 d0 d1 (Err x) → x ≡ batch.Refused e → IsRefusal e r → IsReply user moment (asked_by d) f0 f1 d0 d1 r
+  pub refused_of_batch : {x : BatchError} (e : RequestError) (r : Result RequestOutcome DeskError) → IsBatch user w d f0 f1 d0 d1 (Err x) → x ≡ batch.Refused e → IsProblem e r → IsOutcome user moment (asked_by d) f0 f1 d0 d1 r
   refused_of_batch e r b is h = at_moment r (refused_batch_reply d e r (subst (λ (y : BatchError). IsBatch user w d f0 f1 d0 d1 (Err y)) is b) h)
 
-  pub spent_of_batch : {x : BatchError} → IsBatch user w d f0 f1 d0 d1 (Err x) → x ≡ batch.PassSpent → IsReply user moment (asked_by d) f0 f1 d0 d1 (Err PassSpent)
+  pub spent_of_batch : {x : BatchError} → IsBatch user w d f0 f1 d0 d1 (Err x) → x ≡ batch.PassSpent → IsOutcome user moment (asked_by d) f0 f1 d0 d1 (Err PassSpent)
   spent_of_batch b is = at_moment _ (spent_reply d (subst (λ (y : BatchError). IsBatch user w d f0 f1 d0 d1 (Err y)) is b))
 
-  pub memory_of_batch : {x : BatchError} → IsBatch user w d f0 f1 d0 d1 (Err x) → x ≡ batch.NoMemory → IsReply user moment (asked_by d) f0 f1 d0 d1 (Err NoMemory)
+  pub memory_of_batch : {x : BatchError} → IsBatch user w d f0 f1 d0 d1 (Err x) → x ≡ batch.NoMemory → IsOutcome user moment (asked_by d) f0 f1 d0 d1 (Err NoMemory)
   memory_of_batch b is = at_moment _ (memory_reply d (subst (λ (y : BatchError). IsBatch user w d f0 f1 d0 d1 (Err y)) is b))
 
 pub over_limit : (bytes : List ℕ) → MAX_SIZE_REQUEST < length bytes → asked_in bytes ≡ refused (Limit SizeRequest)

@@ -20,7 +20,7 @@ use Rattle.model_batch.specs.declared.desk.Front.{Front}
 use Rattle.model_connection.specs.declared.served.ConnEnd.{ConnEnd}
 use Rattle.model_connection.specs.declared.served.ConnEnd.TheVariants as end
 use Rattle.conn_serve.proofs.Turning.{fit_more, told_join, told_none}
-use Rattle.conn_serve.specs.Answering.{AnswerHow, Answers}
+use Rattle.conn_serve.specs.Answering.{AnswerHow, AnswersMessage}
 use Rattle.conn_serve.specs.Ending.{IsRefusalEnd, RefusalHow, end_for}
 use Rattle.http_edge.proofs.Pipelines.{open_snoc, reads_more, reads_snoc}
 use Rattle.http_edge.specs.Reading.{GivesNext, message_shown}
@@ -210,7 +210,7 @@ module _ {site : Site} {most i : ℕ} {b n n2 h0 h1 : Option (List ℕ)} {s0 s1 
 module _ {site : Site} {most i : ℕ} {b n n2 h0 h1 : Option (List ℕ)} {s0 s1 s2 k0 k1 : ℕ} {c0 c1 c2 : Option (ℕ → ℤ)} {d0 d1 d2 : Shown} {f f2 : List Front} {kept new : List ℕ} {m : Taken} {close : Bool} where
   -- the message wasn't answered
   pub stopped_inside : {e : DeskError} → Serving site most i b n h0 h1 s0 s1 k0 k1 c0 c1 d0 d1 f kept → i < most → GivesNext n n2 s1 s2 kept new (next.Message m) → close ≡ closes most i (message_shown m)
-      → Answers site close (message_shown m) c1 c2 f f2 d1 d2 (Err e) → Serves site most b n2 h0 h1 s0 s2 k0 k1 c0 c2 d0 d2 f2 i (end_for e)
+      → AnswersMessage site close (message_shown m) c1 c2 f f2 d1 d2 (Err e) → Serves site most b n2 h0 h1 s0 s2 k0 k1 c0 c2 d0 d2 f2 i (end_for e)
   stopped_inside {e} s h g closing a = stopped_how s h g a.exchange a.is a.told closing e a.how
 
 module _ {site : Site} {m : Taken} {close : Bool} where
@@ -219,7 +219,7 @@ module _ {site : Site} {m : Taken} {close : Bool} where
 
 module _ {site : Site} {most i : ℕ} {b n n2 h0 h1 h2 : Option (List ℕ)} {s0 s1 s2 k0 k1 k2 : ℕ} {c0 c1 c2 : Option (ℕ → ℤ)} {d0 d1 d2 : Shown} {f f2 : List Front} {kept new piece : List ℕ} {m : Taken} {close : Bool} {v : Vec ℕ Global} where
   pub write_fault : Serving site most i b n h0 h1 s0 s1 k0 k1 c0 c1 d0 d1 f kept → i < most → GivesNext n n2 s1 s2 kept new (next.Message m) → close ≡ closes most i (message_shown m)
-      → Answers site close (message_shown m) c1 c2 f f2 d1 d2 (Ok v) → GrowsByPrefix h1 h2 piece → piece ≡ v.items → k1 ≤ k2 → Rose k1 k2
+      → AnswersMessage site close (message_shown m) c1 c2 f f2 d1 d2 (Ok v) → GrowsByPrefix h1 h2 piece → piece ≡ v.items → k1 ≤ k2 → Rose k1 k2
       → Serves site most b n2 h0 h2 s0 s2 k0 k2 c0 c2 d0 d2 f2 i end.WriteFault
   write_fault s h g closing a front given later rose =
       let now = reads_more s.taken (messages_of s.exchanges) kept g.taken s.reading.reads in
@@ -228,13 +228,13 @@ module _ {site : Site} {most i : ℕ} {b n n2 h0 h1 h2 : Option (List ℕ)} {s0 
       (response_cut a.exchange refl (fits_here most i a.exchange (length s.exchanges) a.is closing (sym s.stand.count) a.how.0) (cut.0, cut.1, refl), s.reading.all_open, rose_more s.stand.sink_later rose) a.how.2
 
   one_turn : (s : Serving site most i b n h0 h1 s0 s1 k0 k1 c0 c1 d0 d1 f kept) (g : GivesNext n n2 s1 s2 kept new (next.Message m)) → close ≡ closes most i (message_shown m)
-      → (a : Answers site close (message_shown m) c1 c2 f f2 d1 d2 (Ok v)) → Grows h1 h2 piece → piece ≡ v.items → k1 ≤ k2
+      → (a : AnswersMessage site close (message_shown m) c1 c2 f f2 d1 d2 (Ok v)) → Grows h1 h2 piece → piece ≡ v.items → k1 ≤ k2
       → Stand site most (s.taken ++ g.taken) (s.exchanges ++ a.exchange ∷ []) (i + 1) b n2 h0 h2 s0 s2 k0 k2 c0 c2 d0 d2 f2
   one_turn s g closing a more given later =
       turn_more a.exchange (taken_more g.taken s.stand g.consumed g.rose) (subst (λ (d : Shown). Told c1 c2 f f2 d1 d (a.exchange ∷ [])) (sym a.how.2) a.told) (fits_here most i a.exchange i a.is closing refl a.how.0) (subst (Grows h1 h2) (given ∙ a.how.1) more) later
 
   pub close_asked_here : Serving site most i b n h0 h1 s0 s1 k0 k1 c0 c1 d0 d1 f kept → i < most → GivesNext n n2 s1 s2 kept new (next.Message m) → close ≡ closes most i (message_shown m)
-      → Answers site close (message_shown m) c1 c2 f f2 d1 d2 (Ok v) → Grows h1 h2 piece → piece ≡ v.items → k1 ≤ k2 → m.close ≡ true
+      → AnswersMessage site close (message_shown m) c1 c2 f f2 d1 d2 (Ok v) → Grows h1 h2 piece → piece ≡ v.items → k1 ≤ k2 → m.close ≡ true
       → Serves site most b n2 h0 h2 s0 s2 k0 k2 c0 c2 d0 d2 f2 (i + 1) end.CloseAsked
   close_asked_here s h g closing a more given later asks =
       let now = reads_more s.taken (messages_of s.exchanges) kept g.taken s.reading.reads in
@@ -244,7 +244,7 @@ module _ {site : Site} {most i : ℕ} {b n n2 h0 h1 h2 : Option (List ℕ)} {s0 
       (record { ends = (omega (arith, h, n_is), messages_of s.exchanges, message_shown m, sym (pushed s.exchanges a.exchange (message_shown m) a.is), s.reading.all_open, asks); all_written = refl; closing = refl }) refl
 
   pub goes_on : Serving site most i b n h0 h1 s0 s1 k0 k1 c0 c1 d0 d1 f kept → i < most → GivesNext n n2 s1 s2 kept new (next.Message m) → close ≡ closes most i (message_shown m)
-      → Answers site close (message_shown m) c1 c2 f f2 d1 d2 (Ok v) → Grows h1 h2 piece → piece ≡ v.items → k1 ≤ k2 → m.close ≡ false → Serving site most (i + 1) b n2 h0 h2 s0 s2 k0 k2 c0 c2 d0 d2 f2 new
+      → AnswersMessage site close (message_shown m) c1 c2 f f2 d1 d2 (Ok v) → Grows h1 h2 piece → piece ≡ v.items → k1 ≤ k2 → m.close ≡ false → Serving site most (i + 1) b n2 h0 h2 s0 s2 k0 k2 c0 c2 d0 d2 f2 new
   goes_on s h g closing a more given later other =
       let now = reads_more s.taken (messages_of s.exchanges) kept g.taken s.reading.reads in
       let ms = messages_of s.exchanges in

@@ -17,7 +17,7 @@ use Rattle.model_batch.specs.declared.desk.DeskError.TheVariants.{NoMemory}
 use Rattle.model_batch.specs.declared.desk.Front.{Front}
 use Rattle.model_batch.specs.declared.request.RequestError.{RequestError}
 use Rattle.model_core.specs.declared.user.User.{User}
-use Rattle.conn_serve.specs.declared.reply.Reply.{Reply}
+use Rattle.conn_serve.specs.declared.reply.RequestOutcome.{RequestOutcome}
 use Rattle.conn_serve.specs.declared.route.Route.{Route}
 use Rattle.conn_serve.specs.declared.route.Route.TheVariants.{Direct, Api}
 use Rattle.http_edge.specs.Reading.{response_shown}
@@ -27,8 +27,8 @@ route_shown (Direct response) = http.direct (response_shown response)
 route_shown (Api user) = http.api user
 
 -- the response that shows a reply
-abbrev pub reply_response : Bool → Reply → Response
-reply_response close reply = if reply.is_refusal then http.with_problem close (text_of (data_of reply.tree)) else http.success close (text_of (data_of reply.tree))
+abbrev pub outcome_response : Bool → RequestOutcome → Response
+outcome_response close reply = if reply.is_refusal then http.with_problem close (text_of (data_of reply.tree)) else http.success close (text_of (data_of reply.tree))
 
 -- its user is one of the site, and its status is one that a response may have
 abbrev pub IsRouteIn : Site → Route → Type 0
@@ -37,24 +37,24 @@ IsRouteIn site (Api user) = user < length site.users
 
 -- ---- a body
 
-abbrev pub IsRefusal : RequestError → Result Reply DeskError → Type 0
-IsRefusal error (Ok reply) = (data_of reply.tree ≡ problem error) × (reply.is_refusal ≡ true)
-IsRefusal error (Err e) = e ≡ NoMemory
+abbrev pub IsProblem : RequestError → Result RequestOutcome DeskError → Type 0
+IsProblem error (Ok reply) = (data_of reply.tree ≡ problem error) × (reply.is_refusal ≡ true)
+IsProblem error (Err e) = e ≡ NoMemory
 
 -- what the calls and the answer say of what was asked, for a user at a moment, where the desk was in the state u behind these calls and was left in the state v
-abbrev pub ReplyHow : User → ℤ → Asked → List Made → Shown → Shown → Result Reply DeskError → Type 0
-ReplyHow user moment what made u v (Ok reply) = Replies user moment what made (data_of reply.tree) × (is_refused what ≡ reply.is_refusal) × (v ≡ u)
-ReplyHow user moment what made u v (Err e) = ((e ≡ NoMemory) × (made ≡ []) × (v ≡ u)) ⊎ (BeginsReply user moment what made × Stops e u v)
+abbrev pub OutcomeHow : User → ℤ → Asked → List Made → Shown → Shown → Result RequestOutcome DeskError → Type 0
+OutcomeHow user moment what made u v (Ok reply) = Replies user moment what made (data_of reply.tree) × (is_refused what ≡ reply.is_refusal) × (v ≡ u)
+OutcomeHow user moment what made u v (Err e) = ((e ≡ NoMemory) × (made ≡ []) × (v ≡ u)) ⊎ (BeginsReply user moment what made × Stops e u v)
 
 -- the calls that a desk answered for what was asked are a chain, each with its front
-pub record IsReply (user : User) (moment : ℤ) (what : Asked) (f0 f1 : List Front) (d0 d1 : Shown) (r : Result Reply DeskError) : Type 0 where
+pub record IsOutcome (user : User) (moment : ℤ) (what : Asked) (f0 f1 : List Front) (d0 d1 : Shown) (r : Result RequestOutcome DeskError) : Type 0 where
   pub made : List Made
   pub desk : Shown
   pub chain : Chain d0 desk made
   pub fronts : f1 ≡ f0 ++ map front_of made
   -- a request has at most 16 calls
   pub few : length made ≤ 16
-  pub how : ReplyHow user moment what made desk d1 r
+  pub how : OutcomeHow user moment what made desk d1 r
 
 -- ---- a message
 
@@ -65,7 +65,7 @@ module _ (site : Site) (close : Bool) where
   AnswerHow u v exchange (Err e) = Begun site close exchange e u v
 
   -- what was made of a message, with what clock, fronts and desk were before and after
-  pub record Answers (message : Message) (c0 c1 : Option (ℕ → ℤ)) (f0 f1 : List Front) (d0 d1 : Shown) (r : Result (Vec ℕ Global) DeskError) : Type 0 where
+  pub record AnswersMessage (message : Message) (c0 c1 : Option (ℕ → ℤ)) (f0 f1 : List Front) (d0 d1 : Shown) (r : Result (Vec ℕ Global) DeskError) : Type 0 where
     pub exchange : Exchange
     pub is : exchange.message ≡ message
     -- the desk behind the calls that it answered

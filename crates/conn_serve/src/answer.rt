@@ -2,10 +2,10 @@
 ghost use Rattle.std.specs.Prelude.{◌≡◌, ◌<◌, IfOk, length};
 ghost use Rattle.model_http.specs.Responses.{IsStatus, response_text};
 ghost use Rattle.model_connection.specs.Routes.{api, route};
-ghost use Rattle.conn_serve.specs.Answering.{Answers, reply_response};
+ghost use Rattle.conn_serve.specs.Answering.{AnswersMessage, outcome_response};
 ghost use Rattle.http_edge.specs.Reading.{message_shown, response_shown};
 
-use crate::reply::{Reply, reply_to};
+use crate::reply::{RequestOutcome, reply_to};
 use crate::route::{Route, route_of, success, with_problem};
 use model_time::moment::Moment;
 use model_batch::desk::{Desk, DeskError, Front};
@@ -29,7 +29,7 @@ pub(crate) fn answer<D: Desk, C: Clock>(
     fronts: &mut Vec<Front>,
 ) -> Result<Vec<u8>, DeskError>
     requires { (D.shown desk.old).accounts ≡ length site.now.accounts }
-    ensures { Answers site.now close (message_shown message.now) (C.moments clock.old) (C.moments clock.new) fronts.old.items fronts.new.items (D.shown desk.old) (D.shown desk.new) result }
+    ensures { AnswersMessage site.now close (message_shown message.now) (C.moments clock.old) (C.moments clock.new) fronts.old.items fronts.new.items (D.shown desk.old) (D.shown desk.new) result }
 {
     match route_of(alloc, site, message, close) {
         Ok(Route::Direct(response)) => match response_bytes(alloc, &response) {
@@ -55,7 +55,7 @@ fn answer_api<D: Desk, C: Clock>(
     requires accounts { (D.shown desk.old).accounts ≡ length site.now.accounts }
     requires there { user < length site.now.users }
     requires routed { route site.now close (message_shown message.now) ≡ api user }
-    ensures { Answers site.now close (message_shown message.now) (C.moments clock.old) (C.moments clock.new) fronts.old.items fronts.new.items (D.shown desk.old) (D.shown desk.new) result }
+    ensures { AnswersMessage site.now close (message_shown message.now) (C.moments clock.old) (C.moments clock.new) fronts.old.items fronts.new.items (D.shown desk.old) (D.shown desk.new) result }
 {
     let moment = Moment::clamped(clock.now());
     let body = message.body.as_slice();
@@ -70,8 +70,8 @@ fn answer_api<D: Desk, C: Clock>(
 }
 
 // The bytes of the response that shows a reply.
-fn reply_bytes(alloc: Global, reply: &Reply, close: bool) -> Result<Vec<u8>, AllocError>
-    ensures { IfOk result (λ v. v.items ≡ response_text (reply_response close reply.now)) }
+fn reply_bytes(alloc: Global, reply: &RequestOutcome, close: bool) -> Result<Vec<u8>, AllocError>
+    ensures { IfOk result (λ v. v.items ≡ response_text (outcome_response close reply.now)) }
 {
     if reply.is_refusal {
         response_bytes(alloc, &with_problem(alloc, &reply.tree, close)?)

@@ -3,7 +3,7 @@ ghost use Rattle.std.specs.Prelude.{◌≡◌, ◌<◌, All};
 ghost use Rattle.model_batch.specs.Asked.{asked_by};
 ghost use Rattle.model_batch.specs.Reply.{asked_in};
 ghost use Rattle.model_json.specs.TreeData.{data_of};
-ghost use Rattle.conn_serve.specs.Answering.{IsRefusal, IsReply};
+ghost use Rattle.conn_serve.specs.Answering.{IsProblem, IsOutcome};
 
 use batch_exec::problem::problem_tree;
 use batch_exec::run::run_batch;
@@ -18,7 +18,7 @@ use std::alloc::Global;
 
 /// What a request came to.
 #[derive(Drop)]
-pub struct Reply {
+pub struct RequestOutcome {
     /// The response (RFC 8620 section 3.4), or the problem of a request that is refused as a whole (section 3.6.1).
     pub tree: Tree,
     /// Whether the request is refused as a whole.
@@ -36,9 +36,9 @@ pub fn reply_to<D: Desk>(
     desk: &mut D,
     moment: Moment,
     fronts: &mut Vec<Front>,
-) -> Result<Reply, DeskError>
+) -> Result<RequestOutcome, DeskError>
     requires { All (λ g. g.account < (D.shown desk.old).accounts) user.now.grants }
-    ensures { IsReply user.now moment (asked_in bytes.now) fronts.old.items fronts.new.items (D.shown desk.old) (D.shown desk.new) result }
+    ensures { IsOutcome user.now moment (asked_in bytes.now) fronts.old.items fronts.new.items (D.shown desk.old) (D.shown desk.new) result }
 {
     if bytes.len() > MAX_SIZE_REQUEST {
         return refusal(alloc, RequestError::Limit(Limit::SizeRequest));
@@ -58,12 +58,12 @@ fn reply_to_tree<D: Desk>(
     desk: &mut D,
     moment: Moment,
     fronts: &mut Vec<Front>,
-) -> Result<Reply, DeskError>
+) -> Result<RequestOutcome, DeskError>
     requires { All (λ g. g.account < (D.shown desk.old).accounts) user.now.grants }
-    ensures { IsReply user.now moment (asked_by (data_of request)) fronts.old.items fronts.new.items (D.shown desk.old) (D.shown desk.new) result }
+    ensures { IsOutcome user.now moment (asked_by (data_of request)) fronts.old.items fronts.new.items (D.shown desk.old) (D.shown desk.new) result }
 {
     match run_batch(alloc, request, user, desk, moment, fronts) {
-        Ok(tree) => Ok(Reply {
+        Ok(tree) => Ok(RequestOutcome {
             tree,
             is_refusal: false,
         }),
@@ -73,11 +73,11 @@ fn reply_to_tree<D: Desk>(
     }
 }
 
-fn refusal(alloc: Global, error: RequestError) -> Result<Reply, DeskError>
-    ensures { IsRefusal error result }
+fn refusal(alloc: Global, error: RequestError) -> Result<RequestOutcome, DeskError>
+    ensures { IsProblem error result }
 {
     match problem_tree(alloc, error) {
-        Ok(tree) => Ok(Reply {
+        Ok(tree) => Ok(RequestOutcome {
             tree,
             is_refusal: true,
         }),

@@ -9,7 +9,7 @@ use model_json::tree::Tree;
 use case::{Case, bytes_of};
 use row_table::line::tree_in;
 use row_table::row::{Row, read_rows};
-use row_table::tally::Tally;
+use row_table::tally::RowTally;
 use runs::Files;
 use std::alloc::{AllocError, Global};
 use std::io;
@@ -46,7 +46,7 @@ fn other_than(alloc: Global, row: &Row, files: &Files) -> Result<Option<String>,
 
 fn main(rt: HostRuntime) -> io::Result<()> {
     let alloc = rt.alloc();
-    let mut tally = Tally::new();
+    let mut tally = RowTally::new();
     let mut files = Vec::new(alloc);
     for row in &read_rows(&rt)? {
         // The files of the rows behind it.

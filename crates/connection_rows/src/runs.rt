@@ -62,7 +62,7 @@ impl Way {
 
 /// How the program ended, and what it wrote to.
 #[derive(Drop)]
-pub struct Outcome {
+pub struct RunOutcome {
     pub status: String,
     pub output: MemSink,
 }
@@ -74,7 +74,7 @@ pub fn outcome_of(
     files: &Files,
     input: &[u8],
     way: Way,
-) -> Result<Outcome, AllocError> {
+) -> Result<RunOutcome, AllocError> {
     let Way {
         most,
         failing_takes,
@@ -96,7 +96,7 @@ pub fn outcome_of(
         &mut output,
         &mut clock,
     );
-    Ok(Outcome {
+    Ok(RunOutcome {
         status: status_name(alloc, status)?,
         output,
     })

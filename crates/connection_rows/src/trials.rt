@@ -2,7 +2,7 @@
 ghost use Rattle.std.specs.Prelude.{◌≡◌, count_by, nat_le};
 
 use crate::case::Case;
-use crate::runs::{Files, Outcome, Way, outcome_of};
+use crate::runs::{Files, RunOutcome, Way, outcome_of};
 use std::alloc::{AllocError, Global};
 
 /// The most bytes of an input whose takes and gives fail one after the other.
@@ -68,7 +68,7 @@ fn undisturbed(case: &Case) -> Wanted<'_> {
 fn other_than(
     alloc: Global,
     case: &Case,
-    outcome: &Outcome,
+    outcome: &RunOutcome,
     wanted: &Wanted<'_>,
 ) -> Result<Option<String>, AllocError> {
     let bytes = case.first_responses(alloc, wanted.responses)?;

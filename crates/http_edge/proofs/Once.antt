@@ -5,7 +5,7 @@ use Rattle.std.proofs.Math.Seq.{take-append_seam, drop-append_seam}
 use Rattle.httparse.specs.Grammar.{RequestHead}
 use Rattle.httparse.proofs.GrammarLemmas.{request_unique}
 use Rattle.model_http.specs.Heads.{HeadEnd, head_end, ended, too_long, unended, line_feeds, IsHead, ReadsHead, fields_of, Framing, body, refuse, framing, RefusesHead}
-use Rattle.model_http.specs.Messages.{Message, message_of, Beginning, whole, refused, partial, nothing, HasHead, IsWhole, IsShort, BeginsWith}
+use Rattle.model_http.specs.Messages.{Message, message_of, Beginning, whole, refused, partial, nothing, HasHead, HasMessage, IsShort, BeginsWith}
 use Rattle.http_edge.proofs.Ends.{nothing_unended}
 
 -- ---- ends and framings are told apart
@@ -72,13 +72,13 @@ same_parts a b c d len e = (
   sym (drop-append_seam a b) ∙ ap₂ drop len e ∙ drop-append_seam c d,
 )
 
-whole_whole : (bytes : List ℕ) (m n : Message) (r q : List ℕ) → IsWhole bytes m r → IsWhole bytes n q → whole m r ≡ whole n q
+whole_whole : (bytes : List ℕ) (m n : Message) (r q : List ℕ) → HasMessage bytes m r → HasMessage bytes n q → whole m r ≡ whole n q
 whole_whole bytes m n r q a b =
     let same = head_once bytes a.size b.size a.head b.head (length m.body) (length n.body) a.has_head b.has_head in
     let parts = same_parts m.body r n.body q same.2 (sym a.parts ∙ ap (λ k. drop k bytes) same.0 ∙ b.parts) in
     ap₂ whole (a.is ∙ ap₂ message_of same.1 parts.0 ∙ sym b.is) parts.1
 
-whole_short : (bytes : List ℕ) (m : Message) (r : List ℕ) → IsWhole bytes m r → IsShort bytes → ⊥
+whole_short : (bytes : List ℕ) (m : Message) (r : List ℕ) → HasMessage bytes m r → IsShort bytes → ⊥
 whole_short bytes m r a b =
     let same = head_once bytes a.size b.size a.head b.head (length m.body) b.content a.has_head b.has_head in
     let len : length (drop b.size bytes) ≡ length m.body + length r = ap (λ k. length (drop k bytes)) (sym same.0) ∙ ap length a.parts ∙ length-append m.body r in
@@ -97,7 +97,7 @@ refused_refused bytes s t (inr a) (inl b) = absurd (not_long (head_end bytes) a.
 refused_refused bytes s t (inr a) (inr b) =
     refused_once (take a.0 bytes) s t a.2 (subst (λ n. RefusesHead (take n bytes) t) (sym (same_end (head_end bytes) a.0 b.0 a.1 b.1)) b.2)
 
-whole_partial : (bytes : List ℕ) (m : Message) (r : List ℕ) → IsWhole bytes m r → (head_end bytes ≡ unended) ⊎ IsShort bytes → ⊥
+whole_partial : (bytes : List ℕ) (m : Message) (r : List ℕ) → HasMessage bytes m r → (head_end bytes ≡ unended) ⊎ IsShort bytes → ⊥
 whole_partial bytes m r a (inl e) = not_open (head_end bytes) a.size a.has_head.end e
 whole_partial bytes m r a (inr b) = whole_short bytes m r a b
 
@@ -112,7 +112,7 @@ refused_partial bytes s a (inr b) = head_refused bytes b.size b.head b.content s
 none_open : (bytes : List ℕ) → bytes ≡ [] → head_end bytes ≡ unended
 none_open bytes e = ap head_end e ∙ nothing_unended
 
-none_whole : (bytes : List ℕ) (m : Message) (r : List ℕ) → bytes ≡ [] → IsWhole bytes m r → ⊥
+none_whole : (bytes : List ℕ) (m : Message) (r : List ℕ) → bytes ≡ [] → HasMessage bytes m r → ⊥
 none_whole bytes m r e a = not_open (head_end bytes) a.size a.has_head.end (none_open bytes e)
 
 none_some : (bytes : List ℕ) → bytes ≡ [] → 0 < length bytes → ⊥

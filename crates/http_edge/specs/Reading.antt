@@ -63,9 +63,9 @@ pub record Says (bytes : List ℕ) (head : RequestHead) (said : Head) : Type 0 w
   pub close : said.close ≡ asks_close head.minor (fields_of head)
   pub asks : framing head.method (fields_of head) ≡ heads.body said.body
 
-abbrev pub IsRefusal : List ℕ → HeadError → Type 0
-IsRefusal bytes (head_error.Refused status) = RefusesHead bytes status
-IsRefusal bytes head_error.NoMemory = ⊤
+abbrev pub IsHeadRefusal : List ℕ → HeadError → Type 0
+IsHeadRefusal bytes (head_error.Refused status) = RefusesHead bytes status
+IsHeadRefusal bytes head_error.NoMemory = ⊤
 
 -- ---- sources
 

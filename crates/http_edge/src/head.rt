@@ -5,7 +5,7 @@ ghost use Rattle.httparse.specs.Grammar.{RequestHead};
 ghost use Rattle.httparse.specs.Spans.{IsHeaderWithin, IsRequestAt, IsRequestWithin, header_bytes};
 ghost use Rattle.model_http.specs.Heads.{IsHead, framing, line_feeds};
 ghost use Rattle.model_http.specs.Messages.{path_of};
-ghost use Rattle.http_edge.specs.Reading.{IsRefusal, Says, framing_shown};
+ghost use Rattle.http_edge.specs.Reading.{IsHeadRefusal, Says, framing_shown};
 ghost use Rattle.http_edge.specs.declared.head.HeadError.TheVariants.{NoMemory};
 
 use crate::bytes::Bytes;
@@ -52,7 +52,7 @@ impl From<AllocError> for HeadError {
 /// Reads the bytes of a head. Takes memory for what it says.
 pub fn read_head(alloc: Global, head: &[u8]) -> Result<Head, HeadError>
     ensures ok { IfOk result (λ said. (h : RequestHead) × Says head.now h said) }
-    ensures err { IfErr result (λ error. IsRefusal head.now error) }
+    ensures err { IfErr result (λ error. IsHeadRefusal head.now error) }
 {
     if count_feeds(head) > MOST_LINES {
         return Err(HeadError::Refused(431));

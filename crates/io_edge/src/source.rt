@@ -27,30 +27,30 @@ pub trait Source {
 
 /// Why bytes weren't read to their end.
 #[derive(Clone, Copy, Debug, PartialEq, Eq)]
-pub enum ReadError {
+pub enum InputError {
     /// The source failed.
     Failed,
     /// There was no memory for the bytes.
     NoMemory,
 }
 
-impl From<AllocError> for ReadError {
-    ghost use Rattle.io_edge.specs.declared.source.ReadError.TheVariants.{NoMemory};
+impl From<AllocError> for InputError {
+    ghost use Rattle.io_edge.specs.declared.source.InputError.TheVariants.{NoMemory};
 
     ghost from_gives = { λ _ error. error ≡ NoMemory };
 
-    fn from(_: AllocError) -> ReadError {
-        ReadError::NoMemory
+    fn from(_: AllocError) -> InputError {
+        InputError::NoMemory
     }
 }
 
-impl From<Failed> for ReadError {
-    ghost use Rattle.io_edge.specs.declared.source.ReadError.TheVariants.{Failed};
+impl From<Failed> for InputError {
+    ghost use Rattle.io_edge.specs.declared.source.InputError.TheVariants.{Failed};
 
     ghost from_gives = { λ _ error. error ≡ Failed };
 
-    fn from(_: Failed) -> ReadError {
-        ReadError::Failed
+    fn from(_: Failed) -> InputError {
+        InputError::Failed
     }
 }
 
@@ -65,14 +65,14 @@ pub fn read_up_to<S: Source>(
     alloc: Global,
     source: &mut S,
     most: usize,
-) -> Result<Vec<u8>, ReadError>
+) -> Result<Vec<u8>, InputError>
     ensures ok { IfOk result (λ bytes. Consumes (S.left source.old) (S.left source.new) bytes.items) }
     ensures bound { IfOk result (λ bytes. length bytes.items ≤ most + 1) }
     ensures whole { IfOk result (λ bytes. length bytes.items ≤ most → IsAtEnd (S.left source.new)) }
 
     ensures err { OnErr result (ConsumesAtMost (S.left source.old) (S.left source.new) (most + 1)) }
     ensures later { S.faults source.old ≤ S.faults source.new }
-    ensures failed { result ≡ Err ReadError.Failed → Rose (S.faults source.old) (S.faults source.new) }
+    ensures failed { result ≡ Err InputError.Failed → Rose (S.faults source.old) (S.faults source.new) }
 {
     let mut bytes = Vec::new(alloc);
     let mut piece = [0; PIECE];

@@ -8,7 +8,7 @@ use Rattle.model_batch.specs.Reply.{Replies, asked_in}
 use Rattle.model_core.specs.declared.limits.TheConstants.{MAX_SIZE_REQUEST}
 use Rattle.model_batch.specs.Chain.{Chain, Shown}
 use Rattle.account_desk.specs.FreshDesk.{IsSole, fresh_desk}
-use Rattle.jmapd_run.specs.Headline.{Answers, IsAnswer}
+use Rattle.jmapd_run.specs.Headline.{AnswersInput, IsAnswer}
 use Rattle.model_json.specs.Json.{text_of}
 use Rattle.model_history.specs.MostTurns.{most_turns}
 use Rattle.io_edge.specs.Outside.{Grows, Ticks}
@@ -20,13 +20,13 @@ use Rattle.model_batch.specs.declared.desk.Front.{Front}
 use Rattle.jmapd_run.specs.declared.status.Status.{Status}
 use Rattle.jmapd_run.specs.declared.status.Status.TheVariants.{Done, Refused}
 use Rattle.model_core.specs.declared.user.User.{User}
-use Rattle.conn_serve.specs.Answering.{IsReply, ReplyHow}
-use Rattle.conn_serve.specs.declared.reply.Reply.{Reply}
+use Rattle.conn_serve.specs.Answering.{IsOutcome, OutcomeHow}
+use Rattle.conn_serve.specs.declared.reply.RequestOutcome.{RequestOutcome}
 use Rattle.jmapd_run.specs.Runs.{RunsBatch}
 use Rattle.jmapd_run.specs.declared.batch.Answer.{Answer}
 
 module _ (site : Site) (user : ℕ) (bytes : List ℕ) {u : User} {moment : ℤ} {f0 f1 : List Front} {d0 d1 : Shown} where
-  answered : (reply : Reply) (a : Answer) → u ≡ user_at site user → d0 ≡ fresh_desk site → IsSole d1 → IsReply u moment (asked_in bytes) f0 f1 d0 d1 (Ok reply)
+  answered : (reply : RequestOutcome) (a : Answer) → u ≡ user_at site user → d0 ≡ fresh_desk site → IsSole d1 → IsOutcome u moment (asked_in bytes) f0 f1 d0 d1 (Ok reply)
       → a.text.items ≡ text_of (data_of reply.tree) ++ 10 ∷ [] → a.is_refusal ≡ reply.is_refusal → IsAnswer site user moment bytes a.is_refusal a.text.items
   answered reply a user_is fresh sole r text refusal = record {
     made = r.made;
@@ -39,20 +39,20 @@ module _ (site : Site) (user : ℕ) (bytes : List ℕ) {u : User} {moment : ℤ}
     written = text;
   }
 
-  pub answer_is : {E : Type 0} (reply : Reply) (r : Result Answer E) → u ≡ user_at site user → d0 ≡ fresh_desk site → IsSole d1 → IsReply u moment (asked_in bytes) f0 f1 d0 d1 (Ok reply)
+  pub answer_is : {E : Type 0} (reply : RequestOutcome) (r : Result Answer E) → u ≡ user_at site user → d0 ≡ fresh_desk site → IsSole d1 → IsOutcome u moment (asked_in bytes) f0 f1 d0 d1 (Ok reply)
       → IfOk r (λ a. a.text.items ≡ text_of (data_of reply.tree) ++ 10 ∷ []) → IfOk r (λ a. a.is_refusal ≡ reply.is_refusal) → IfOk r (λ a. IsAnswer site user moment bytes a.is_refusal a.text.items)
   answer_is reply (Ok a) user_is fresh sole replied text refusal = answered reply a user_is fresh sole replied text refusal
   answer_is reply (Err e) user_is fresh sole replied text refusal = tt
 
-  spent_behind : (r : IsReply u moment (asked_in bytes) f0 f1 d0 d1 (Err PassSpent)) → r.desk.turns ≡ most_turns
+  spent_behind : (r : IsOutcome u moment (asked_in bytes) f0 f1 d0 d1 (Err PassSpent)) → r.desk.turns ≡ most_turns
   spent_behind r = by_how r.how
     where
-      by_how : ReplyHow u moment (asked_in bytes) r.made r.desk d1 (Err PassSpent) → r.desk.turns ≡ most_turns
+      by_how : OutcomeHow u moment (asked_in bytes) r.made r.desk d1 (Err PassSpent) → r.desk.turns ≡ most_turns
       by_how (inl h) = absurd (let e : PassSpent ≡ NoMemory = h.0 in cc)
       by_how (inr h) = h.1.0
 
   -- a fresh desk has turns left for a request
-  pub never_spent : d0 ≡ fresh_desk site → IsReply u moment (asked_in bytes) f0 f1 d0 d1 (Err PassSpent) → ⊥
+  pub never_spent : d0 ≡ fresh_desk site → IsOutcome u moment (asked_in bytes) f0 f1 d0 d1 (Err PassSpent) → ⊥
   never_spent fresh r =
       let none = ap (λ (d : Shown). d.turns) fresh in
       let few = r.few in
@@ -61,13 +61,13 @@ module _ (site : Site) (user : ℕ) (bytes : List ℕ) {u : User} {moment : ℤ}
       let bad : ⊥ = omega (arith, none, few, made, spent) in
       bad
 
-  pub spent_never : {e : DeskError} → e ≡ PassSpent → d0 ≡ fresh_desk site → IsReply u moment (asked_in bytes) f0 f1 d0 d1 (Err e) → ⊥
-  spent_never is fresh r = never_spent fresh (subst (λ (x : DeskError). IsReply u moment (asked_in bytes) f0 f1 d0 d1 (Err x)) is r)
+  pub spent_never : {e : DeskError} → e ≡ PassSpent → d0 ≡ fresh_desk site → IsOutcome u moment (asked_in bytes) f0 f1 d0 d1 (Err e) → ⊥
+  spent_never is fresh r = never_spent fresh (subst (λ (x : DeskError). IsOutcome u moment (asked_in bytes) f0 f1 d0 d1 (Err x)) is r)
 
 module _ {site : Site} {user : ℕ} {left left' : Option (List ℕ)} {moments moments' : Option (ℕ → ℤ)} where
   pub answers_with : (bytes slice text : List ℕ) (told moment : ℤ) (is_refusal : Bool)
       → Consumes left left' bytes → length bytes ≤ MAX_SIZE_REQUEST + 1 → (length bytes ≤ MAX_SIZE_REQUEST → IsAtEnd left') → Ticks moments moments' told → slice ≡ bytes → moment ≡ clamped told
-      → IsAnswer site user moment slice is_refusal text → Answers site user left left' moments moments' is_refusal text
+      → IsAnswer site user moment slice is_refusal text → AnswersInput site user left left' moments moments' is_refusal text
   answers_with bytes slice text told moment is_refusal consumed most whole ticked same clamps answer = record {
     bytes = bytes;
     consumed = consumed;
@@ -79,6 +79,6 @@ module _ {site : Site} {user : ℕ} {left left' : Option (List ℕ)} {moments mo
   }
 
   pub batch_ends : (held held' : Option (List ℕ)) (s0 s1 k0 k1 : ℕ) {status : Status} (is_refusal : Bool) (text : List ℕ) → status ≡ (if is_refusal then Refused else Done)
-      → Answers site user left left' moments moments' is_refusal text → Grows held held' text → RunsBatch left left' held held' s0 s1 k0 k1 moments moments' site user status
+      → AnswersInput site user left left' moments moments' is_refusal text → Grows held held' text → RunsBatch left left' held held' s0 s1 k0 k1 moments moments' site user status
   batch_ends held held' s0 s1 k0 k1 true text is answers grows = subst (RunsBatch left left' held held' s0 s1 k0 k1 moments moments' site user) (sym is) (text, answers, grows)
   batch_ends held held' s0 s1 k0 k1 false text is answers grows = subst (RunsBatch left left' held held' s0 s1 k0 k1 moments moments' site user) (sym is) (text, answers, grows)

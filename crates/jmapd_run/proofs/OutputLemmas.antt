@@ -14,7 +14,7 @@ use Rattle.model_core.specs.declared.limits.TheConstants.{MAX_SIZE_REQUEST}
 use Rattle.model_batch.specs.Chain.{Shown}
 use Rattle.model_json.specs.Data.{Data}
 use Rattle.account_desk.specs.FreshDesk.{IsSole, fresh_desk}
-use Rattle.jmapd_run.specs.Headline.{Answers, IsAnswer}
+use Rattle.jmapd_run.specs.Headline.{AnswersInput, IsAnswer}
 use Rattle.model_connection.specs.Serving.{Serves, refusal_text}
 use Rattle.model_connection.specs.Exchanges.{all_bytes, messages_of}
 use Rattle.model_json.specs.Json.{text_of}
@@ -69,14 +69,14 @@ record IsBatchEnd (site : Site) (user : ℕ) (input : List ℕ) (clock : ℕ →
   pub left : Option (List ℕ)
   pub moments : Option (ℕ → ℤ)
   pub is_refusal : Bool
-  pub answers : Answers site user (Some input) left (Some clock) moments is_refusal text
+  pub answers : AnswersInput site user (Some input) left (Some clock) moments is_refusal text
   pub is : status ≡ ended is_refusal
 
 module _ (site : Site) (user : ℕ) (input : List ℕ) (clock : ℕ → ℤ) where
   batch_end : (left : Option (List ℕ)) (moments : Option (ℕ → ℤ)) (s0 s1 k0 k1 : ℕ) (status : Status) (text : List ℕ) → RunsBatch (Some input) left (Some []) (Some text) s0 s1 k0 k1 (Some clock) moments site user status
       → (Rose s0 s1 → ⊥) → (Rose k0 k1 → ⊥) → status ≢ NoMemory → IsBatchEnd site user input clock status text
-  batch_end left moments s0 s1 k0 k1 Done text r read wrote m = record { left = left; moments = moments; is_refusal = false; answers = subst (Answers site user (Some input) left (Some clock) moments false) (sym r.2) r.1; is = refl }
-  batch_end left moments s0 s1 k0 k1 Refused text r read wrote m = record { left = left; moments = moments; is_refusal = true; answers = subst (Answers site user (Some input) left (Some clock) moments true) (sym r.2) r.1; is = refl }
+  batch_end left moments s0 s1 k0 k1 Done text r read wrote m = record { left = left; moments = moments; is_refusal = false; answers = subst (AnswersInput site user (Some input) left (Some clock) moments false) (sym r.2) r.1; is = refl }
+  batch_end left moments s0 s1 k0 k1 Refused text r read wrote m = record { left = left; moments = moments; is_refusal = true; answers = subst (AnswersInput site user (Some input) left (Some clock) moments true) (sym r.2) r.1; is = refl }
   batch_end left moments s0 s1 k0 k1 ReadFault text r read wrote m = absurd (read r.0)
   batch_end left moments s0 s1 k0 k1 WriteFault text r read wrote m = absurd (wrote r.0)
   batch_end left moments s0 s1 k0 k1 NoMemory text r read wrote m = absurd (m refl)

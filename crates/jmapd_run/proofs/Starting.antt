@@ -3,12 +3,12 @@ use Rattle.std.proofs.Common.{ℕ, ℤ, List, Option, Some, None, Ok, Err, inl, 
 use Rattle.model_site.specs.Configuration.{Site}
 use Rattle.jmapd_run.specs.declared.status.Status.{Status}
 use Rattle.jmapd_run.specs.declared.status.Status.TheVariants.{Config, Cut, Done, NoMemory, OpenFault, ReadFault, Refused, Usage, WriteFault}
-use Rattle.jmapd_run.specs.Runs.{IsUntouched, Runs}
+use Rattle.jmapd_run.specs.Runs.{LeavesAll, Runs}
 use Rattle.jmapd_run.specs.Shown.{SiteHow, StartHow}
 use Rattle.jmapd_run.specs.Starts.{IsSite, misconfigured, not_opened, usage}
 
 module _ (left held : Option (List ℕ)) (s k : ℕ) (moments : Option (ℕ → ℤ)) where
-  untouched : IsUntouched left left held held s s k k moments moments
+  untouched : LeavesAll left left held held s s k k moments moments
   untouched = (refl, refl, refl, refl, refl)
 
   pub not_started : (words : List (List ℕ)) (files : Option (List (List ℕ × List ℕ))) (o0 o1 : ℕ) (e : Status) → StartHow files o0 o1 words (Err e) → Runs left left held held s s k k moments moments words files o0 o1 e

@@ -26,7 +26,7 @@ pub record IsAnswer (site : Site) (user : ℕ) (moment : ℤ) (bytes : List ℕ)
 
 -- The input was read to its end, or to one byte past the most of a request; the clock was read once; and this is the text that answers
 -- these bytes at that moment.
-pub record Answers (site : Site) (user : ℕ) (left left' : Option (List ℕ)) (moments moments' : Option (ℕ → ℤ)) (is_refusal : Bool) (text : List ℕ) : Type 0 where
+pub record AnswersInput (site : Site) (user : ℕ) (left left' : Option (List ℕ)) (moments moments' : Option (ℕ → ℤ)) (is_refusal : Bool) (text : List ℕ) : Type 0 where
   pub bytes : List ℕ
   pub consumed : Consumes left left' bytes
   pub most : length bytes ≤ MAX_SIZE_REQUEST + 1

@@ -3,7 +3,7 @@ use Rattle.std.specs.Prelude.{◌≡◌, ◌⊎◌, ◌+◌, ℕ, ℤ, List, Boo
 use Rattle.model_core.specs.declared.limits.TheConstants.{MAX_SIZE_REQUEST}
 use Rattle.model_batch.specs.Chain.{Shown}
 use Rattle.account_desk.specs.FreshDesk.{IsSole, fresh_desk}
-use Rattle.jmapd_run.specs.Headline.{Answers}
+use Rattle.jmapd_run.specs.Headline.{AnswersInput}
 use Rattle.model_connection.specs.Serving.{Serves}
 use Rattle.io_edge.specs.Outside.{ConsumesAtMost, Grows, GrowsByPrefix, Rose}
 use Rattle.model_site.specs.Configuration.{Site}
@@ -28,16 +28,16 @@ status_of end.PassSpent = None
 
 -- what is left of the input, what the output holds, their counts of faults, and the clock's moments, before and after
 module _ (left left' held held' : Option (List ℕ)) (s0 s1 k0 k1 : ℕ) (moments moments' : Option (ℕ → ℤ)) where
-  abbrev pub IsUntouched : Type 0
-  IsUntouched = (left' ≡ left) × (held' ≡ held) × (s1 ≡ s0) × (k1 ≡ k0) × (moments' ≡ moments)
+  abbrev pub LeavesAll : Type 0
+  LeavesAll = (left' ≡ left) × (held' ≡ held) × (s1 ≡ s0) × (k1 ≡ k0) × (moments' ≡ moments)
 
   -- At `Done` and `Refused` the output grew by the whole text of the answer, at `WriteFault` by a front of it, and else by nothing.
   abbrev pub RunsBatch : Site → ℕ → Status → Type 0
-  RunsBatch site user Done = (text : List ℕ) × Answers site user left left' moments moments' false text × Grows held held' text
-  RunsBatch site user Refused = (text : List ℕ) × Answers site user left left' moments moments' true text × Grows held held' text
+  RunsBatch site user Done = (text : List ℕ) × AnswersInput site user left left' moments moments' false text × Grows held held' text
+  RunsBatch site user Refused = (text : List ℕ) × AnswersInput site user left left' moments moments' true text × Grows held held' text
   RunsBatch site user ReadFault = Rose s0 s1 × ConsumesAtMost left left' (MAX_SIZE_REQUEST + 1) × (held' ≡ held) × (moments' ≡ moments)
   RunsBatch site user WriteFault =
-      Rose k0 k1 × (is_refusal : Bool) × (text : List ℕ) × Answers site user left left' moments moments' is_refusal text × GrowsByPrefix held held' text
+      Rose k0 k1 × (is_refusal : Bool) × (text : List ℕ) × AnswersInput site user left left' moments moments' is_refusal text × GrowsByPrefix held held' text
   RunsBatch site user NoMemory = ConsumesAtMost left left' (MAX_SIZE_REQUEST + 1) × (held' ≡ held)
   RunsBatch site user _ = ⊥
 
@@ -53,13 +53,13 @@ module _ (left left' held held' : Option (List ℕ)) (s0 s1 k0 k1 : ℕ) (moment
 
   -- what comes of a start, and with which status
   abbrev pub RunsFrom : Start → Status → Type 0
-  RunsFrom usage Usage = IsUntouched
-  RunsFrom not_opened OpenFault = IsUntouched
-  RunsFrom (misconfigured field index) (Config f i) = (f ≡ field) × (i ≡ index) × IsUntouched
+  RunsFrom usage Usage = LeavesAll
+  RunsFrom not_opened OpenFault = LeavesAll
+  RunsFrom (misconfigured field index) (Config f i) = (f ≡ field) × (i ≡ index) × LeavesAll
   RunsFrom (batch_for site user) status = RunsBatch site user status
   RunsFrom (stdio_of site) status = RunsStdio site status
   RunsFrom _ _ = ⊥
 
   -- The words, the opener's files and its count of faults come to a start, and from there the run goes on; or memory was wanted before anything was touched.
   abbrev pub Runs : List (List ℕ) → Option (List (List ℕ × List ℕ)) → ℕ → ℕ → Status → Type 0
-  Runs words files o0 o1 status = ((start : Start) × IsStart files o0 o1 words start × RunsFrom start status) ⊎ ((status ≡ NoMemory) × IsUntouched)
+  Runs words files o0 o1 status = ((start : Start) × IsStart files o0 o1 words start × RunsFrom start status) ⊎ ((status ≡ NoMemory) × LeavesAll)

@@ -8,12 +8,12 @@ ghost use Rattle.jmapd_run.specs.Runs.{RunsBatch};
 use account_desk::sole_desk::SoleDesk;
 use model_batch::desk::DeskError;
 use crate::status::Status;
-use conn_serve::reply::{Reply, reply_to};
+use conn_serve::reply::{RequestOutcome, reply_to};
 use model_core::limits::MAX_SIZE_REQUEST;
 use model_time::moment::Moment;
 use io_edge::clock::Clock;
 use io_edge::sink::{Sink, put_all};
-use io_edge::source::{ReadError, Source, read_up_to};
+use io_edge::source::{InputError, Source, read_up_to};
 use json_edge::write::tree_text;
 use session_doc::Site;
 use std::alloc::{AllocError, Global};
@@ -42,8 +42,8 @@ pub(crate) fn run_batch<S: Source, K: Sink, C: Clock>(
 {
     let bytes = match read_up_to(alloc, input, MAX_SIZE_REQUEST) {
         Ok(bytes) => bytes,
-        Err(ReadError::Failed) => return Status::ReadFault,
-        Err(ReadError::NoMemory) => return Status::NoMemory,
+        Err(InputError::Failed) => return Status::ReadFault,
+        Err(InputError::NoMemory) => return Status::NoMemory,
     };
     let moment = Moment::clamped(clock.now());
     let Ok(answer) = answer_to(alloc, site, user, &bytes, moment) else {
@@ -97,7 +97,7 @@ fn answer_to(
 }
 
 // The text of a reply, with a line feed.
-fn answer_of(alloc: Global, reply: &Reply) -> Result<Answer, AllocError>
+fn answer_of(alloc: Global, reply: &RequestOutcome) -> Result<Answer, AllocError>
     ensures text { IfOk result (λ a. a.text.items ≡ text_of (data_of reply.now.tree) ++ 10 ∷ []) }
     ensures refusal { IfOk result (λ a. a.is_refusal ≡ reply.now.is_refusal) }
 {

@@ -1,7 +1,7 @@
 //! The command `stdio`: one connection.
 ghost use Rattle.std.specs.Prelude.{◌≡◌, ◌≢◌, ◌⊎◌, Some};
 ghost use Rattle.jmapd_run.specs.declared.status.Status.TheVariants.{NoMemory};
-ghost use Rattle.jmapd_run.specs.Runs.{IsUntouched, RunsStdio, status_of};
+ghost use Rattle.jmapd_run.specs.Runs.{LeavesAll, RunsStdio, status_of};
 
 use account_desk::sole_desk::SoleDesk;
 use model_connection::served::ConnEnd;

@@ -13,7 +13,7 @@ use messages::try_input;
 use responses::try_response;
 use row_table::line::tree_in;
 use row_table::row::{Row, read_rows};
-use row_table::tally::Tally;
+use row_table::tally::RowTally;
 use std::alloc::{AllocError, Global};
 use std::io;
 
@@ -46,7 +46,7 @@ fn not_read(alloc: Global, findings: &mut Findings) -> Result<(), AllocError> {
 // then, which is an error.
 fn main(rt: HostRuntime) -> io::Result<()> {
     let alloc = rt.alloc();
-    let mut tally = Tally::new();
+    let mut tally = RowTally::new();
     let mut wants = 0u64;
     for row in &read_rows(&rt)? {
         let mut findings = Findings::new();

@@ -33,8 +33,8 @@ abbrev pub made_in : List Step → List Made
 made_in steps = flat_map (λ s. some_of s.made) steps
 
 -- the created ids that the calls added
-abbrev pub created_in : List Step → List (List ℕ × List ℕ)
-created_in steps = flat_map (λ m. m.reply.created) (made_in steps)
+abbrev pub created_by : List Step → List (List ℕ × List ℕ)
+created_by steps = flat_map (λ m. m.reply.created) (made_in steps)
 
 abbrev pub responses_in : List Step → List MethodResponse
 responses_in steps = map (λ s. s.response) steps
@@ -77,7 +77,7 @@ given_ids request = map id_pair_of (unwrap_or request.created_ids [])
 
 -- the created ids of a request after some steps: those that it gives, and those that the calls added
 abbrev pub created_after : Request → List Step → List (List ℕ × List ℕ)
-created_after request steps = given_ids request ++ created_in steps
+created_after request steps = given_ids request ++ created_by steps
 
 module _ (user : User) (request : Request) (moment : ℤ) where
   abbrev pub meaning_after : List Step → Invocation → Meaning
@@ -102,18 +102,18 @@ response_data r = list (items_of (text r.name ∷ data_of r.arguments ∷ text r
 abbrev pub created_object : List Pair → List (List ℕ × List ℕ) → List Pair
 created_object given added = put_all (put_all (map id_member added) []) given
 
-abbrev pub created_member : Option (List Pair) → List (List ℕ × List ℕ) → List Pair
-created_member None added = []
-created_member (Some given) added = (codes "createdIds", object (members_of (created_object given added))) ∷ []
+abbrev pub created_ids_member : Option (List Pair) → List (List ℕ × List ℕ) → List Pair
+created_ids_member None added = []
+created_ids_member (Some given) added = (codes "createdIds", object (members_of (created_object given added))) ∷ []
 
 -- the response to a request that gives these created ids, where calls added those (RFC 8620 section 3.4)
 abbrev pub response_with_ids : Option (List Pair) → List (List ℕ × List ℕ) → List MethodResponse → Data
 response_with_ids given added responses = object (members_of (
-    created_member given added
+    created_ids_member given added
     ++ (codes "methodResponses", list (items_of (map response_data responses))) ∷ (codes "sessionState", text (codes "1")) ∷ []))
 
 abbrev pub response_object : Request → List Step → Data
-response_object r steps = response_with_ids r.created_ids (created_in steps) (responses_in steps)
+response_object r steps = response_with_ids r.created_ids (created_by steps) (responses_in steps)
 
 -- d is a request whose first invocations were answered, and these are left
 pub record IsBegun (user : User) (moment : ℤ) (d : Data) (fronts fronts' : List Front) (s t : Shown) (steps : List Step) (rest : List Invocation) : Type 0 where

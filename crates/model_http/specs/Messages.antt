@@ -42,7 +42,7 @@ pub record HasHead (bytes : List ℕ) (size : ℕ) (head : RequestHead) (content
   pub asks : framing head.method (fields_of head) ≡ body content
 
 -- behind the head stand the body and the rest
-pub record IsWhole (bytes : List ℕ) (message : Message) (rest : List ℕ) : Type 0 where
+pub record HasMessage (bytes : List ℕ) (message : Message) (rest : List ℕ) : Type 0 where
   pub size : ℕ
   pub head : RequestHead
   pub has_head : HasHead bytes size head (length message.body)
@@ -58,7 +58,7 @@ pub record IsShort (bytes : List ℕ) : Type 0 where
   pub short : length (drop size bytes) < content
 
 abbrev pub BeginsWith : List ℕ → Beginning → Type 0
-BeginsWith bytes (whole message rest) = IsWhole bytes message rest
+BeginsWith bytes (whole message rest) = HasMessage bytes message rest
 BeginsWith bytes (refused status) = ((status ≡ 431) × (head_end bytes ≡ too_long)) ⊎ ((size : ℕ) × (head_end bytes ≡ ended size) × RefusesHead (take size bytes) status)
 BeginsWith bytes partial = (0 < length bytes) × ((head_end bytes ≡ unended) ⊎ IsShort bytes)
 BeginsWith bytes nothing = bytes ≡ []

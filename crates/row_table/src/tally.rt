@@ -5,18 +5,18 @@ use std::fmt;
 
 /// How many rows were tried, and how many of them had another answer than the table's.
 #[derive(Drop)]
-pub struct Tally {
+pub struct RowTally {
     rows: u64,
     others: u64,
 }
 
-impl Tally {
+impl RowTally {
     /// No row was tried yet.
-    pub fn new() -> Tally
+    pub fn new() -> RowTally
         ensures rows { result.rows ≡ 0 }
         ensures others { result.others ≡ 0 }
     {
-        Tally { rows: 0, others: 0 }
+        RowTally { rows: 0, others: 0 }
     }
 
     /// Counts a row, whose answer was the table's or another. The counts stand at the last value of a `u64`.
@@ -39,13 +39,13 @@ impl Tally {
     }
 }
 
-impl fmt::Display for Tally {
+impl fmt::Display for RowTally {
     ghost use Rattle.std.specs.Prelude.{◌++◌, Some, codes, decimal};
 
     ghost output = { λ tally. Some (decimal tally.rows ++ (codes " rows, " ++ (decimal tally.others ++ codes " of them with another answer than the table's"))) };
 
     fn fmt<W: fmt::Write>(&self, f: &mut fmt::Formatter<W>) -> fmt::Result {
-        let Tally { rows, others } = self;
+        let RowTally { rows, others } = self;
         write!(
             f,
             "{rows} rows, {others} of them with another answer than the table's"

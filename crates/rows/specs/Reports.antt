@@ -22,10 +22,10 @@ abbrev pub answer_of : List Entry → Question → Stamp → Answer
 answer_of h (Add n) s = Sum (sum_of_ids (h ++ amount_added h n s))
 answer_of h Tell s = Told (report_of h s)
 
-abbrev pub added_by : List Entry → Question → Stamp → List Entry
-added_by h (Add n) s = amount_added h n s
-added_by h Tell s = []
+abbrev pub reported_by : List Entry → Question → Stamp → List Entry
+reported_by h (Add n) s = amount_added h n s
+reported_by h Tell s = []
 
-pub added_signed : (h : List Entry) (q : Question) (s : Stamp) → AreSigned s.author s.turn (added_by h q s)
+pub added_signed : (h : List Entry) (q : Question) (s : Stamp) → AreSigned s.author s.turn (reported_by h q s)
 added_signed h (Add n) s = amount_added_signed h n s
 added_signed h Tell s = tt

@@ -7,7 +7,7 @@ use io_edge::memory_sink::{MemSink, SureSink};
 use io_edge::memory_source::{MemSource, SureSource};
 use io_edge::opener::{LoadError, Opener};
 use io_edge::sink::put_all;
-use io_edge::source::{ReadError, Source, read_up_to};
+use io_edge::source::{InputError, Source, read_up_to};
 use io_edge::streams::{ReaderSource, WriterSink};
 use io_edge::system_clock::SystemClock;
 use std::alloc::{AllocError, Global};
@@ -102,7 +102,7 @@ fn a_failing_read_is_told(rt: HostRuntime) -> Result<(), Fail> {
     let mut source = MemSource::new(b"abcdef".to_vec(alloc)?, 2, failing);
     assert_eq!(rt;
         read_up_to(alloc, &mut source, 100).err(),
-        Some(ReadError::Failed)
+        Some(InputError::Failed)
     );
     assert_eq!(rt;
         read_up_to(alloc, &mut source, 100)?.as_slice(),
@@ -111,7 +111,7 @@ fn a_failing_read_is_told(rt: HostRuntime) -> Result<(), Fail> {
     let mut reader = ReaderSource::new(Broken);
     assert_eq!(rt;
         read_up_to(alloc, &mut reader, 100).err(),
-        Some(ReadError::Failed)
+        Some(InputError::Failed)
     );
     Ok(())
 }

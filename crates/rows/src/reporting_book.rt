@@ -72,7 +72,7 @@ impl ReportingBook {
 
 impl Book for ReportingBook {
     ghost use Rattle.account_lock.specs.Counter.{no_base};
-    ghost use Rattle.rows.specs.Reports.{answer_of, added_by, added_signed};
+    ghost use Rattle.rows.specs.Reports.{answer_of, reported_by, added_signed};
 
     type Call = Question;
 
@@ -84,7 +84,7 @@ impl Book for ReportingBook {
 
     ghost answer = { λ z h question stamp. answer_of h question stamp };
 
-    ghost added = { λ z h question stamp. added_by h question stamp };
+    ghost added = { λ z h question stamp. reported_by h question stamp };
 
     fn act(
         &mut self,

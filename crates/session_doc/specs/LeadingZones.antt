@@ -4,11 +4,11 @@ use Rattle.model_json.specs.Data.{Data}
 use Rattle.model_site.specs.Configuration.{zone_text}
 use Rattle.model_site.specs.TimeZones.{ZoneText}
 
-abbrev pub before : Option ZoneText → List ZoneText → List ZoneText
-before None zones = []
-before (Some zone) zones = zone ∷ zones
+abbrev pub with_zone : Option ZoneText → List ZoneText → List ZoneText
+with_zone None zones = []
+with_zone (Some zone) zones = zone ∷ zones
 
 -- the names and rules of the items up to the first that isn't of that form
 abbrev pub leading_zones : List Data → List ZoneText
 leading_zones [] = []
-leading_zones (d ∷ ds) = before (zone_text d) (leading_zones ds)
+leading_zones (d ∷ ds) = with_zone (zone_text d) (leading_zones ds)

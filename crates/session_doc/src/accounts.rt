@@ -7,7 +7,6 @@ ghost use Rattle.session_doc.specs.Reports.{ReportsField};
 
 use crate::account::Account;
 use crate::configuration_error::{ConfigurationError, bad};
-use crate::parts::{list_at, text_at};
 use model_site::field::Field;
 use model_json::text::Text;
 use model_json::tree::Tree;
@@ -22,7 +21,7 @@ pub(crate) fn read_accounts(alloc: Global, tree: &Tree) -> Result<Vec<Account>, 
     ensures ok { IfOk result (λ accounts. accounts_in (data_of tree.now) ≡ Ok accounts.items) }
     ensures err { IfErr result (λ error. ReportsField Accounts error (accounts_in (data_of tree.now))) }
 {
-    let Some(items) = list_at(tree, "accounts") else {
+    let Some(items) = tree.list_at("accounts") else {
         return Err(bad(Field::Accounts, 0));
     };
     if items.is_empty() || items.len() > MOST_ACCOUNTS {
@@ -50,7 +49,7 @@ fn read_each(alloc: Global, items: &[Tree]) -> Result<Vec<Account>, Configuratio
 fn read_account(earlier: &[Account], item: &Tree) -> Result<Option<Account>, AllocError>
     ensures { IfOk result (λ account. account ≡ account_in earlier.now (data_of item.now)) }
 {
-    let (Some(id), Some(name)) = (text_at(item, "id"), text_at(item, "name")) else {
+    let (Some(id), Some(name)) = (item.text_at("id"), item.text_at("name")) else {
         return Ok(None);
     };
     if !read_id(id.as_str().as_bytes()) || has_account(earlier, id) {

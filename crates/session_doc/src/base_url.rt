@@ -6,7 +6,6 @@ ghost use Rattle.model_site.specs.declared.field.Field.TheVariants.{BaseUrl};
 ghost use Rattle.session_doc.specs.Reports.{ReportsField};
 
 use crate::configuration_error::{ConfigurationError, bad};
-use crate::parts::text_at;
 use model_site::field::Field;
 use model_json::text::Text;
 use model_json::tree::Tree;
@@ -19,7 +18,7 @@ pub(crate) fn read_base_url(tree: &Tree) -> Result<Text, ConfigurationError>
     ensures ok { IfOk result (λ text. base_url_in (data_of tree.now) ≡ Ok text) }
     ensures err { IfErr result (λ error. ReportsField BaseUrl error (base_url_in (data_of tree.now))) }
 {
-    let Some(text) = text_at(tree, "baseUrl") else {
+    let Some(text) = tree.text_at("baseUrl") else {
         return Err(bad(Field::BaseUrl, 0));
     };
     if !is_base_url(text) {

@@ -7,7 +7,7 @@ ghost use Rattle.model_site.specs.Configuration.{grant_in, grant_to, grants_in, 
 ghost use Rattle.model_json.specs.TreeData.{data_of};
 
 use crate::account::Account;
-use crate::parts::{list_at, optional_list_at};
+use crate::optional_list::optional_list_at;
 use model_json::text::Text;
 use model_json::tree::Tree;
 use model_core::user::{Grant, Grants};
@@ -27,7 +27,7 @@ pub(crate) fn read_grants(
     let Some(read_only) = optional_list_at(item, "readOnly") else {
         return Ok(None);
     };
-    let Some(ids) = list_at(item, "accounts") else {
+    let Some(ids) = item.list_at("accounts") else {
         return Ok(None);
     };
     let Some(grants) = read_each(alloc, accounts, ids)? else {

@@ -9,7 +9,7 @@ mod capabilities;
 mod configuration;
 mod configuration_error;
 mod grants;
-mod parts;
+mod optional_list;
 mod session;
 mod session_accounts;
 mod site;

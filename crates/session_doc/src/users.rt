@@ -14,7 +14,6 @@ ghost use Rattle.session_doc.specs.Reports.{ReportsField};
 use crate::account::Account;
 use crate::configuration_error::{ConfigurationError, bad};
 use crate::grants::read_grants;
-use crate::parts::{list_at, text_at};
 use crate::site_user::SiteUser;
 use model_site::field::Field;
 use model_json::text::Text;
@@ -39,7 +38,7 @@ pub(crate) fn read_users(
     ensures ok { IfOk result (λ users. users_in accounts.now (data_of tree.now) ≡ Ok users.items) }
     ensures err { IfErr result (λ error. ReportsField Users error (users_in accounts.now (data_of tree.now))) }
 {
-    let Some(items) = list_at(tree, "users") else {
+    let Some(items) = tree.list_at("users") else {
         return Err(bad(Field::Users, 0));
     };
     if items.is_empty() || items.len() > MOST_USERS {
@@ -98,7 +97,7 @@ fn read_user(
 fn good_name<'a>(earlier: &[SiteUser], item: &'a Tree) -> Option<&'a Text>
     ensures { option_map (λ name. name.now) result ≡ passing (is_good_user_name earlier.now) (text_at (codes "name") (data_of item.now)) }
 {
-    let Some(name) = text_at(item, "name") else {
+    let Some(name) = item.text_at("name") else {
         return None;
     };
     if is_name(name) && !has_name(earlier, name) {
@@ -126,7 +125,7 @@ fn has_name(users: &[SiteUser], name: &Text) -> bool
 fn good_token<'a>(earlier: &[SiteUser], item: &'a Tree) -> Option<&'a Text>
     ensures { option_map (λ token. token.now) result ≡ passing (is_good_token earlier.now) (text_at (codes "token") (data_of item.now)) }
 {
-    let Some(token) = text_at(item, "token") else {
+    let Some(token) = item.text_at("token") else {
         return None;
     };
     if is_token(token.as_str().as_bytes()) && !has_token(earlier, token) {

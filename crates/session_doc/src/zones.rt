@@ -6,7 +6,7 @@ ghost use Rattle.session_doc.specs.LeadingZones.{leading_zones};
 ghost use Rattle.session_doc.specs.Reports.{ReportsField};
 
 use crate::configuration_error::{ConfigurationError, bad};
-use crate::parts::{optional_list_at, text_at};
+use crate::optional_list::optional_list_at;
 use model_site::field::Field;
 use model_json::text::Text;
 use model_json::tree::Tree;
@@ -66,7 +66,7 @@ fn leading_zones(alloc: Global, items: &[Tree]) -> Result<Vec<(Text, Text)>, All
 fn zone_text(item: &Tree) -> Result<Option<(Text, Text)>, AllocError>
     ensures { IfOk result (λ zone. zone ≡ zone_text (data_of item.now)) }
 {
-    let (Some(name), Some(rule)) = (text_at(item, "name"), text_at(item, "rule")) else {
+    let (Some(name), Some(rule)) = (item.text_at("name"), item.text_at("rule")) else {
         return Ok(None);
     };
     Ok(Some((name.copy()?, rule.copy()?)))

@@ -8,7 +8,7 @@ mod time_zones;
 use configurations::{built_in, configured};
 use row_table::line::{tree_in, unrolled};
 use row_table::row::{Row, read_rows};
-use row_table::tally::Tally;
+use row_table::tally::RowTally;
 use std::alloc::{AllocError, Global};
 use std::io;
 use time_zones::other_than_zones;
@@ -49,7 +49,7 @@ fn other_than_listed(
 }
 
 fn main(rt: HostRuntime) -> io::Result<()> {
-    let mut tally = Tally::new();
+    let mut tally = RowTally::new();
     for row in &read_rows(&rt)? {
         let other = other_than(rt.alloc(), row)?;
         if let Some(other) = &other {

@@ -2,7 +2,7 @@ use Rattle.std.proofs.Common.{◌∙◌, ap, rules, subst, sym}
 use Rattle.model_batch.specs.Asked.{Asked}
 use Rattle.model_batch.specs.Reply.{asked_by_reading}
 use Rattle.conn_serve.proofs.Replying.{as_read, over_limit, refused_reply}
-use Rattle.conn_serve.specs.Answering.{IsReply}
+use Rattle.conn_serve.specs.Answering.{IsOutcome}
 use Rattle.conn_serve.proofs.reply.reply_to.Goals as goal
 
 pub returns-then-bytes-gt-MAX_SIZE_REQUEST : goal.returns-then-bytes-gt-MAX_SIZE_REQUEST
@@ -11,7 +11,7 @@ returns-then-bytes-gt-MAX_SIZE_REQUEST g c = refused_reply c.refusal.result (ove
 pub returns-in-Ok : goal.returns-in-Ok
 returns-in-Ok g c =
     let is = as_read c.args.bytes.now (search rules) ∙ ap asked_by_reading c.in-Ok.ensures.ok in
-    subst (λ (what : Asked). IsReply c.args.user.now c.args.moment what c.args.fronts.now.items c.reply_to_tree.new.fronts.items
+    subst (λ (what : Asked). IsOutcome c.args.user.now c.args.moment what c.args.fronts.now.items c.reply_to_tree.new.fronts.items
     (g.D.Desk.shown c.args.desk.now) (g.D.Desk.shown c.reply_to_tree.new.desk) c.reply_to_tree.result) (sym is) c.reply_to_tree.ensures
 
 pub returns-in-Err-NotJson : goal.returns-in-Err-NotJson
