@@ -36,8 +36,8 @@ pub fn serve_connection<S: Source, K: Sink, D: Desk, C: Clock>(
     clock: &mut C,
 ) -> Served
     requires { (D.shown desk.old).accounts ≡ length site.now.accounts }
-    ensures { Serves site.now 10000 (S.left source.old) (S.left source.new) (K.holds sink.old) (K.holds sink.new)
-        (S.faults source.old) (S.faults source.new) (K.faults sink.old) (K.faults sink.new)
+    ensures { Serves site.now 10000 (S.shown source.old).left (S.shown source.new).left (K.shown sink.old).holds (K.shown sink.new).holds
+        (S.shown source.old).faults (S.shown source.new).faults (K.shown sink.old).faults (K.shown sink.new).faults
         (C.moments clock.old) (C.moments clock.new) (D.shown desk.old) (D.shown desk.new)
         result.fronts.items result.requests result.end }
 {
@@ -54,8 +54,8 @@ fn serve_at_most<S: Source, K: Sink, D: Desk, C: Clock>(
     clock: &mut C,
 ) -> Served
     requires { (D.shown desk.old).accounts ≡ length site.now.accounts }
-    ensures { Serves site.now most (S.left source.old) (S.left source.new) (K.holds sink.old) (K.holds sink.new)
-        (S.faults source.old) (S.faults source.new) (K.faults sink.old) (K.faults sink.new)
+    ensures { Serves site.now most (S.shown source.old).left (S.shown source.new).left (K.shown sink.old).holds (K.shown sink.new).holds
+        (S.shown source.old).faults (S.shown source.new).faults (K.shown sink.old).faults (K.shown sink.new).faults
         (C.moments clock.old) (C.moments clock.new) (D.shown desk.old) (D.shown desk.new)
         result.fronts.items result.requests result.end }
 {
@@ -122,7 +122,7 @@ fn end_for(error: DeskError) -> ConnEnd
 // Gives the response to a head that is refused.
 fn refuse<K: Sink>(alloc: Global, sink: &mut K, status: u16) -> ConnEnd
     requires { IsStatus status }
-    ensures { IsRefusalEnd (K.holds sink.old) (K.holds sink.new) (K.faults sink.old) (K.faults sink.new) status result }
+    ensures { IsRefusalEnd (K.shown sink.old).holds (K.shown sink.new).holds (K.shown sink.old).faults (K.shown sink.new).faults status result }
 {
     let Ok(bytes) = refusal_bytes(alloc, status) else {
         return ConnEnd::NoMemory;

@@ -70,9 +70,9 @@ impl Kept {
         piece: &mut [u8],
     ) -> Result<(), Stop>
         requires { 0 < length piece.old }
-        ensures took { Took (S.left source.old) (S.left source.new) (S.faults source.old) (S.faults source.new) self.old self.new }
+        ensures took { Took (S.shown source.old).left (S.shown source.new).left (S.shown source.old).faults (S.shown source.new).faults self.old self.new }
         ensures more { OnOk result (length self.old < length self.new) }
-        ensures stop { IfErr result (λ stop. (self.new ≡ self.old) × StopCause (S.left source.new) (S.faults source.old) (S.faults source.new) stop) }
+        ensures stop { IfErr result (λ stop. (self.new ≡ self.old) × StopCause (S.shown source.new).left (S.shown source.old).faults (S.shown source.new).faults stop) }
     {
         self.close_up();
         match self.bytes.reserve(piece.len()) {

@@ -37,7 +37,7 @@ pub enum Next {
 /// `kept` has the bytes behind the message then, or all of them where there is none. Takes memory for the message and for the bytes
 /// that were taken and not used; nothing that was taken is lost for want of it.
 pub fn next_message<S: Source>(alloc: Global, source: &mut S, kept: &mut Kept) -> Next
-    ensures { GivesNext (S.left source.old) (S.left source.new) (S.faults source.old) (S.faults source.new) kept.old kept.new result }
+    ensures { GivesNext (S.shown source.old).left (S.shown source.new).left (S.shown source.old).faults (S.shown source.new).faults kept.old kept.new result }
 {
     let mut piece = [0; PIECE];
     let size = match find_head(source, kept, &mut piece) {
@@ -77,9 +77,9 @@ enum HeadEnd {
 #[tactic(auto, using(crate::proofs::Taking::took_none, crate::proofs::Taking::took_more, crate::proofs::Taking::stop_earlier))]
 fn find_head<S: Source>(source: &mut S, kept: &mut Kept, piece: &mut [u8]) -> Result<HeadEnd, Stop>
     requires { 0 < length piece.old }
-    ensures took { Took (S.left source.old) (S.left source.new) (S.faults source.old) (S.faults source.new) kept.old kept.new }
+    ensures took { Took (S.shown source.old).left (S.shown source.new).left (S.shown source.old).faults (S.shown source.new).faults kept.old kept.new }
     ensures end { IfOk result (λ end. head_end kept.new ≡ end_shown end) }
-    ensures stop { IfErr result (λ stop. (head_end kept.new ≡ unended) × StopCause (S.left source.new) (S.faults source.old) (S.faults source.new) stop) }
+    ensures stop { IfErr result (λ stop. (head_end kept.new ≡ unended) × StopCause (S.shown source.new).left (S.shown source.old).faults (S.shown source.new).faults stop) }
 {
     let mut searched = 0;
     let mut state = State::Within;
@@ -106,9 +106,9 @@ fn take_until<S: Source>(
     wanted: usize,
 ) -> Result<(), Stop>
     requires { 0 < length piece.old }
-    ensures took { Took (S.left source.old) (S.left source.new) (S.faults source.old) (S.faults source.new) kept.old kept.new }
+    ensures took { Took (S.shown source.old).left (S.shown source.new).left (S.shown source.old).faults (S.shown source.new).faults kept.old kept.new }
     ensures there { OnOk result (wanted ≤ length kept.new) }
-    ensures stop { IfErr result (λ stop. (length kept.new < wanted) × StopCause (S.left source.new) (S.faults source.old) (S.faults source.new) stop) }
+    ensures stop { IfErr result (λ stop. (length kept.new < wanted) × StopCause (S.shown source.new).left (S.shown source.old).faults (S.shown source.new).faults stop) }
 {
     while kept.as_slice().len() < wanted {
         kept.take_more(source, piece)?;

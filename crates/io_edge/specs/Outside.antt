@@ -3,6 +3,23 @@ use Rattle.std.specs.Prelude.{◌≡◌, ◌≢◌, ℕ, ◌+◌, ◌-◌, ◌^�
 use Rattle.std.specs.Str.{bytes_eq}
 use Rattle.std.specs.Io.KnownBytes.{Consumes}
 
+-- What contracts see of a source: the bytes that are left, where it tells them, and how often a call has failed. The count stands at the last value of a u64.
+pub record SourceShown : Type 0 where
+  pub left : Option (List ℕ)
+  pub faults : ℕ
+
+-- of a sink: the bytes that it holds, where it tells them, and its count of faults
+pub record SinkShown : Type 0 where
+  pub holds : Option (List ℕ)
+  pub faults : ℕ
+
+-- of an opener: its files by name, where it tells them, and its count of faults
+pub record OpenerShown : Type 0 where
+  pub files : Option (List (List ℕ × List ℕ))
+  pub faults : ℕ
+
+-- Of a clock: the moments still to come, by the number of the call from 0, where it tells them.
+
 -- a count of faults rose, or stands at its last value
 abbrev pub Rose : ℕ → ℕ → Type 0
 Rose before now = min (before + 1) (2 ^ 64 - 1) ≤ now

@@ -17,16 +17,14 @@ pub struct SureOpener {
 impl SureOpener {
     /// Makes an opener of these files. Takes no memory.
     pub fn new(alloc: Global, files: Vec<(String, Vec<u8>)>) -> SureOpener
-        ensures { ⟦<SureOpener as Opener>⟧.files result ≡ Some (map (λ file. (string_bytes file.0, file.1.items)) files.items) }
+        ensures { (⟦<SureOpener as Opener>⟧.shown result).files ≡ Some (map (λ file. (string_bytes file.0, file.1.items)) files.items) }
     {
         SureOpener { alloc, files }
     }
 }
 
 impl Opener for SureOpener {
-    ghost files = { λ opener. Some (map (λ file. (string_bytes file.0, file.1.items)) opener.files.items) };
-
-    ghost faults = { λ _. 0 };
+    ghost shown = { λ opener. record { files = Some (map (λ file. (string_bytes file.0, file.1.items)) opener.files.items); faults = 0 } };
 
     fn load(&mut self, name: &str, most: u64) -> Result<Vec<u8>, LoadError> {
         for file in &self.files {
@@ -53,8 +51,8 @@ impl MemOpener {
     ///
     /// The calls of `load` whose numbers, from 0, stand in `failing` fail. Takes no memory.
     pub fn new(alloc: Global, files: Vec<(String, Vec<u8>)>, failing: Vec<u64>) -> MemOpener
-        ensures files { ⟦<MemOpener as Opener>⟧.files result ≡ Some (map (λ file. (string_bytes file.0, file.1.items)) files.items) }
-        ensures faults { ⟦<MemOpener as Opener>⟧.faults result ≡ 0 }
+        ensures files { (⟦<MemOpener as Opener>⟧.shown result).files ≡ Some (map (λ file. (string_bytes file.0, file.1.items)) files.items) }
+        ensures faults { (⟦<MemOpener as Opener>⟧.shown result).faults ≡ 0 }
         ensures failing { failing_loads result ≡ failing.items }
     {
         MemOpener {
@@ -65,9 +63,7 @@ impl MemOpener {
 }
 
 impl Opener for MemOpener {
-    ghost files = { λ opener. Some (map (λ file. (string_bytes file.0, file.1.items)) opener.inner.files.items) };
-
-    ghost faults = { λ opener. faults_of opener.failing };
+    ghost shown = { λ opener. record { files = Some (map (λ file. (string_bytes file.0, file.1.items)) opener.inner.files.items); faults = faults_of opener.failing } };
 
     fn load(&mut self, name: &str, most: u64) -> Result<Vec<u8>, LoadError> {
         if self.failing.next_fails() {

@@ -20,7 +20,7 @@ pub struct SureSink {
 impl SureSink {
     /// Makes a sink that holds nothing. Takes no memory.
     pub fn new(alloc: Global) -> SureSink
-        ensures { ⟦<SureSink as Sink>⟧.holds result ≡ Some [] }
+        ensures { (⟦<SureSink as Sink>⟧.shown result).holds ≡ Some [] }
     {
         SureSink {
             bytes: Vec::new(alloc),
@@ -30,7 +30,7 @@ impl SureSink {
 
     /// What the sink holds, where it tells it.
     pub fn bytes(&self) -> Option<&[u8]>
-        ensures { option_map (λ bytes. bytes.now) result ≡ ⟦<SureSink as Sink>⟧.holds self.now }
+        ensures { option_map (λ bytes. bytes.now) result ≡ (⟦<SureSink as Sink>⟧.shown self.now).holds }
     {
         if self.tells { Some(&self.bytes) } else { None }
     }
@@ -39,9 +39,7 @@ impl SureSink {
 impl Sink for SureSink {
     ghost use Rattle.io_edge.specs.MemoryForms.{held_by};
 
-    ghost holds = { held_by };
-
-    ghost faults = { λ _. 0 };
+    ghost shown = { λ sink. record { holds = held_by sink; faults = 0 } };
 
     fn give(&mut self, bytes: &[u8]) -> Result<usize, Failed> {
         if self.bytes.extend_from_slice(bytes).is_err() {
@@ -67,8 +65,8 @@ impl MemSink {
     ///
     /// The calls of `give` whose numbers, from 0, stand in `failing` fail. Takes no memory.
     pub fn new(alloc: Global, failing: Vec<u64>) -> MemSink
-        ensures holds { ⟦<MemSink as Sink>⟧.holds result ≡ Some [] }
-        ensures faults { ⟦<MemSink as Sink>⟧.faults result ≡ 0 }
+        ensures holds { (⟦<MemSink as Sink>⟧.shown result).holds ≡ Some [] }
+        ensures faults { (⟦<MemSink as Sink>⟧.shown result).faults ≡ 0 }
         ensures failing { failing_gives result ≡ failing.items }
     {
         MemSink {
@@ -79,7 +77,7 @@ impl MemSink {
 
     /// What the sink holds, where it tells it.
     pub fn bytes(&self) -> Option<&[u8]>
-        ensures { option_map (λ bytes. bytes.now) result ≡ ⟦<MemSink as Sink>⟧.holds self.now }
+        ensures { option_map (λ bytes. bytes.now) result ≡ (⟦<MemSink as Sink>⟧.shown self.now).holds }
     {
         self.inner.bytes()
     }
@@ -88,9 +86,7 @@ impl MemSink {
 impl Sink for MemSink {
     ghost use Rattle.io_edge.specs.MemoryForms.{held_by};
 
-    ghost holds = { λ sink. held_by sink.inner };
-
-    ghost faults = { λ sink. faults_of sink.failing };
+    ghost shown = { λ sink. record { holds = held_by sink.inner; faults = faults_of sink.failing } };
 
     fn give(&mut self, bytes: &[u8]) -> Result<usize, Failed> {
         if self.failing.next_fails() {

@@ -18,7 +18,7 @@ pub struct SureSource {
 impl SureSource {
     /// Makes a source of these bytes. Takes no memory.
     pub fn new(bytes: Vec<u8>) -> SureSource
-        ensures { ⟦<SureSource as Source>⟧.left result ≡ Some bytes.items }
+        ensures { (⟦<SureSource as Source>⟧.shown result).left ≡ Some bytes.items }
     {
         SureSource { bytes, at: 0 }
     }
@@ -38,9 +38,7 @@ impl SureSource {
 }
 
 impl Source for SureSource {
-    ghost left = { λ source. Some (drop source.at source.bytes.items) };
-
-    ghost faults = { λ _. 0 };
+    ghost shown = { λ source. record { left = Some (drop source.at source.bytes.items); faults = 0 } };
 
     fn take(&mut self, buf: &mut [u8]) -> Result<usize, Failed> {
         Ok(self.take_up_to(buf, usize::MAX))
@@ -64,8 +62,8 @@ impl MemSource {
     /// The calls of `take` whose numbers, from 0, stand in `failing` fail. Takes no memory.
     pub fn new(bytes: Vec<u8>, most: usize, failing: Vec<u64>) -> MemSource
         requires { 0 < most }
-        ensures left { ⟦<MemSource as Source>⟧.left result ≡ Some bytes.items }
-        ensures faults { ⟦<MemSource as Source>⟧.faults result ≡ 0 }
+        ensures left { (⟦<MemSource as Source>⟧.shown result).left ≡ Some bytes.items }
+        ensures faults { (⟦<MemSource as Source>⟧.shown result).faults ≡ 0 }
         ensures failing { failing_takes result ≡ failing.items }
     {
         MemSource {
@@ -77,9 +75,7 @@ impl MemSource {
 }
 
 impl Source for MemSource {
-    ghost left = { λ source. Some (drop source.inner.at source.inner.bytes.items) };
-
-    ghost faults = { λ source. faults_of source.failing };
+    ghost shown = { λ source. record { left = Some (drop source.inner.at source.inner.bytes.items); faults = faults_of source.failing } };
 
     fn take(&mut self, buf: &mut [u8]) -> Result<usize, Failed> {
         if self.failing.next_fails() {

@@ -3,26 +3,23 @@
 ghost use Rattle.std.specs.Prelude.{◌≡◌, ℕ, ◌+◌, ◌≤◌, List, length, Option, IfOk, OnErr};
 ghost use Rattle.std.specs.Io.{ReadsAtMost};
 ghost use Rattle.std.specs.Io.KnownBytes.{Consumes, IsAtEnd, ReadConsumes};
-ghost use Rattle.io_edge.specs.Outside.{ConsumesAtMost, HasCause, Rose};
+ghost use Rattle.io_edge.specs.Outside.{ConsumesAtMost, HasCause, Rose, SourceShown};
 
 use crate::fault::Failed;
 use std::alloc::{AllocError, Global};
 
 /// Where bytes come from.
 pub trait Source {
-    /// What is left, where the source tells it.
-    ghost left: { Self → Option (List ℕ) };
-
-    /// How often a call has failed. The count stands at the last value of a `u64`.
-    ghost faults: { Self → ℕ };
+    /// What contracts see of the source.
+    ghost shown: { Self → SourceShown };
 
     /// Puts some of the bytes that are left at the front of `buf`, and says how many.
     ///
     /// An answer 0 for a `buf` that isn't empty is the end of input. Takes no memory.
     fn take(&mut self, buf: &mut [u8]) -> Result<usize, Failed>
         ensures bound { ReadsAtMost result buf.new }
-        ensures bytes { ReadConsumes (left self.old) (left self.new) result buf.new }
-        ensures cause { HasCause (faults self.old) (faults self.new) result };
+        ensures bytes { ReadConsumes (shown self.old).left (shown self.new).left result buf.new }
+        ensures cause { HasCause (shown self.old).faults (shown self.new).faults result };
 }
 
 /// Why bytes weren't read to their end.
@@ -66,13 +63,13 @@ pub fn read_up_to<S: Source>(
     source: &mut S,
     most: usize,
 ) -> Result<Vec<u8>, InputError>
-    ensures ok { IfOk result (λ bytes. Consumes (S.left source.old) (S.left source.new) bytes.items) }
+    ensures ok { IfOk result (λ bytes. Consumes (S.shown source.old).left (S.shown source.new).left bytes.items) }
     ensures bound { IfOk result (λ bytes. length bytes.items ≤ most + 1) }
-    ensures whole { IfOk result (λ bytes. length bytes.items ≤ most → IsAtEnd (S.left source.new)) }
+    ensures whole { IfOk result (λ bytes. length bytes.items ≤ most → IsAtEnd (S.shown source.new).left) }
 
-    ensures err { OnErr result (ConsumesAtMost (S.left source.old) (S.left source.new) (most + 1)) }
-    ensures later { S.faults source.old ≤ S.faults source.new }
-    ensures failed { result ≡ Err InputError.Failed → Rose (S.faults source.old) (S.faults source.new) }
+    ensures err { OnErr result (ConsumesAtMost (S.shown source.old).left (S.shown source.new).left (most + 1)) }
+    ensures later { (S.shown source.old).faults ≤ (S.shown source.new).faults }
+    ensures failed { result ≡ Err InputError.Failed → Rose (S.shown source.old).faults (S.shown source.new).faults }
 {
     let mut bytes = Vec::new(alloc);
     let mut piece = [0; PIECE];

@@ -17,17 +17,15 @@ pub struct ReaderSource<R: Drop> {
 impl<R: Read + Drop> ReaderSource<R> {
     /// Makes a source over a reader. Takes no memory.
     pub fn new(reader: R) -> ReaderSource<R>
-        ensures left { ⟦<ReaderSource<R> as Source>⟧.left result ≡ R.remaining reader }
-        ensures faults { ⟦<ReaderSource<R> as Source>⟧.faults result ≡ 0 }
+        ensures left { (⟦<ReaderSource<R> as Source>⟧.shown result).left ≡ R.remaining reader }
+        ensures faults { (⟦<ReaderSource<R> as Source>⟧.shown result).faults ≡ 0 }
     {
         ReaderSource { reader, faults: 0 }
     }
 }
 
 impl<R: Read + Drop> Source for ReaderSource<R> {
-    ghost left = { λ source. R.remaining source.reader };
-
-    ghost faults = { λ source. source.faults };
+    ghost shown = { λ source. record { left = R.remaining source.reader; faults = source.faults } };
 
     fn take(&mut self, buf: &mut [u8]) -> Result<usize, Failed> {
         match self.reader.read(buf) {
@@ -50,16 +48,14 @@ pub struct WriterSink<W: Drop> {
 impl<W: Write + Drop> WriterSink<W> {
     /// Makes a sink over a writer. Takes no memory.
     pub fn new(writer: W) -> WriterSink<W>
-        ensures { ⟦<WriterSink<W> as Sink>⟧.faults result ≡ 0 }
+        ensures { (⟦<WriterSink<W> as Sink>⟧.shown result).faults ≡ 0 }
     {
         WriterSink { writer, faults: 0 }
     }
 }
 
 impl<W: Write + Drop> Sink for WriterSink<W> {
-    ghost holds = { λ _. None };
-
-    ghost faults = { λ sink. sink.faults };
+    ghost shown = { λ sink. record { holds = None; faults = sink.faults } };
 
     // A write of no bytes of a piece that has some is a fault.
     fn give(&mut self, bytes: &[u8]) -> Result<usize, Failed> {

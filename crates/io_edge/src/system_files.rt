@@ -20,7 +20,7 @@ pub struct SystemFiles<R: Copy> {
 impl<R: Files + Copy> SystemFiles<R> {
     /// Makes an opener over the runtime. Takes no memory.
     pub fn new(alloc: Global, runtime: R) -> SystemFiles<R>
-        ensures { ⟦<SystemFiles<R> as Opener>⟧.faults result ≡ 0 }
+        ensures { (⟦<SystemFiles<R> as Opener>⟧.shown result).faults ≡ 0 }
     {
         SystemFiles {
             alloc,
@@ -49,9 +49,7 @@ impl<R: Files + Copy> SystemFiles<R> {
 }
 
 impl<R: Files + Copy> Opener for SystemFiles<R> {
-    ghost files = { λ _. None };
-
-    ghost faults = { λ opener. opener.faults };
+    ghost shown = { λ opener. record { files = None; faults = opener.faults } };
 
     fn load(&mut self, name: &str, most: u64) -> Result<Vec<u8>, LoadError> {
         match file_front(self.alloc, &self.runtime, name, most) {

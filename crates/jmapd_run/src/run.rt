@@ -25,10 +25,10 @@ pub fn run<O: Opener, S: Source, K: Sink, C: Clock>(
     output: &mut K,
     clock: &mut C,
 ) -> Status
-    ensures runs { Runs (S.left input.old) (S.left input.new) (K.holds output.old) (K.holds output.new) (S.faults input.old) (S.faults input.new)
-        (K.faults output.old) (K.faults output.new) (C.moments clock.old) (C.moments clock.new)
-        (map string_bytes words.now) (O.files opener.old) (O.faults opener.old) (O.faults opener.new) result }
-    ensures files { O.files opener.new ≡ O.files opener.old }
+    ensures runs { Runs (S.shown input.old).left (S.shown input.new).left (K.shown output.old).holds (K.shown output.new).holds (S.shown input.old).faults (S.shown input.new).faults
+        (K.shown output.old).faults (K.shown output.new).faults (C.moments clock.old) (C.moments clock.new)
+        (map string_bytes words.now) (O.shown opener.old).files (O.shown opener.old).faults (O.shown opener.new).faults result }
+    ensures files { (O.shown opener.new).files ≡ (O.shown opener.old).files }
 {
     match start_from(alloc, words, opener) {
         Ok(Start::Batch(site, user)) => run_batch(alloc, &site, user, input, output, clock),

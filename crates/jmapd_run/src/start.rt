@@ -30,8 +30,8 @@ pub(crate) fn start_from<O: Opener>(
     words: &[String],
     opener: &mut O,
 ) -> Result<Start, Status>
-    ensures how { StartHow (O.files opener.old) (O.faults opener.old) (O.faults opener.new) (map string_bytes words.now) result }
-    ensures files { O.files opener.new ≡ O.files opener.old }
+    ensures how { StartHow (O.shown opener.old).files (O.shown opener.old).faults (O.shown opener.new).faults (map string_bytes words.now) result }
+    ensures files { (O.shown opener.new).files ≡ (O.shown opener.old).files }
     ensures user { IfOk result HasItsUser }
 {
     match read_command(alloc, words) {
@@ -48,8 +48,8 @@ fn start_batch<O: Opener>(
     config: Option<&str>,
     user: Option<&str>,
 ) -> Result<Start, Status>
-    ensures how { BatchHow (O.files opener.old) (O.faults opener.old) (O.faults opener.new) (option_map (λ name. name.now) config.entry) (option_map (λ name. name.now) user.entry) result }
-    ensures files { O.files opener.new ≡ O.files opener.old }
+    ensures how { BatchHow (O.shown opener.old).files (O.shown opener.old).faults (O.shown opener.new).faults (option_map (λ name. name.now) config.entry) (option_map (λ name. name.now) user.entry) result }
+    ensures files { (O.shown opener.new).files ≡ (O.shown opener.old).files }
     ensures user { IfOk result HasItsUser }
 {
     let site = site_of(alloc, opener, config)?;
@@ -72,8 +72,8 @@ fn start_named(site: Site, name: &str) -> Result<Start, Status>
 
 // The site of a configuration, or the one without.
 fn site_of<O: Opener>(alloc: Global, opener: &mut O, config: Option<&str>) -> Result<Site, Status>
-    ensures files { O.files opener.new ≡ O.files opener.old }
-    ensures how { SiteHow (O.files opener.old) (O.faults opener.old) (O.faults opener.new) (option_map (λ name. name.now) config.entry) result }
+    ensures files { (O.shown opener.new).files ≡ (O.shown opener.old).files }
+    ensures how { SiteHow (O.shown opener.old).files (O.shown opener.old).faults (O.shown opener.new).faults (option_map (λ name. name.now) config.entry) result }
 {
     match config {
         Some(name) => load_site(alloc, opener, name),
@@ -85,8 +85,8 @@ fn site_of<O: Opener>(alloc: Global, opener: &mut O, config: Option<&str>) -> Re
 }
 
 fn load_site<O: Opener>(alloc: Global, opener: &mut O, name: &str) -> Result<Site, Status>
-    ensures files { O.files opener.new ≡ O.files opener.old }
-    ensures how { LoadHow (O.files opener.old) (O.faults opener.old) (O.faults opener.new) name.now result }
+    ensures files { (O.shown opener.new).files ≡ (O.shown opener.old).files }
+    ensures how { LoadHow (O.shown opener.old).files (O.shown opener.old).faults (O.shown opener.new).faults name.now result }
 {
     match opener.load(name, MOST_LOADED) {
         Ok(bytes) => read_site(alloc, &bytes),

@@ -21,10 +21,10 @@ pub(crate) fn run_stdio<S: Source, K: Sink, C: Clock>(
     output: &mut K,
     clock: &mut C,
 ) -> Status
-    ensures { RunsStdio (S.left input.old) (S.left input.new) (K.holds output.old) (K.holds output.new) (S.faults input.old) (S.faults input.new)
-        (K.faults output.old) (K.faults output.new) (C.moments clock.old) (C.moments clock.new) site.now result
-        ⊎ ((result ≡ NoMemory) × IsUntouched (S.left input.old) (S.left input.new) (K.holds output.old) (K.holds output.new) (S.faults input.old) (S.faults input.new)
-        (K.faults output.old) (K.faults output.new) (C.moments clock.old) (C.moments clock.new)) }
+    ensures { RunsStdio (S.shown input.old).left (S.shown input.new).left (K.shown output.old).holds (K.shown output.new).holds (S.shown input.old).faults (S.shown input.new).faults
+        (K.shown output.old).faults (K.shown output.new).faults (C.moments clock.old) (C.moments clock.new) site.now result
+        ⊎ ((result ≡ NoMemory) × IsUntouched (S.shown input.old).left (S.shown input.new).left (K.shown output.old).holds (K.shown output.new).holds (S.shown input.old).faults (S.shown input.new).faults
+        (K.shown output.old).faults (K.shown output.new).faults (C.moments clock.old) (C.moments clock.new)) }
 {
     let Ok(mut desk) = SoleDesk::open(alloc, site) else {
         return Status::NoMemory;

@@ -8,7 +8,7 @@ use Rattle.http_edge.proofs.next.find_head.Goals as goal
 
 pub loop-size-init : goal.loop-size-init
 loop-size-init g c = record {
-  took = took_none (g.S.Source.left c.args.source.now) (g.S.Source.faults c.args.source.now) c.args.kept.now;
+  took = took_none (g.S.Source.shown c.args.source.now).left (g.S.Source.shown c.args.source.now).faults c.args.kept.now;
   within = omega arith;
   few = omega arith;
   searched = searched_none;
@@ -33,6 +33,6 @@ returns-in_err-take_more-clause-stop g c =
     let front = front_same c.loop-size.kept c.as_slice-in-loop-size.result.now c.min-front.result c.as_slice-in-loop-size.ensures len in
     let short : length c.loop-size.kept < 16384 = omega (arith, len) in
     let open_yet : head_end c.take_more.new.self ≡ unended = ap head_end c.in_err-take_more.ensures.stop.0 ∙ front_open c.loop-size.kept short (ap head_length (sym front) ∙ open_none _ c.in-Open.next c.in-Open.ensures) in
-    let cause : StopCause (g.S.Source.left c.take_more.new.source) (g.S.Source.faults c.args.source.now) (g.S.Source.faults c.take_more.new.source) c.in_err-take_more.field-0.0 =
-    stop_earlier _ _ (g.S.Source.faults c.loop-size.source) _ _ c.loop-size.invariant.took.rose c.in_err-take_more.ensures.stop.1 in
+    let cause : StopCause (g.S.Source.shown c.take_more.new.source).left (g.S.Source.shown c.args.source.now).faults (g.S.Source.shown c.take_more.new.source).faults c.in_err-take_more.field-0.0 =
+    stop_earlier _ _ (g.S.Source.shown c.loop-size.source).faults _ _ c.loop-size.invariant.took.rose c.in_err-take_more.ensures.stop.1 in
     search (rules, open_yet, cause)

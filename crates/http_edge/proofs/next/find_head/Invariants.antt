@@ -5,7 +5,7 @@ use Rattle.http_edge.proofs.next.find_head.Given as goal
 
 abbrev pub invariant-loop-size : goal.invariant-loop-size
 invariant-loop-size g l = record {
-  took : Took (g.S.Source.left l.initial.source) (g.S.Source.left l.source) (g.S.Source.faults l.initial.source) (g.S.Source.faults l.source) l.initial.kept l.kept;
+  took : Took (g.S.Source.shown l.initial.source).left (g.S.Source.shown l.source).left (g.S.Source.shown l.initial.source).faults (g.S.Source.shown l.source).faults l.initial.kept l.kept;
   within : l.searched ≤ length l.kept;
   few : l.searched ≤ 16384;
   searched : IsSearched (take l.searched l.kept) l.state;

@@ -27,39 +27,39 @@ overflow_add-size g c =
 pub returns-in-Err-Ended-take_until : goal.returns-in-Err-Ended-take_until
 returns-in-Err-Ended-take_until g c =
     let e : head_end c.find_head.new.kept ≡ ended c.in-Ok-At.size = c.in-Ok-At.ensures.end ∙ ap end_shown c.in-Ok-At.field-0-is in
-    let read : Read (g.S.Source.left c.args.source.now) (g.S.Source.left c.find_head.new.source) (g.S.Source.left c.take_until.new.source) (g.S.Source.faults c.args.source.now) (g.S.Source.faults c.find_head.new.source)
-    (g.S.Source.faults c.take_until.new.source) c.args.kept.now c.find_head.new.kept c.take_until.new.kept (take c.in-Ok-At.size c.as_slice.result.now) c.in-Ok-At.size c.in-Ok.ensures.ok.0 c.in-Ok.head =
+    let read : Read (g.S.Source.shown c.args.source.now).left (g.S.Source.shown c.find_head.new.source).left (g.S.Source.shown c.take_until.new.source).left (g.S.Source.shown c.args.source.now).faults (g.S.Source.shown c.find_head.new.source).faults
+    (g.S.Source.shown c.take_until.new.source).faults c.args.kept.now c.find_head.new.kept c.take_until.new.kept (take c.in-Ok-At.size c.as_slice.result.now) c.in-Ok-At.size c.in-Ok.ensures.ok.0 c.in-Ok.head =
     record { first = c.in-Ok-At.ensures.took; end = e; slice_is = ap (take c.in-Ok-At.size) c.as_slice.ensures; says = c.in-Ok.ensures.ok.1; second = c.in-Err-Ended-take_until.ensures.took } in
     body_ended read c.in-Err-Ended-take_until.ensures.stop c.in-Err-Ended-take_until.field-0-is
 
 pub returns-in-Err-Failed-take_until : goal.returns-in-Err-Failed-take_until
 returns-in-Err-Failed-take_until g c =
     let e : head_end c.find_head.new.kept ≡ ended c.in-Ok-At.size = c.in-Ok-At.ensures.end ∙ ap end_shown c.in-Ok-At.field-0-is in
-    let read : Read (g.S.Source.left c.args.source.now) (g.S.Source.left c.find_head.new.source) (g.S.Source.left c.take_until.new.source) (g.S.Source.faults c.args.source.now) (g.S.Source.faults c.find_head.new.source)
-    (g.S.Source.faults c.take_until.new.source) c.args.kept.now c.find_head.new.kept c.take_until.new.kept (take c.in-Ok-At.size c.as_slice.result.now) c.in-Ok-At.size c.in-Ok.ensures.ok.0 c.in-Ok.head =
+    let read : Read (g.S.Source.shown c.args.source.now).left (g.S.Source.shown c.find_head.new.source).left (g.S.Source.shown c.take_until.new.source).left (g.S.Source.shown c.args.source.now).faults (g.S.Source.shown c.find_head.new.source).faults
+    (g.S.Source.shown c.take_until.new.source).faults c.args.kept.now c.find_head.new.kept c.take_until.new.kept (take c.in-Ok-At.size c.as_slice.result.now) c.in-Ok-At.size c.in-Ok.ensures.ok.0 c.in-Ok.head =
     record { first = c.in-Ok-At.ensures.took; end = e; slice_is = ap (take c.in-Ok-At.size) c.as_slice.ensures; says = c.in-Ok.ensures.ok.1; second = c.in-Err-Failed-take_until.ensures.took } in
     body_failed read c.in-Err-Failed-take_until.ensures.stop c.in-Err-Failed-take_until.field-0-is
 
 pub returns-in-Err-NoMemory-take_until : goal.returns-in-Err-NoMemory-take_until
 returns-in-Err-NoMemory-take_until g c =
     let e : head_end c.find_head.new.kept ≡ ended c.in-Ok-At.size = c.in-Ok-At.ensures.end ∙ ap end_shown c.in-Ok-At.field-0-is in
-    let read : Read (g.S.Source.left c.args.source.now) (g.S.Source.left c.find_head.new.source) (g.S.Source.left c.take_until.new.source) (g.S.Source.faults c.args.source.now) (g.S.Source.faults c.find_head.new.source)
-    (g.S.Source.faults c.take_until.new.source) c.args.kept.now c.find_head.new.kept c.take_until.new.kept (take c.in-Ok-At.size c.as_slice.result.now) c.in-Ok-At.size c.in-Ok.ensures.ok.0 c.in-Ok.head =
+    let read : Read (g.S.Source.shown c.args.source.now).left (g.S.Source.shown c.find_head.new.source).left (g.S.Source.shown c.take_until.new.source).left (g.S.Source.shown c.args.source.now).faults (g.S.Source.shown c.find_head.new.source).faults
+    (g.S.Source.shown c.take_until.new.source).faults c.args.kept.now c.find_head.new.kept c.take_until.new.kept (take c.in-Ok-At.size c.as_slice.result.now) c.in-Ok-At.size c.in-Ok.ensures.ok.0 c.in-Ok.head =
     record { first = c.in-Ok-At.ensures.took; end = e; slice_is = ap (take c.in-Ok-At.size) c.as_slice.ensures; says = c.in-Ok.ensures.ok.1; second = c.in-Err-NoMemory-take_until.ensures.took } in
     body_wanting read refl
 
 pub returns-in-Ok-take_message : goal.returns-in-Ok-take_message
 returns-in-Ok-take_message g c =
     let e : head_end c.find_head.new.kept ≡ ended c.in-Ok-At.size = c.in-Ok-At.ensures.end ∙ ap end_shown c.in-Ok-At.field-0-is in
-    let read : Read (g.S.Source.left c.args.source.now) (g.S.Source.left c.find_head.new.source) (g.S.Source.left c.take_until.new.source) (g.S.Source.faults c.args.source.now) (g.S.Source.faults c.find_head.new.source)
-    (g.S.Source.faults c.take_until.new.source) c.args.kept.now c.find_head.new.kept c.take_until.new.kept (take c.in-Ok-At.size c.as_slice.result.now) c.in-Ok-At.size c.in-Ok.ensures.ok.0 c.in-Ok.head =
+    let read : Read (g.S.Source.shown c.args.source.now).left (g.S.Source.shown c.find_head.new.source).left (g.S.Source.shown c.take_until.new.source).left (g.S.Source.shown c.args.source.now).faults (g.S.Source.shown c.find_head.new.source).faults
+    (g.S.Source.shown c.take_until.new.source).faults c.args.kept.now c.find_head.new.kept c.take_until.new.kept (take c.in-Ok-At.size c.as_slice.result.now) c.in-Ok-At.size c.in-Ok.ensures.ok.0 c.in-Ok.head =
     record { first = c.in-Ok-At.ensures.took; end = e; slice_is = ap (take c.in-Ok-At.size) c.as_slice.ensures; says = c.in-Ok.ensures.ok.1; second = c.in-Ok-take_until.ensures.took } in
     body_whole read c.in-Ok-take_message.message c.take_message.new.kept c.in-Ok-take_until.ensures.there c.in-Ok-take_message.ensures.body c.in-Ok-take_message.ensures.rest c.in-Ok-take_message.ensures.said
 
 pub returns-in-Err : goal.returns-in-Err
 returns-in-Err g c =
     let e : head_end c.find_head.new.kept ≡ ended c.in-Ok-At.size = c.in-Ok-At.ensures.end ∙ ap end_shown c.in-Ok-At.field-0-is in
-    let read : Read (g.S.Source.left c.args.source.now) (g.S.Source.left c.find_head.new.source) (g.S.Source.left c.take_until.new.source) (g.S.Source.faults c.args.source.now) (g.S.Source.faults c.find_head.new.source)
-    (g.S.Source.faults c.take_until.new.source) c.args.kept.now c.find_head.new.kept c.take_until.new.kept (take c.in-Ok-At.size c.as_slice.result.now) c.in-Ok-At.size c.in-Ok.ensures.ok.0 c.in-Ok.head =
+    let read : Read (g.S.Source.shown c.args.source.now).left (g.S.Source.shown c.find_head.new.source).left (g.S.Source.shown c.take_until.new.source).left (g.S.Source.shown c.args.source.now).faults (g.S.Source.shown c.find_head.new.source).faults
+    (g.S.Source.shown c.take_until.new.source).faults c.args.kept.now c.find_head.new.kept c.take_until.new.kept (take c.in-Ok-At.size c.as_slice.result.now) c.in-Ok-At.size c.in-Ok.ensures.ok.0 c.in-Ok.head =
     record { first = c.in-Ok-At.ensures.took; end = e; slice_is = ap (take c.in-Ok-At.size) c.as_slice.ensures; says = c.in-Ok.ensures.ok.1; second = c.in-Ok-take_until.ensures.took } in
     body_wanting read c.in-Err.ensures.err

@@ -5,8 +5,8 @@ use Rattle.io_edge.proofs.sink.put_all.Given as goal
 abbrev pub invariant-loop-given : goal.invariant-loop-given
 invariant-loop-given g l = record {
   within : l.given ≤ length l.bytes;
-  held : Grows (g.K.Sink.holds l.initial.sink) (g.K.Sink.holds l.sink) (take l.given l.bytes);
-  later : g.K.Sink.faults l.initial.sink ≤ g.K.Sink.faults l.sink;
+  held : Grows (g.K.Sink.shown l.initial.sink).holds (g.K.Sink.shown l.sink).holds (take l.given l.bytes);
+  later : (g.K.Sink.shown l.initial.sink).faults ≤ (g.K.Sink.shown l.sink).faults;
 }
 
 abbrev pub decreases-loop-given : goal.decreases-loop-given

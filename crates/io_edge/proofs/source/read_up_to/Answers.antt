@@ -8,5 +8,5 @@ pub returns-in_err-extend_from_slice-clause-err : goal.returns-in_err-extend_fro
 returns-in_err-extend_from_slice-clause-err g c =
     let piece = take c.in_ok-count.count c.take.new.buf in
     let within : length (c.loop-piece.bytes.items ++ piece) ≤ c.args.most + 1 = grind (arith, common_steps, c.in_ok-count.ensures.bound.0, c.in_ok-count.ensures.bound.1, length-append c.loop-piece.bytes.items piece) in
-    let taken : ConsumesAtMost (g.S.Source.left c.args.source.now) (g.S.Source.left c.take.new.self) (c.args.most + 1) = consumed_more _ (g.S.Source.left c.loop-piece.source) _ _ _ _ c.loop-piece.invariant.consumed c.in_ok-count.ensures.bytes.0 within in
+    let taken : ConsumesAtMost (g.S.Source.shown c.args.source.now).left (g.S.Source.shown c.take.new.self).left (c.args.most + 1) = consumed_more _ (g.S.Source.shown c.loop-piece.source).left _ _ _ _ c.loop-piece.invariant.consumed c.in_ok-count.ensures.bytes.0 within in
     search (rules, taken)
