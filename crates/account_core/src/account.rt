@@ -21,7 +21,7 @@ use crate::reply::refusal;
 use crate::set_reply::set_reply;
 use crate::tally::Tally;
 use model_history::book::Book;
-use model_call::call::{Call, MethodError, Reply};
+use model_call::call::{Asks, Call, MethodError, Reply};
 use model_history::entry::{Entry, Kind};
 use model_json::lists::{Pairs, Texts};
 use model_core::limits::MAX_OBJECTS_IN_GET;
@@ -188,30 +188,27 @@ impl Book for Account {
             turn,
             moment,
         };
-        match call {
-            Call::Get {
+        match &call.asks {
+            Asks::Get {
                 kind: Kind::Calendar,
                 ids,
                 properties,
-                created,
-            } => self.get(ids, properties, created),
-            Call::Set {
+            } => self.get(ids, properties, &call.created),
+            Asks::Set {
                 kind: Kind::Calendar,
                 if_in_state: None,
                 create: None,
                 update: None,
                 destroy: None,
                 remove_events: None,
-                ..
             } => self.create(&stamp, &[]),
-            Call::Set {
+            Asks::Set {
                 kind: Kind::Calendar,
                 if_in_state: None,
                 create: Some(creates),
                 update: None,
                 destroy: None,
                 remove_events: None,
-                ..
             } => {
                 if all_plain(creates.members()) {
                     self.create(&stamp, creates.members())
@@ -219,7 +216,14 @@ impl Book for Account {
                     Ok(self.refusal(MethodError::NotBuilt))
                 }
             }
-            _ => Ok(self.refusal(MethodError::NotBuilt)),
+            Asks::Get {
+                kind: Kind::Event, ..
+            }
+            | Asks::Set { .. }
+            | Asks::Changes { .. }
+            | Asks::Query { .. }
+            | Asks::QueryChanges { .. }
+            | Asks::Availability { .. } => Ok(self.refusal(MethodError::NotBuilt)),
         }
     }
 

@@ -3,8 +3,6 @@ ghost use Rattle.std.specs.Prelude.{◌≡◌, map};
 ghost use Rattle.std.specs.List.{list_all};
 ghost use Rattle.cal_model.specs.Answer.{are_plain};
 ghost use Rattle.cal_model.specs.Calendar.{has_name_alone, is_calendar_name, is_plain_create};
-ghost use Rattle.model_json.specs.ObjectKeys.{HasOrderedKeys};
-ghost use Rattle.model_json.specs.Parts.{members_in};
 ghost use Rattle.model_json.specs.TreeData.{data_of, pair_of};
 
 use model_core::limits::MAX_OBJECTS_IN_SET;
@@ -29,22 +27,10 @@ fn is_name_alone(members: &[Member]) -> bool
     }
 }
 
-/// The members of an object; none of anything else. Takes no memory.
-#[tactic(auto, using(model_json::specs::Data::pairs_back))]
-pub fn members_of(value: &Tree) -> &[Member]
-    ensures value { map pair_of result.now ≡ members_in (data_of value.now) }
-    ensures ordered { HasOrderedKeys (members_in (data_of value.now)) }
-{
-    match value {
-        Tree::Object(object) => object.members(),
-        _ => &[],
-    }
-}
-
 fn is_plain(create: &Member) -> bool
     ensures { result ≡ is_plain_create (pair_of create.now) }
 {
-    read_id(create.key.as_str().as_bytes()) && is_name_alone(members_of(&create.value))
+    read_id(create.key.as_str().as_bytes()) && is_name_alone(create.value.members_in())
 }
 
 /// Whether these are at most as many creates as a set may have, each an Id with an object that has a name and nothing else.

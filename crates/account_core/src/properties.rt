@@ -6,7 +6,6 @@ ghost use Rattle.cal_model.specs.Gets.{are_calendar_properties, is_asked_for, se
 ghost use Rattle.model_json.specs.TreeData.{data_of, pair_of};
 ghost use Rattle.model_json.specs.declared.tree.Tree.{Tree as AnyTree};
 
-use crate::plain::members_of;
 use crate::texts::{different_texts, is_among};
 use model_json::lists::Texts;
 use model_json::text::Text;
@@ -94,6 +93,6 @@ fn chosen(
 pub fn select(alloc: Global, properties: &Option<Texts>, object: &Tree) -> Result<Tree, AllocError>
     ensures { IfOk result (λ t. data_of t ≡ selected properties.now object.now) }
 {
-    let members = chosen(alloc, properties, members_of(object))?;
+    let members = chosen(alloc, properties, object.members_in())?;
     Ok(Tree::Object(TreeObject::new(members)))
 }

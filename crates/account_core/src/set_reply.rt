@@ -10,7 +10,6 @@ ghost use Rattle.model_json.specs.TreeData.{data_of, pair_of};
 
 use crate::calendar::calendar_id;
 use crate::outcome::Outcome;
-use crate::plain::members_of;
 use crate::replay::state;
 use crate::reply::state_tree;
 use cal_model::set_error::SetError;
@@ -63,7 +62,7 @@ fn stored_members(change: &Change) -> &[Member]
     ensures ordered { HasOrderedKeys (members_stored change.now) }
 {
     match &change.object {
-        Some(object) => members_of(object),
+        Some(object) => object.members_in(),
         None => &[],
     }
 }
@@ -74,7 +73,7 @@ fn created(alloc: Global, create: &Member, change: &Change) -> Result<Member, Al
     ensures { IfOk result (λ m. pair_of m ∷ [] ≡ created_object_member (pair_of create.now) (accepted change.now)) }
 {
     let key = create.key.copy()?;
-    let members = beyond(alloc, members_of(&create.value), stored_members(change))?;
+    let members = beyond(alloc, create.value.members_in(), stored_members(change))?;
     Ok(Member {
         key,
         value: Tree::Object(TreeObject::new(members)),

@@ -1,5 +1,5 @@
 -- Answers look at the changes of a history and at nothing else of it.
-use Rattle.std.proofs.Common.{◌≡◌, ℕ, suc, List, [], ◌∷◌, Option, Some, None, length, map, flat_map, refl, sym, ap, ◌∙◌}
+use Rattle.std.proofs.Common.{◌≡◌, ℕ, ℤ, suc, List, [], ◌∷◌, Option, Some, None, length, map, flat_map, refl, sym, ap, ◌∙◌}
 use Rattle.std.proofs.lemmas.List.{length-map}
 use Rattle.cal_model.specs.Answer.{Form, get_calendars, create_plain, not_built, form_of, answer, answer_to, added, added_by_form, entries_from, unless_error, get_found, refused}
 use Rattle.model_history.specs.Base.{Base}
@@ -8,7 +8,6 @@ use Rattle.model_history.specs.History.{changes_of}
 use Rattle.cal_model.specs.Sets.{changes_in, created_id, of_each, outcomes, set_arguments}
 use Rattle.model_call.specs.declared.call.Call.{Call}
 use Rattle.model_call.specs.declared.call.MethodError.{MethodError}
-use Rattle.model_call.specs.declared.call.Reply.{Reply}
 use Rattle.model_call.specs.declared.call.Reply.{Reply}
 use Rattle.model_history.specs.declared.entry.Change.{Change}
 use Rattle.model_history.specs.declared.entry.Entry.{Entry}
@@ -57,11 +56,11 @@ module _ (b : Base) (h h' : List Entry) (same : changes_of h ≡ changes_of h') 
       ∙ (ap (λ (cs : List Change). flat_map changes_in (outcomes cs creates)) same ∙ sym (changes_of_entries s' 0 (flat_map changes_in (outcomes (changes_of h') creates))))
   same_more s s' not_built = refl
 
-  module _ (c : Call) (s s' : Stamp) (moments : s.moment ≡ s'.moment) where
+  module _ (c : Call) where
     -- two histories with the same changes have the same answer at one moment
-    pub same_answer : answer b h c s ≡ answer b h' c s'
-    same_answer = same_form (form_of c)
+    pub same_answer : (m m' : ℤ) → m ≡ m' → answer b h c m ≡ answer b h' c m'
+    same_answer m m' moments = same_form (form_of c)
 
     -- and the same changes are added
-    pub same_added : changes_of (added b h c s) ≡ changes_of (added b h' c s')
-    same_added = same_more s s' (form_of c)
+    pub same_added : (s s' : Stamp) → s.moment ≡ s'.moment → changes_of (added b h c s) ≡ changes_of (added b h' c s')
+    same_added s s' moments = same_more s s' (form_of c)

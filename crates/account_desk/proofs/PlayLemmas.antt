@@ -33,7 +33,7 @@ module _ (base : ℕ → Base) where
   -- each call is answered at the history of its account, which then has what it adds
   abbrev pub Played : (ℕ → List Entry) → List Made → Type 0
   Played now [] = Unit {0}
-  Played now (m ∷ ms) = (m.reply ≡ answer (base m.account) (now m.account) m.call (stamp_of account_rules (base m.account) 0 m)) × Played (next now m) ms
+  Played now (m ∷ ms) = (m.reply ≡ answer (base m.account) (now m.account) m.call m.moment) × Played (next now m) ms
 
   pub played_first : (now : ℕ → List Entry) (xs ys : List Made) → Played now (xs ++ ys) → Played now xs
   played_first now [] ys p = tt
@@ -80,8 +80,8 @@ module _ (base : ℕ → Base) (whole : ℕ → List Entry) (upto : ℕ → ℕ)
     adds_is : added_by account_rules (base m.account) 0 (whole m.account) m ≡ adds base now m
     adds_is = ap (λ (l : List Entry). added (base m.account) l m.call (stamp_of account_rules (base m.account) 0 m)) before_is
 
-    reply_is : m.reply ≡ answer (base m.account) h m.call (stamp_of account_rules (base m.account) 0 m)
-    reply_is = left.stand.0.reply ∙ ap (λ (l : List Entry). answer (base m.account) l m.call (stamp_of account_rules (base m.account) 0 m)) before_is
+    reply_is : m.reply ≡ answer (base m.account) h m.call m.moment
+    reply_is = left.stand.0.reply ∙ ap (λ (l : List Entry). answer (base m.account) l m.call m.moment) before_is
 
     filled : Fills m.account (h ++ adds base now m) ms
     filled =

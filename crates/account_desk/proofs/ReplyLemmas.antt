@@ -44,10 +44,10 @@ module _ (base : ℕ → Base) where
       same_reply : Played base now (m ∷ []) → Played base now' (m' ∷ []) → m.reply ≡ m'.reply
       same_reply p p' =
           let k : ℕ = m.account in
-          let here : answer (base k) (now k) m.call (stamp_of account_rules (base k) 0 m) ≡ answer (base k) (now' k) m.call (stamp_of account_rules (base k) 0 m') =
-          same_answer (base k) (now k) (now' k) (same k) m.call (stamp_of account_rules (base k) 0 m) (stamp_of account_rules (base k) 0 m') moment in
-          let there : answer (base k) (now' k) m.call (stamp_of account_rules (base k) 0 m') ≡ answer (base m'.account) (now' m'.account) m'.call (stamp_of account_rules (base m'.account) 0 m') =
-          λ i. answer (base (account i)) (now' (account i)) (call i) (stamp_of account_rules (base (account i)) 0 m') in
+          let here : answer (base k) (now k) m.call m.moment ≡ answer (base k) (now' k) m.call m'.moment =
+          same_answer (base k) (now k) (now' k) (same k) m.call m.moment m'.moment moment in
+          let there : answer (base k) (now' k) m.call m'.moment ≡ answer (base m'.account) (now' m'.account) m'.call m'.moment =
+          λ i. answer (base (account i)) (now' (account i)) (call i) m'.moment in
           p.0 ∙ (here ∙ (there ∙ sym p'.0))
 
       same_adds : changes_of (adds base now m) ≡ changes_of (adds base now' m')

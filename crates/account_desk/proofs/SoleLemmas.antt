@@ -4,7 +4,6 @@ use Rattle.std.proofs.lemmas.List.{get_or-set_same, get_or-set_other, length-set
 use Rattle.std.proofs.lemmas.List.Elements.{All-set, All-get_or, filter-append}
 use mathlib.Core.Logic.{dite}
 use native.Mathlib.Decide.{ℕ_discrete}
-use Rattle.cal_model.specs.AnswerPlaces.{answer_place}
 use Rattle.model_batch.proofs.Chains.{all_written_by}
 use Rattle.cal_model.specs.AddedEntries.{added_signed}
 use Rattle.cal_model.specs.Answer.{answer, added}
@@ -61,7 +60,7 @@ module _ (accounts : List (Base × List Entry)) (turns k : ℕ) (a' : Base × Li
     last = λ j other. omega arith;
   }
 
-  called : {E : Type 0} (r : Result Reply E) → a'.0 ≡ a.0 → IfOk r (λ x. x ≡ answer a.0 a.1 call (stamp_after turns moment))
+  called : {E : Type 0} (r : Result Reply E) → a'.0 ≡ a.0 → IfOk r (λ x. x ≡ answer a.0 a.1 call moment)
       → OnOk r (a'.1 ≡ a.1 ++ added a.0 a.1 call (stamp_after turns moment)) → OnErr r (a'.1 ≡ a.1) → turns < most_turns
       → Called (shown_of (accounts, turns)) (shown_of (set accounts k a', turns + 1)) k call moment (of_desk r)
   called (Ok reply) same replied grown unchanged few = (
@@ -72,8 +71,6 @@ module _ (accounts : List (Base × List Entry)) (turns k : ℕ) (a' : Base × Li
       begins = ([], sym (append-nil a.1), refl);
       later = omega arith;
       replied = replied;
-      placed = ap (λ (x : Reply). x.place) replied ∙ answer_place a.0 a.1 call (stamp_after turns moment);
-      signed = added_signed a.0 a.1 call (stamp_after turns moment);
       seen = ap (λ (x : Base × List Entry). x.1) here ∙ grown;
     },
   )
@@ -85,7 +82,7 @@ module _ (accounts : List (Base × List Entry)) (turns k : ℕ) (a' : Base × Li
   -- what the account promises of the call
   pub record Acted {E : Type 0} (r : Result Reply E) (old : Base × List Entry) : Type 0 where
     pub base : a'.0 ≡ old.0
-    pub reply : IfOk r (λ x. x ≡ answer old.0 old.1 call (stamp_after turns moment))
+    pub reply : IfOk r (λ x. x ≡ answer old.0 old.1 call moment)
     pub grown : OnOk r (a'.1 ≡ old.1 ++ added old.0 old.1 call (stamp_after turns moment))
     pub unchanged : OnErr r (a'.1 ≡ old.1)
 

@@ -1,7 +1,6 @@
 -- What an invocation means, and what came of it, are a step.
 use Rattle.std.proofs.Common.{◌≡◌, ℕ, ℤ, inl, inr, List, ◌++◌, Some, None, Result, Ok, Err, refl, sym, ◌∙◌, subst, append-nil}
 use Rattle.model_batch.specs.Batch.{Step, FollowsFrom, reply_response}
-use Rattle.model_call.specs.Calls.{created_in as created_with_call}
 use Rattle.model_batch.specs.Meaning.{Meaning, calls, meaning_of_method}
 use Rattle.model_call.specs.Methods.{method_used}
 use Rattle.model_batch.specs.Chain.{Made, Shown}
@@ -43,7 +42,7 @@ module _ (grants : List Grant) (using : List (List ℕ)) (moment : ℤ) (respons
         }
 
     -- an account was asked
-    pub responds_from_account : (r : Result MethodResponse DeskError) → calls account call ≡ meant → created_with_call call ≡ created
+    pub responds_from_account : (r : Result MethodResponse DeskError) → calls account call ≡ meant → call.created ≡ created
         → IsCallResponse fronts fronts' s t account call moment c.name c.call_id created' r → IsResponse fronts fronts' s t grants using moment responses created created' c r
     responds_from_account (Ok response) is same x =
         let m = x.0 in (

@@ -1,6 +1,5 @@
 -- What an invocation was found to mean, as a definition sees it.
 use Rattle.std.specs.Prelude.{ℕ, ◌<◌, List}
-use Rattle.model_call.specs.Calls.{created_in}
 use Rattle.model_batch.specs.Meaning.{Meaning, refuses, echoes, calls}
 use Rattle.batch_exec.specs.declared.meaning.Judgement.{Judgement}
 use Rattle.batch_exec.specs.declared.meaning.Judgement.TheVariants.{Refused, Echo, Call}
@@ -14,7 +13,7 @@ meaning_in (Call account call) = calls account call
 abbrev pub created_with : Judgement → List (List ℕ × List ℕ) → List (List ℕ × List ℕ)
 created_with (Refused e) created = created
 created_with (Echo arguments) created = created
-created_with (Call account call) created = created_in call
+created_with (Call account call) created = call.created
 
 -- a call is on one of so many accounts
 abbrev pub account_is_below : ℕ → Judgement → Type 0

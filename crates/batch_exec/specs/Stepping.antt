@@ -1,7 +1,6 @@
 -- What one invocation of a request leads to.
 use Rattle.std.specs.Prelude.{◌≡◌, ℕ, ◌⊎◌, ℤ, List, [], ◌∷◌, ◌++◌, map, Result, Ok, Err}
 use Rattle.model_batch.specs.Batch.{Step, FollowsFrom, created_by, reply_response}
-use Rattle.model_call.specs.Calls.{created_by as created_with_call}
 use Rattle.model_batch.specs.Meaning.{meaning_of_method}
 use Rattle.model_call.specs.Methods.{method_used}
 use Rattle.model_json.specs.Parts.{some_of}
@@ -39,7 +38,7 @@ module _ (fronts fronts' : List Front) (s t : Shown) where
 
     -- the call's response and the created ids after it; or the call wasn't answered, or only its response is wanting
     abbrev pub IsCallResponse : List ℕ → List ℕ → List (List ℕ × List ℕ) → Result MethodResponse DeskError → Type 0
-    IsCallResponse name call_id created' (Ok response) = (m : Made) × AnswersCall m × (created' ≡ created_with_call call ++ m.reply.created) × (response ≡ reply_response name call_id m.reply.arguments m.reply.error)
+    IsCallResponse name call_id created' (Ok response) = (m : Made) × AnswersCall m × (created' ≡ call.created ++ m.reply.created) × (response ≡ reply_response name call_id m.reply.arguments m.reply.error)
     IsCallResponse name call_id created' (Err NoMemory) = IsUnanswered NoMemory ⊎ ((m : Made) × AnswersCall m)
     IsCallResponse name call_id created' (Err PassSpent) = IsUnanswered PassSpent
 

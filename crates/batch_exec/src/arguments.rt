@@ -1,6 +1,7 @@
 //! The arguments that calls give to methods.
 ghost use Rattle.std.specs.Prelude.{◌≡◌, is_some, map};
-ghost use Rattle.model_call.specs.Arguments.{are_well_given, argument_of, has_shape, is_well_given};
+ghost use Rattle.model_call.specs.Arguments.{argument_of, has_shape, is_well_given};
+ghost use Rattle.model_call.specs.Methods.{are_well_given};
 ghost use Rattle.model_json.specs.Data.{lookup};
 ghost use Rattle.model_json.specs.Parts.{all_some, as_object, as_text};
 ghost use Rattle.model_json.specs.TreeData.{data_of};

@@ -121,7 +121,7 @@ fn respond_from_account<D: Desk>(
         Ok(reply) => reply,
         Err(error) => return Err(error),
     };
-    match with_added(call.into_created(), reply.created) {
+    match with_added(call.created, reply.created) {
         Ok(pairs) => *created = pairs,
         Err(_) => return Err(DeskError::NoMemory),
     }

@@ -1,17 +1,18 @@
 //! The calls on accounts that methods make of their arguments.
 ghost use Rattle.std.specs.Prelude.{◌≡◌, ◌≢◌, IfOk, Some, codes, option_map};
-ghost use Rattle.model_call.specs.Calls.{argument, availability_call, call_of, changes_call, get_call, list_tree, number_argument, object_tree, query_call, query_changes_call, set_call, text_argument, truth_argument, zone_argument};
+ghost use Rattle.model_call.specs.Asking.{argument, availability_asks, changes_asks, get_asks, list_tree, number_argument, object_tree, query_asks, query_changes_asks, set_asks, text_argument, truth_argument, zone_argument};
+ghost use Rattle.model_call.specs.Methods.{call_of, row};
 ghost use Rattle.model_json.specs.Edit.{ChangesOnlyAt};
 ghost use Rattle.model_batch.specs.Meaning.{grant_of};
-ghost use Rattle.model_json.specs.Parts.{as_object, as_text, as_texts, as_truth, as_whole};
+ghost use Rattle.model_json.specs.Parts.{as_object, as_text, as_texts};
 
-use model_call::call::Call;
+use model_call::call::{Asks, Call};
 use model_history::entry::Kind;
 use model_json::lists::{Pairs, Texts};
 use model_call::method::Method;
 use model_json::num::Num;
 use model_json::text::Text;
-use model_json::tree::{Tree, TreeList, TreeObject};
+use model_json::tree::{Tree, TreeObject};
 use model_core::user::{Grant, Grants};
 use std::alloc::{AllocError, Global};
 
@@ -54,101 +55,97 @@ pub fn call_from(
     requires { method ≢ Method.Echo }
     ensures { IfOk result (λ call. call_of arguments created method ≡ Some call) }
 {
+    let asks = asks_from(alloc, method, arguments)?;
+    Ok(Call { created, asks })
+}
+
+fn asks_from(alloc: Global, method: Method, arguments: TreeObject) -> Result<Asks, AllocError>
+    requires { method ≢ Method.Echo }
+    ensures { IfOk result (λ asks. option_map (λ of. of arguments) (row method).asks ≡ Some asks) }
+{
     match method {
         Method::Echo => unreachable!(),
-        Method::CalendarGet => get_call(alloc, Kind::Calendar, arguments, created),
-        Method::CalendarChanges => changes_call(alloc, Kind::Calendar, arguments, created),
+        Method::CalendarGet => get_asks(alloc, Kind::Calendar, arguments),
+        Method::CalendarChanges => Ok(changes_asks(alloc, Kind::Calendar, arguments)),
         Method::CalendarSet => {
-            let remove_events = truth_at(&arguments, "onDestroyRemoveEvents");
-            set_call(alloc, Kind::Calendar, remove_events, arguments, created)
+            let remove_events = arguments.truth_at("onDestroyRemoveEvents");
+            set_asks(alloc, Kind::Calendar, remove_events, arguments)
         }
-        Method::EventGet => get_call(alloc, Kind::Event, arguments, created),
-        Method::EventChanges => changes_call(alloc, Kind::Event, arguments, created),
-        Method::EventSet => set_call(alloc, Kind::Event, None, arguments, created),
-        Method::EventQuery => query_call(alloc, arguments, created),
-        Method::EventQueryChanges => query_changes_call(alloc, arguments, created),
-        Method::GetAvailability => availability_call(alloc, arguments, created),
+        Method::EventGet => get_asks(alloc, Kind::Event, arguments),
+        Method::EventChanges => Ok(changes_asks(alloc, Kind::Event, arguments)),
+        Method::EventSet => set_asks(alloc, Kind::Event, None, arguments),
+        Method::EventQuery => query_asks(alloc, arguments),
+        Method::EventQueryChanges => query_changes_asks(alloc, arguments),
+        Method::GetAvailability => availability_asks(alloc, arguments),
     }
 }
 
-fn get_call(
+fn get_asks(
     alloc: Global,
     kind: Kind,
     mut arguments: TreeObject,
-    created: Pairs,
-) -> Result<Call, AllocError>
-    ensures { IfOk result (λ call. call ≡ get_call arguments created kind) }
+) -> Result<Asks, AllocError>
+    ensures { IfOk result (λ asks. asks ≡ get_asks arguments kind) }
 {
-    Ok(Call::Get {
+    Ok(Asks::Get {
         kind,
         ids: take_texts(alloc, &mut arguments, "ids")?,
         properties: take_texts(alloc, &mut arguments, "properties")?,
-        created,
     })
 }
 
-fn changes_call(
-    alloc: Global,
-    kind: Kind,
-    mut arguments: TreeObject,
-    created: Pairs,
-) -> Result<Call, AllocError>
-    ensures { IfOk result (λ call. call ≡ changes_call arguments created kind) }
+fn changes_asks(alloc: Global, kind: Kind, mut arguments: TreeObject) -> Asks
+    ensures { result ≡ changes_asks arguments kind }
 {
-    Ok(Call::Changes {
+    Asks::Changes {
         kind,
-        max: number_at(&arguments, "maxChanges"),
+        max: arguments.number_at("maxChanges"),
         since: take_text_or_empty(alloc, &mut arguments, "sinceState"),
-        created,
-    })
+    }
 }
 
-fn set_call(
+fn set_asks(
     alloc: Global,
     kind: Kind,
     remove_events: Option<bool>,
     mut arguments: TreeObject,
-    created: Pairs,
-) -> Result<Call, AllocError>
-    ensures { IfOk result (λ call. call ≡ set_call arguments created kind remove_events) }
+) -> Result<Asks, AllocError>
+    ensures { IfOk result (λ asks. asks ≡ set_asks arguments kind remove_events) }
 {
-    Ok(Call::Set {
+    Ok(Asks::Set {
         kind,
         if_in_state: take_text(&mut arguments, "ifInState"),
         create: take_object(&mut arguments, "create"),
         update: take_object(&mut arguments, "update"),
         destroy: take_texts(alloc, &mut arguments, "destroy")?,
         remove_events,
-        created,
     })
 }
 
-fn query_call(alloc: Global, mut arguments: TreeObject, created: Pairs) -> Result<Call, AllocError>
-    ensures { IfOk result (λ call. call ≡ query_call arguments created) }
+fn query_asks(alloc: Global, mut arguments: TreeObject) -> Result<Asks, AllocError>
+    ensures { IfOk result (λ asks. asks ≡ query_asks arguments) }
 {
-    Ok(Call::Query {
+    Ok(Asks::Query {
         position: number_or_zero(&arguments, "position"),
         anchor_offset: number_or_zero(&arguments, "anchorOffset"),
-        limit: number_at(&arguments, "limit"),
+        limit: arguments.number_at("limit"),
         calculate_total: is_true_at(&arguments, "calculateTotal"),
         expand: is_true_at(&arguments, "expandRecurrences"),
         filter: take_filter(&mut arguments),
         sort: take_sort(&mut arguments),
         anchor: take_text(&mut arguments, "anchor"),
         time_zone: take_zone(alloc, &mut arguments)?,
-        created,
     })
 }
 
-fn query_changes_call(
+fn query_changes_asks(
     alloc: Global,
     mut arguments: TreeObject,
-    created: Pairs,
-) -> Result<Call, AllocError>
-    ensures { IfOk result (λ call. call ≡ query_changes_call arguments created) }
+) -> Result<Asks, AllocError>
+    ensures { IfOk result (λ asks. asks ≡ query_changes_asks arguments) }
 {
-    Ok(Call::QueryChanges {
-        max: number_at(&arguments, "maxChanges"),
+    Ok(Asks::QueryChanges {
+        max: arguments.number_at("maxChanges"),
         calculate_total: is_true_at(&arguments, "calculateTotal"),
         expand: is_true_at(&arguments, "expandRecurrences"),
         filter: take_filter(&mut arguments),
@@ -156,61 +153,40 @@ fn query_changes_call(
         since: take_text_or_empty(alloc, &mut arguments, "sinceQueryState"),
         up_to: take_text(&mut arguments, "upToId"),
         time_zone: take_zone(alloc, &mut arguments)?,
-        created,
     })
 }
 
-fn availability_call(
+fn availability_asks(
     alloc: Global,
     mut arguments: TreeObject,
-    created: Pairs,
-) -> Result<Call, AllocError>
-    ensures { IfOk result (λ call. call ≡ availability_call arguments created) }
+) -> Result<Asks, AllocError>
+    ensures { IfOk result (λ asks. asks ≡ availability_asks arguments) }
 {
-    Ok(Call::Availability {
+    Ok(Asks::Availability {
         id: take_text_or_empty(alloc, &mut arguments, "id"),
         utc_start: take_text_or_empty(alloc, &mut arguments, "utcStart"),
         utc_end: take_text_or_empty(alloc, &mut arguments, "utcEnd"),
         time_zone: take_zone(alloc, &mut arguments)?,
-        created,
     })
-}
-
-fn number_at(arguments: &TreeObject, key: &str) -> Option<Num>
-    ensures { result ≡ argument arguments.now as_whole key.now }
-{
-    match arguments.get(key) {
-        Some(Tree::Whole(number)) => Some(*number),
-        _ => None,
-    }
 }
 
 fn number_or_zero(arguments: &TreeObject, key: &str) -> Num
     ensures { result ≡ number_argument arguments.now key.now }
 {
-    number_at(arguments, key).unwrap_or(Num::new(0))
-}
-
-fn truth_at(arguments: &TreeObject, key: &str) -> Option<bool>
-    ensures { result ≡ argument arguments.now as_truth key.now }
-{
-    match arguments.get(key) {
-        Some(Tree::Truth(truth)) => Some(*truth),
-        _ => None,
-    }
+    arguments.number_at(key).unwrap_or(Num::new(0))
 }
 
 fn is_true_at(arguments: &TreeObject, key: &str) -> bool
     ensures { result ≡ truth_argument arguments.now key.now }
 {
-    truth_at(arguments, key).unwrap_or(false)
+    arguments.truth_at(key).unwrap_or(false)
 }
 
 fn take_text(arguments: &mut TreeObject, key: &str) -> Option<Text>
     ensures value { result ≡ argument arguments.old as_text key.now }
     ensures others { ChangesOnlyAt key.now arguments.old arguments.new }
 {
-    arguments.take(key).and_then(into_text)
+    arguments.take(key).and_then(Tree::into_text)
 }
 
 fn take_text_or_empty(alloc: Global, arguments: &mut TreeObject, key: &str) -> Text
@@ -240,7 +216,7 @@ fn take_texts(
     ensures value { IfOk result (λ texts. texts ≡ argument arguments.old as_texts key.now) }
     ensures others { ChangesOnlyAt key.now arguments.old arguments.new }
 {
-    match arguments.take(key).and_then(into_list) {
+    match arguments.take(key).and_then(Tree::into_list) {
         Some(list) => list.into_texts(alloc),
         None => Ok(None),
     }
@@ -250,7 +226,7 @@ fn take_object(arguments: &mut TreeObject, key: &str) -> Option<TreeObject>
     ensures value { result ≡ argument arguments.old as_object key.now }
     ensures others { ChangesOnlyAt key.now arguments.old arguments.new }
 {
-    arguments.take(key).and_then(into_object)
+    arguments.take(key).and_then(Tree::into_object)
 }
 
 fn take_filter(arguments: &mut TreeObject) -> Option<Tree>
@@ -264,5 +240,5 @@ fn take_sort(arguments: &mut TreeObject) -> Option<Tree>
     ensures value { result ≡ argument arguments.old list_tree (codes "sort") }
     ensures others { ChangesOnlyAt (codes "sort") arguments.old arguments.new }
 {
-    arguments.take("sort").and_then(into_list).map(Tree::List)
+    arguments.take("sort").and_then(Tree::into_list).map(Tree::List)
 }

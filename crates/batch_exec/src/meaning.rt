@@ -1,8 +1,7 @@
 //! What an invocation means: an error, an answer without an account, or a call on an account.
 ghost use Rattle.std.specs.Prelude.{◌≡◌, ◌≢◌, All, ◌<◌, IfOk, ℕ};
-ghost use Rattle.model_call.specs.Calls.{call_of};
 ghost use Rattle.model_batch.specs.Meaning.{meaning_of_arguments, meaning_of_call, meaning_of_method};
-ghost use Rattle.model_call.specs.Methods.{is_set, method_used, uses};
+ghost use Rattle.model_call.specs.Methods.{call_of, method_used, row, uses};
 ghost use Rattle.model_batch.specs.References.{resolved};
 ghost use Rattle.batch_exec.specs.Judgements.{account_is_below, created_with, meaning_in};
 
@@ -133,7 +132,7 @@ fn judge_call(
 
 /// Whether a method changes an account. Takes no memory.
 fn is_set(method: Method) -> bool
-    ensures { result ≡ is_set method }
+    ensures { result ≡ (row method).is_set }
 {
     matches!(method, Method::CalendarSet | Method::EventSet)
 }

@@ -9,13 +9,14 @@ use Rattle.cal_model.specs.Gets.{get_response, get_error, ids_not_found, objects
 use Rattle.model_history.specs.History.{changes_of}
 use Rattle.cal_model.specs.Sets.{Outcome, changes_in, created_id, of_each, outcomes, set_arguments}
 use Rattle.model_call.specs.declared.call.Call.{Call}
-use Rattle.model_call.specs.declared.call.Call.TheVariants.{Get, Set}
+use Rattle.model_call.specs.declared.call.Asks.{Asks}
+use Rattle.model_call.specs.declared.call.Asks.TheVariants.{Availability, Changes, Get, Query, QueryChanges, Set}
 use Rattle.model_call.specs.declared.call.MethodError.{MethodError}
 use Rattle.model_call.specs.declared.call.MethodError.TheVariants.{NotBuilt}
 use Rattle.model_call.specs.declared.call.Reply.{Reply}
 use Rattle.model_history.specs.declared.entry.Change.{Change}
 use Rattle.model_history.specs.declared.entry.Entry.{Entry}
-use Rattle.model_history.specs.declared.entry.Kind.TheVariants.{Calendar}
+use Rattle.model_history.specs.declared.entry.Kind.TheVariants.{Calendar, Event}
 use Rattle.model_history.specs.declared.stamp.Stamp.{Stamp}
 use Rattle.model_json.specs.declared.tree.Tree.{Tree}
 use Rattle.model_json.specs.declared.tree.Tree.TheVariants.{Null}
@@ -30,11 +31,27 @@ pub data Form : Type 0 where
 abbrev pub are_plain : List Pair → Bool
 are_plain creates = nat_le (length creates) MAX_OBJECTS_IN_SET && list_all is_plain_create creates
 
+abbrev pub form_of_creates : Option (List Pair) → Form
+form_of_creates None = create_plain []
+form_of_creates (Some creates) = if are_plain creates then create_plain creates else not_built
+
+-- a set of calendars that creates and does nothing else
+abbrev pub form_of_set : Option (List ℕ) → Option (List Pair) → Option (List Pair) → Option (List (List ℕ)) → Option Bool → Form
+form_of_set None create None None None = form_of_creates create
+form_of_set _ _ _ _ _ = not_built
+
+abbrev pub form_of_asks : List (List ℕ × List ℕ) → Asks → Form
+form_of_asks created (Get Calendar ids properties) = get_calendars ids properties created
+form_of_asks created (Get Event ids properties) = not_built
+form_of_asks created (Changes kind since most) = not_built
+form_of_asks created (Set Calendar if_in_state create update destroy remove_events) = form_of_set if_in_state create update destroy remove_events
+form_of_asks created (Set Event if_in_state create update destroy remove_events) = not_built
+form_of_asks created (Query filter sort position anchor anchor_offset limit calculate_total expand time_zone) = not_built
+form_of_asks created (QueryChanges filter sort since most up_to calculate_total expand time_zone) = not_built
+form_of_asks created (Availability id utc_start utc_end time_zone) = not_built
+
 abbrev pub form_of : Call → Form
-form_of (Get Calendar ids properties created) = get_calendars ids properties created
-form_of (Set Calendar None (Some creates) None None None created) = if are_plain creates then create_plain creates else not_built
-form_of (Set Calendar None None None None None created) = create_plain []
-form_of _ = not_built
+form_of call = form_of_asks call.created call.asks
 
 abbrev pub answered : List Entry → Tree → List (List ℕ × List ℕ) → Reply
 answered h arguments created = record { arguments = arguments; error = None; created = created; place = length h }
@@ -68,7 +85,8 @@ answer_to base h not_built = refused h NotBuilt
 
 abbrev pub added_by_form : Stamp → List Entry → Form → List Entry
 added_by_form stamp h (create_plain creates) = entries_from stamp 0 (flat_map changes_in (outcomes (changes_of h) creates))
-added_by_form stamp h _ = []
+added_by_form stamp h (get_calendars ids properties created) = []
+added_by_form stamp h not_built = []
 
 -- the reply to a call at a moment
 abbrev pub answer : Base → List Entry → Call → ℤ → Reply

@@ -1,6 +1,5 @@
 -- A call on the second account of a pair is a call on a desk.
 use Rattle.std.proofs.Common.{◌≡◌, ◌≢◌, ℕ, ℤ, ◌+◌, ◌-◌, ◌<◌, ◌==◌, ◌^◌, List, [], ◌++◌, Result, Ok, Err, IfOk, OnOk, OnErr, refl, sym, ap, ◌∙◌, subst, arith, append-nil, ne_eqb, if◌then◌else◌}
-use Rattle.cal_model.specs.AnswerPlaces.{answer_place}
 use Rattle.cal_model.specs.AddedEntries.{added_signed}
 use Rattle.cal_model.specs.Answer.{answer, added}
 use Rattle.model_history.specs.Base.{Base}
@@ -29,21 +28,21 @@ module _ (first h h' : Base × List Entry) (left : ℕ) (some : 0 < left) (few :
     last = λ j other. omega (arith, some, few);
   }
 
-  called : {E : Type 0} (r : Result Reply E) → h'.0 ≡ h.0 → IfOk r (λ x. x ≡ answer h.0 h.1 call (stamp_next left moment))
+  called : {E : Type 0} (r : Result Reply E) → h'.0 ≡ h.0 → IfOk r (λ x. x ≡ answer h.0 h.1 call moment)
       → OnOk r (h'.1 ≡ h.1 ++ added h.0 h.1 call (stamp_next left moment)) → OnErr r (h'.1 ≡ h.1)
       → Called (pair_shown first h left) (pair_shown first h' (left - 1)) 1 call moment (of_desk r)
   called (Ok reply) base replied grown same = (
     omega (arith, some, few),
-    record { beside = beside base; history = h.1; begins = ([], sym (append-nil h.1), refl); later = omega (arith, some, few); replied = replied; placed = ap (λ (x : Reply). x.place) replied ∙ answer_place h.0 h.1 call (stamp_next left moment); signed = added_signed h.0 h.1 call (stamp_next left moment); seen = grown },
+    record { beside = beside base; history = h.1; begins = ([], sym (append-nil h.1), refl); later = omega (arith, some, few); replied = replied; seen = grown },
   )
   called (Err e) base replied grown same =
       (omega (arith, some, few), record { beside = beside base; begins = ([], same ∙ sym (append-nil h.1), refl); later = omega (arith, some, few) })
 
   pub second_called : {E : Type 0} (account : ℕ) (stamp : Stamp) (r : Result Reply E) → account < 2 → account ≢ 0 → stamp ≡ stamp_next left moment → h'.0 ≡ h.0
-      → IfOk r (λ x. x ≡ answer h.0 h.1 call stamp) → OnOk r (h'.1 ≡ h.1 ++ added h.0 h.1 call stamp) → OnErr r (h'.1 ≡ h.1)
+      → IfOk r (λ x. x ≡ answer h.0 h.1 call moment) → OnOk r (h'.1 ≡ h.1 ++ added h.0 h.1 call stamp) → OnErr r (h'.1 ≡ h.1)
       → Called (pair_shown first h left) (pair_shown first h' (left - 1)) account call moment (of_desk r)
   second_called account stamp r below other next base replied grown same =
       let one_is : 1 ≡ account = grind (arith, below, other) in
       subst (λ (k : ℕ). Called (pair_shown first h left) (pair_shown first h' (left - 1)) k call moment (of_desk r)) one_is
-      (called r base (subst (λ (s : Stamp). IfOk r (λ x. x ≡ answer h.0 h.1 call s)) next replied)
+      (called r base replied
       (subst (λ (s : Stamp). OnOk r (h'.1 ≡ h.1 ++ added h.0 h.1 call s)) next grown) same)

@@ -2,7 +2,7 @@
 use crate::zones::no_zones;
 use account_core::account::Account;
 use model_history::book::Book;
-use model_call::call::Call;
+use model_call::call::{Asks, Call};
 use model_history::entry::Kind;
 use model_json::lists::Pairs;
 use model_json::text::Text;
@@ -22,14 +22,16 @@ fn set_of(alloc: Global, creates: &str) -> Result<Call, Fail> {
         Tree::Object(create) => Some(create),
         _ => None,
     };
-    Ok(Call::Set {
-        kind: Kind::Calendar,
-        if_in_state: None,
-        create,
-        update: None,
-        destroy: None,
-        remove_events: None,
+    Ok(Call {
         created: Pairs::new(Vec::new(alloc)),
+        asks: Asks::Set {
+            kind: Kind::Calendar,
+            if_in_state: None,
+            create,
+            update: None,
+            destroy: None,
+            remove_events: None,
+        },
     })
 }
 
@@ -49,7 +51,7 @@ fn calendars(alloc: Global, count: u32, name: &str) -> Result<String, Fail> {
 /// Makes a call on an account so many times.
 fn repeat(account: &mut Account, call: &Call, times: u32) -> Result<(), AllocError> {
     for turn in 0..times {
-        account.act(0, turn.into(), call, MOMENT)?;
+        account.act(0, turn.into(), call, Moment::clamped(MOMENT))?;
     }
     Ok(())
 }

@@ -1,10 +1,9 @@
 -- What an invocation of a request means: an error, an answer without an account, or a call on an account (RFC 8620 sections 3.6.2 and 3.7).
 use Rattle.std.specs.Prelude.{ℕ, List, [], ◌∷◌, ◌&&◌, Option, Some, None, codes, if◌then◌else◌}
 use Rattle.std.specs.Str.{bytes_eq}
-use Rattle.model_call.specs.Arguments.{are_well_given}
-use Rattle.model_call.specs.Calls.{call_of, text_argument}
+use Rattle.model_call.specs.Asking.{text_argument}
 use Rattle.model_json.specs.Data.{Pair}
-use Rattle.model_call.specs.Methods.{is_set}
+use Rattle.model_call.specs.Methods.{are_well_given, call_of, row}
 use Rattle.model_batch.specs.References.{Resolution, both_forms, bad_reference, resolved, resolution}
 use Rattle.model_call.specs.declared.call.Call.{Call}
 use Rattle.model_call.specs.declared.call.MethodError.{MethodError}
@@ -26,7 +25,7 @@ grant_of id (g ∷ gs) = if bytes_eq g.id id then Some g else grant_of id gs
 
 abbrev pub meaning_on : Method → Call → Option Grant → Meaning
 meaning_on m call None = refuses AccountNotFound
-meaning_on m call (Some g) = if g.read_only && is_set m then refuses AccountReadOnly else calls g.account call
+meaning_on m call (Some g) = if g.read_only && (row m).is_set then refuses AccountReadOnly else calls g.account call
 
 -- the call of a method on one of these accounts; `Core/echo` has none (RFC 8620 section 4)
 abbrev pub meaning_of_call : List Grant → Method → List Pair → Option Call → Meaning

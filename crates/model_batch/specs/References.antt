@@ -5,7 +5,7 @@ use Rattle.std.specs.Str.{bytes_eq}
 use Rattle.model_json.specs.Data.{Data, list, object, Pair, lookup, field, items_of, list_of, pairs_of}
 use Rattle.model_json.specs.Edit.{put_all}
 use Rattle.model_json.specs.Number.{number_in}
-use Rattle.model_json.specs.Parts.{as_text, all_some, behind_hash}
+use Rattle.model_json.specs.Parts.{all_some, behind_hash, text_at}
 use Rattle.model_json.specs.Pointer.{parts}
 use Rattle.model_json.specs.TreeData.{data_of}
 use Rattle.model_batch.specs.declared.method_response.MethodResponse.{MethodResponse}
@@ -57,13 +57,10 @@ abbrev pub value_with : List MethodResponse → Option (List ℕ) → Option (Li
 value_with responses (Some result_of) (Some name) (Some path) = option_and_then (value_in_response name path) (response_with_id result_of responses)
 value_with responses _ _ _ = None
 
-abbrev pub text_field : List ℕ → Data → Option (List ℕ)
-text_field key d = option_and_then as_text (field key d)
-
 -- the value of a reference, an object with the texts `resultOf`, `name` and `path`
 abbrev pub value_of_reference : List MethodResponse → Data → Option Data
 value_of_reference responses d =
-    value_with responses (text_field (codes "resultOf") d) (text_field (codes "name") d) (text_field (codes "path") d)
+    value_with responses (text_at (codes "resultOf") d) (text_at (codes "name") d) (text_at (codes "path") d)
 
 -- a reference to the value of the argument whose name stands behind the `#`
 abbrev pub is_reference : Pair → Bool

@@ -1,12 +1,9 @@
 -- The arguments that each method takes (RFC 8620 section 5, draft JMAP for Calendars). Others are ignored.
 use Rattle.std.specs.Prelude.{ℕ, List, [], ◌∷◌, Bool, true, false, not, Option, Some, None, codes, is_some, option_and_then}
-use Rattle.std.specs.List.{list_all}
-use Rattle.model_json.specs.Data.{Data, null, Pair, lookup}
+use Rattle.model_json.specs.Data.{Data, null}
 use Rattle.model_json.specs.Parts.{as_text, as_truth, as_whole, as_texts, as_list, as_object, all_some}
 use Rattle.model_call.specs.declared.method.Argument.{Argument as Listed}
 use Rattle.model_call.specs.declared.method.Argument.TheVariants.{Needs, Takes}
-use Rattle.model_call.specs.declared.method.Method.{Method}
-use Rattle.model_call.specs.declared.method.Method.TheVariants.{Echo, CalendarGet, CalendarChanges, CalendarSet, EventGet, EventChanges, EventSet, EventQuery, EventQueryChanges, GetAvailability}
 use Rattle.model_call.specs.declared.method.Shape.{Shape}
 use Rattle.model_call.specs.declared.method.Shape.TheVariants.{Text, Number, Truth, Texts, Objects, Object}
 
@@ -54,18 +51,6 @@ query_changes_arguments = needs (codes "sinceQueryState") ∷ takes (codes "maxC
 abbrev pub availability_arguments : List Argument
 availability_arguments = needs (codes "accountId") ∷ needs (codes "id") ∷ needs (codes "utcStart") ∷ needs (codes "utcEnd") ∷ takes (codes "timeZone") Text ∷ []
 
-abbrev pub arguments_of : Method → List Argument
-arguments_of Echo = []
-arguments_of CalendarGet = get_arguments
-arguments_of CalendarChanges = changes_arguments
-arguments_of CalendarSet = calendar_set_arguments
-arguments_of EventGet = get_arguments
-arguments_of EventChanges = changes_arguments
-arguments_of EventSet = event_set_arguments
-arguments_of EventQuery = query_arguments
-arguments_of EventQueryChanges = query_changes_arguments
-arguments_of GetAvailability = availability_arguments
-
 abbrev pub has_shape : Shape → Data → Bool
 has_shape Text d = is_some (as_text d)
 has_shape Number d = is_some (as_whole d)
@@ -79,6 +64,3 @@ abbrev pub is_well_given : Argument → Option Data → Bool
 is_well_given a None = not a.is_required
 is_well_given a (Some null) = not a.is_required
 is_well_given a (Some d) = has_shape a.shape d
-
-abbrev pub are_well_given : Method → List Pair → Bool
-are_well_given m arguments = list_all (λ a. is_well_given a (lookup a.name arguments)) (arguments_of m)

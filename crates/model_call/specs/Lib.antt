@@ -1,3 +1,3 @@
-pub mod Methods
 pub mod Arguments
-pub mod Calls
+pub mod Asking
+pub mod Methods

@@ -1,6 +1,4 @@
 //! Calls of the methods of an account, and their replies.
-ghost use Rattle.std.specs.Prelude.{◌≡◌};
-ghost use Rattle.model_call.specs.Calls.{created_in};
 
 use model_history::entry::Kind;
 use model_json::lists::{Pairs, Texts};
@@ -8,12 +6,18 @@ use model_json::num::Num;
 use model_json::text::Text;
 use model_json::tree::{Tree, TreeObject};
 
-/// A method call on one account, with its arguments' defaults filled in.
-///
-/// In each variant `created` are the created ids of the request so far (RFC 8620 section 3.3); of two pairs with
-/// one key the later counts.
+/// A method call on one account.
 #[derive(Drop)]
-pub enum Call {
+pub struct Call {
+    /// The created ids of the request so far (RFC 8620 section 3.3). Of two pairs with one key the later counts.
+    pub created: Pairs,
+    /// What is asked.
+    pub asks: Asks,
+}
+
+/// What a method call asks of an account: its arguments, with the defaults of those that are absent.
+#[derive(Drop)]
+pub enum Asks {
     /// Asks for objects (RFC 8620 section 5.1).
     Get {
         /// The kind of the objects.
@@ -22,7 +26,6 @@ pub enum Call {
         ids: Option<Texts>,
         /// The names of the properties asked for, or `None` for all.
         properties: Option<Texts>,
-        created: Pairs,
     },
     /// Asks what changed since a state (RFC 8620 section 5.2).
     Changes {
@@ -32,7 +35,6 @@ pub enum Call {
         since: Text,
         /// The most ids that the reply may have, or `None` for no limit.
         max: Option<Num>,
-        created: Pairs,
     },
     /// Creates, updates and destroys objects (RFC 8620 section 5.3).
     Set {
@@ -48,7 +50,6 @@ pub enum Call {
         destroy: Option<Texts>,
         /// The argument `onDestroyRemoveEvents` of calendars.
         remove_events: Option<bool>,
-        created: Pairs,
     },
     /// Asks for the events that a filter holds of, sorted (RFC 8620 section 5.5).
     Query {
@@ -66,7 +67,6 @@ pub enum Call {
         expand: bool,
         /// The time zone of the filter's times and of floating events.
         time_zone: Text,
-        created: Pairs,
     },
     /// Asks how the result of a query changed since a state (RFC 8620 section 5.6).
     QueryChanges {
@@ -83,7 +83,6 @@ pub enum Call {
         expand: bool,
         /// The time zone of the filter's times and of floating events.
         time_zone: Text,
-        created: Pairs,
     },
     /// Asks when the account's owner is busy (draft JMAP for Calendars).
     Availability {
@@ -95,24 +94,7 @@ pub enum Call {
         utc_end: Text,
         /// The time zone of floating events.
         time_zone: Text,
-        created: Pairs,
     },
-}
-
-impl Call {
-    /// Gives the created ids of the request back. Takes no memory.
-    pub fn into_created(self) -> Pairs
-        ensures { result ≡ created_in self }
-    {
-        match self {
-            Call::Get { created, .. } => created,
-            Call::Changes { created, .. } => created,
-            Call::Set { created, .. } => created,
-            Call::Query { created, .. } => created,
-            Call::QueryChanges { created, .. } => created,
-            Call::Availability { created, .. } => created,
-        }
-    }
 }
 
 /// Why a method call was refused (RFC 8620 section 3.6.2). The call changed nothing.

@@ -1,7 +1,7 @@
 //! The methods, each with its capability.
 ghost use Rattle.std.specs.Prelude.{◌≡◌, map};
-ghost use Rattle.model_call.specs.Arguments.{argument_of, arguments_of};
-ghost use Rattle.model_call.specs.Methods.{capability, method_named};
+ghost use Rattle.model_call.specs.Arguments.{argument_of};
+ghost use Rattle.model_call.specs.Methods.{method_named, row};
 
 use model_core::capability::{AVAILABILITY, CALENDARS, CORE};
 
@@ -130,7 +130,7 @@ impl Method {
 
     /// The capability that a request must use to call this method. Takes no memory.
     pub fn capability(self) -> &'static str
-        ensures { result.now ≡ capability self }
+        ensures { result.now ≡ (row self).capability }
     {
         match self {
             Method::Echo => CORE,
@@ -141,7 +141,7 @@ impl Method {
 
     /// The arguments that calls of this method have. Takes no memory.
     pub fn arguments(self) -> &'static [Argument]
-        ensures { map argument_of result.now ≡ arguments_of self }
+        ensures { map argument_of result.now ≡ (row self).arguments }
     {
         match self {
             Method::Echo => &[],

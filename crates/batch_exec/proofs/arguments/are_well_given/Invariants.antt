@@ -1,6 +1,7 @@
 use Rattle.std.proofs.Common.{◌≡◌, drop, map}
 use Rattle.std.specs.List.{list_all}
-use Rattle.model_call.specs.Arguments.{are_well_given, argument_of, is_well_given}
+use Rattle.model_call.specs.Arguments.{argument_of, is_well_given}
+use Rattle.model_call.specs.Methods.{are_well_given}
 use Rattle.model_json.specs.Data.{lookup}
 use Rattle.batch_exec.proofs.arguments.are_well_given.Given as goal
 
