@@ -8,7 +8,6 @@ use io_edge::memory_opener::MemOpener;
 use io_edge::memory_sink::MemSink;
 use io_edge::memory_source::MemSource;
 use jmapd_run::run::run;
-use row_table::field::field_name;
 use std::alloc::{AllocError, Global};
 
 /// 2024-01-01T00:00:00Z.
@@ -114,7 +113,7 @@ fn copied(alloc: Global, files: &Files) -> Result<Files, AllocError> {
 fn status_name(alloc: Global, status: Status) -> Result<String, AllocError> {
     match status {
         Status::Config { field, index } => {
-            let field = field_name(field);
+            let field = field.name();
             format!(in alloc; "Config {field} {index}")
         }
         status => format!(in alloc; "{status:?}"),

@@ -3,4 +3,5 @@
 
 pub mod capability;
 pub mod limits;
+pub mod names;
 pub mod user;

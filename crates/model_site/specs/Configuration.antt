@@ -10,6 +10,7 @@ use Rattle.model_json.specs.Json.{Reading, value, reading}
 use Rattle.model_json.specs.Parts.{as_list, as_text, list_at, text_at}
 use Rattle.model_core.specs.Names.{is_name}
 use Rattle.model_site.specs.TimeZones.{ZoneText, is_good_zone}
+use Rattle.model_site.specs.declared.limits.TheConstants.{MAX_ACCOUNTS, MAX_BASE_URL_BYTES, MAX_CONFIGURATION_BYTES, MAX_USERS, MAX_ZONES}
 use Rattle.model_site.specs.declared.field.Field.{Field}
 use Rattle.model_site.specs.declared.field.Field.TheVariants.{Json, BaseUrl, Accounts, Users, Zones}
 use Rattle.model_core.specs.declared.user.Grant.{Grant}
@@ -37,6 +38,14 @@ pub record Fault : Type 0 where
   pub field : Field
   pub index : ℕ
 
+-- the member that a field is, and `json` for the whole
+abbrev pub field_name : Field → List ℕ
+field_name Json = codes "json"
+field_name BaseUrl = codes "baseUrl"
+field_name Accounts = codes "accounts"
+field_name Users = codes "users"
+field_name Zones = codes "zones"
+
 -- ---- lists
 
 abbrev on_read : {X Y : Type 0} → ℕ → (X → Result Y ℕ) → Option X → Result Y ℕ
@@ -61,10 +70,10 @@ passing passes found = option_and_then (λ x. if passes x then Some x else None)
 
 -- a text of 1 to 1000 bytes
 abbrev pub is_base_url : List ℕ → Bool
-is_base_url text = nat_lt 0 (length text) && nat_le (length text) 1000
+is_base_url text = nat_lt 0 (length text) && nat_le (length text) MAX_BASE_URL_BYTES
 
 abbrev pub base_url_in : Data → Result (List ℕ) ℕ
-base_url_in d = on_read 0 Ok (passing is_base_url (text_at (codes "baseUrl") d))
+base_url_in d = on_read 0 Ok (passing is_base_url (text_at (field_name BaseUrl) d))
 
 abbrev pub has_account : List SiteAccount → List ℕ → Bool
 has_account accounts id = list_any (λ a. bytes_eq a.id id) accounts
@@ -81,7 +90,7 @@ account_in earlier d = passing (is_good_account earlier) (account_text d)
 
 -- 1 to 16 accounts
 abbrev pub accounts_in : Data → Result (List SiteAccount) ℕ
-accounts_in d = read_list 1 16 account_in (list_at (codes "accounts") d)
+accounts_in d = read_list 1 MAX_ACCOUNTS account_in (list_at (field_name Accounts) d)
 
 -- ---- users
 
@@ -137,7 +146,7 @@ user_in accounts earlier d = option_and_then (λ name. option_and_then (λ token
 
 -- 1 to 64 users
 abbrev pub users_in : List SiteAccount → Data → Result (List SiteUser) ℕ
-users_in accounts d = read_list 1 64 (user_in accounts) (list_at (codes "users") d)
+users_in accounts d = read_list 1 MAX_USERS (user_in accounts) (list_at (field_name Users) d)
 
 -- ---- zones
 
@@ -149,7 +158,7 @@ zone_in earlier d = passing (is_good_zone earlier) (zone_text d)
 
 -- at most 64 zones; the field may be absent
 abbrev pub zones_in : Data → Result (List ZoneText) ℕ
-zones_in d = read_list 0 64 zone_in (optional_list (field (codes "zones") d))
+zones_in d = read_list 0 MAX_ZONES zone_in (optional_list (field (field_name Zones) d))
 
 -- ---- the whole
 
@@ -170,7 +179,7 @@ site_read _ = Err (record { field = Json; index = 0 })
 
 -- a configuration has at most 1,000,000 bytes, which are a JSON object whose numbers are whole
 abbrev pub configured : List ℕ → Result Site Fault
-configured bytes = if nat_le (length bytes) 1000000 then site_read (reading bytes) else Err (record { field = Json; index = 0 })
+configured bytes = if nat_le (length bytes) MAX_CONFIGURATION_BYTES then site_read (reading bytes) else Err (record { field = Json; index = 0 })
 
 -- the site without a configuration: one user with one account
 abbrev pub built_in : Site

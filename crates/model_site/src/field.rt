@@ -1,4 +1,6 @@
 //! The fields of a configuration.
+ghost use Rattle.std.specs.Prelude.{◌≡◌};
+ghost use Rattle.model_site.specs.Configuration.{field_name};
 
 /// A field of a configuration, in the order in which they are read.
 #[derive(Clone, Copy, Debug, PartialEq, Eq, Drop)]
@@ -13,4 +15,19 @@ pub enum Field {
     Users,
     /// `zones`: the time zones, by name and POSIX rule.
     Zones,
+}
+
+impl Field {
+    /// The member of a configuration that the field is, and `json` for the whole. Takes no memory.
+    pub fn name(self) -> &'static str
+        ensures { result.now ≡ field_name self }
+    {
+        match self {
+            Field::Json => "json",
+            Field::BaseUrl => "baseUrl",
+            Field::Accounts => "accounts",
+            Field::Users => "users",
+            Field::Zones => "zones",
+        }
+    }
 }

@@ -2,3 +2,4 @@
 #![tactic(auto)]
 
 pub mod field;
+pub mod limits;

@@ -1,7 +1,6 @@
 //! Tables of worked rows, which programs read on standard input: their rows, the texts of their lines, and the count of rows.
 #![tactic(auto)]
 
-pub mod field;
 pub mod line;
 pub mod row;
 pub mod tally;

@@ -7,6 +7,7 @@ use Rattle.std.specs.Result.{result_ok}
 use Rattle.std.specs.Str.{bytes_eq}
 use Rattle.model_json.specs.Data.{Data, field}
 use Rattle.model_json.specs.Parts.{as_text, list_at, text_at}
+use Rattle.model_site.specs.declared.limits.TheConstants.{MAX_ACCOUNTS, MAX_USERS}
 use Rattle.model_site.specs.Configuration.{SiteAccount, SiteUser, account_in, accounts_in, grant_in, grant_to, grants_in, has_grant, is_good_token, is_good_user_name, optional_list, passing, read_behind, restrict, restrict_all, user_grants, user_in, users_in}
 use Rattle.model_core.specs.declared.user.Grant.{Grant}
 use Rattle.session_doc.proofs.ReadLists.{all_read, least_read, list_read, most_read}
@@ -83,7 +84,7 @@ module _ (accounts : List SiteAccount) where
           let same : record { token = token; user = record { name = name; grants = gs } } ≡ u = cc in
           subst (λ (v : SiteUser). HasAccounts v) same (grants_below d gs is)
 
-  pub users_few : (d : Data) (us : List SiteUser) → users_in accounts d ≡ Ok us → length us ≤ 64
+  pub users_few : (d : Data) (us : List SiteUser) → users_in accounts d ≡ Ok us → length us ≤ MAX_USERS
   users_few d us e = most_read (user_in accounts) 1 64 (list_at (codes "users") d) us e
 
   pub users_some : (d : Data) (us : List SiteUser) → users_in accounts d ≡ Ok us → 0 < length us
@@ -94,5 +95,5 @@ module _ (accounts : List SiteAccount) where
       let it = list_read (user_in accounts) 1 64 (list_at (codes "users") d) us e in
       all_read (user_in accounts) HasAccounts user_has it.0 us it.2
 
-pub accounts_few : (d : Data) (accounts : List SiteAccount) → accounts_in d ≡ Ok accounts → length accounts ≤ 16
+pub accounts_few : (d : Data) (accounts : List SiteAccount) → accounts_in d ≡ Ok accounts → length accounts ≤ MAX_ACCOUNTS
 accounts_few d accounts e = most_read account_in 1 16 (list_at (codes "accounts") d) accounts e

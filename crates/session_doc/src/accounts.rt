@@ -1,10 +1,12 @@
 //! The field `accounts`.
+ghost use Rattle.model_site.specs.declared.limits.TheConstants.{MAX_ACCOUNTS};
 ghost use Rattle.std.specs.Prelude.{◌≡◌, ◌≤◌, [], IfErr, IfOk, Ok, length, map};
 ghost use Rattle.model_site.specs.Configuration.{account_in, accounts_in, has_account, is_good_account, read_behind};
 ghost use Rattle.model_json.specs.TreeData.{data_of};
 ghost use Rattle.model_site.specs.declared.field.Field.TheVariants.{Accounts};
 ghost use Rattle.session_doc.specs.Reports.{ReportsField};
 
+use model_site::limits::MAX_ACCOUNTS;
 use crate::account::Account;
 use crate::configuration_error::{ConfigurationError, bad};
 use model_site::field::Field;
@@ -12,9 +14,6 @@ use model_json::text::Text;
 use model_json::tree::Tree;
 use std::alloc::{AllocError, Global};
 use time_text::read_id;
-
-/// The most accounts of a site.
-const MOST_ACCOUNTS: usize = 16;
 
 /// The accounts: 1 to 16, each with an id, which is an Id (RFC 8620 section 1.2) of no other, and a name. Takes memory for them.
 pub(crate) fn read_accounts(alloc: Global, tree: &Tree) -> Result<Vec<Account>, ConfigurationError>
@@ -24,14 +23,14 @@ pub(crate) fn read_accounts(alloc: Global, tree: &Tree) -> Result<Vec<Account>, 
     let Some(items) = tree.list_at("accounts") else {
         return Err(bad(Field::Accounts, 0));
     };
-    if items.is_empty() || items.len() > MOST_ACCOUNTS {
+    if items.is_empty() || items.len() > MAX_ACCOUNTS {
         return Err(bad(Field::Accounts, 0));
     }
     read_each(alloc, items)
 }
 
 fn read_each(alloc: Global, items: &[Tree]) -> Result<Vec<Account>, ConfigurationError>
-    requires { length items.now ≤ 16 }
+    requires { length items.now ≤ MAX_ACCOUNTS }
     ensures ok { IfOk result (λ accounts. read_behind account_in [] (map data_of items.now) ≡ Ok accounts.items) }
     ensures err { IfErr result (λ error. ReportsField Accounts error (read_behind account_in [] (map data_of items.now))) }
 {

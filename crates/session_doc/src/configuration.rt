@@ -5,6 +5,7 @@ ghost use Rattle.model_site.specs.Configuration.{configured, site_in, site_read}
 ghost use Rattle.model_json.specs.TreeData.{data_of};
 ghost use Rattle.session_doc.specs.Reports.{Reports};
 
+use model_site::limits::MAX_CONFIGURATION_BYTES;
 use crate::accounts::read_accounts;
 use crate::base_url::read_base_url;
 use crate::configuration_error::{ConfigurationError, bad};
@@ -17,9 +18,6 @@ use json_edge::read::{ReadError, read_tree};
 use std::alloc::Global;
 use std::sync::Arc;
 
-/// The most bytes of a configuration.
-const MOST_BYTES: usize = 1_000_000;
-
 impl Site {
     /// Reads a configuration: a JSON object of at most 1,000,000 bytes, whose numbers are whole.
     ///
@@ -28,7 +26,7 @@ impl Site {
         ensures ok { IfOk result (λ site. configured bytes.now ≡ Ok site) }
         ensures err { IfErr result (λ error. Reports error (configured bytes.now)) }
     {
-        if bytes.len() > MOST_BYTES {
+        if bytes.len() > MAX_CONFIGURATION_BYTES {
             return Err(bad(Field::Json, 0));
         }
         match read_tree(alloc, bytes) {

@@ -1,4 +1,5 @@
 //! The accounts that a user of a configuration may use.
+ghost use Rattle.model_site.specs.declared.limits.TheConstants.{MAX_ACCOUNTS};
 ghost use Rattle.std.specs.Prelude.{◌≡◌, ◌≤◌, [], IfOk, IfSome, Some, ◌<◌, if◌then◌else◌, length, map, option_map, position};
 ghost use Rattle.std.specs.List.{list_any};
 ghost use Rattle.std.specs.Str.{bytes_eq};
@@ -21,7 +22,7 @@ pub(crate) fn read_grants(
     accounts: &[Account],
     item: &Tree,
 ) -> Result<Option<Grants>, AllocError>
-    requires { length accounts.now ≤ 16 }
+    requires { length accounts.now ≤ MAX_ACCOUNTS }
     ensures { IfOk result (λ grants. grants ≡ user_grants accounts.now (data_of item.now)) }
 {
     let Some(read_only) = optional_list_at(item, "readOnly") else {
@@ -44,7 +45,7 @@ fn read_each(
     accounts: &[Account],
     ids: &[Tree],
 ) -> Result<Option<Vec<Grant>>, AllocError>
-    requires { length accounts.now ≤ 16 }
+    requires { length accounts.now ≤ MAX_ACCOUNTS }
     ensures { IfOk result (λ grants. option_map (λ v. v.items) grants ≡ grants_in accounts.now (map data_of ids.now)) }
 {
     let mut grants = Vec::with_capacity(alloc, ids.len())?;
@@ -63,7 +64,7 @@ fn read_grant(
     earlier: &[Grant],
     item: &Tree,
 ) -> Result<Option<Grant>, AllocError>
-    requires { length accounts.now ≤ 16 }
+    requires { length accounts.now ≤ MAX_ACCOUNTS }
     ensures { IfOk result (λ grant. grant ≡ grant_in accounts.now earlier.now (data_of item.now)) }
 {
     let Tree::Text(id) = item else {

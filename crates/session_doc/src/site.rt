@@ -1,4 +1,5 @@
 //! A site.
+ghost use Rattle.model_site.specs.declared.limits.TheConstants.{MAX_ACCOUNTS, MAX_USERS};
 ghost use Rattle.std.specs.Prelude.{◌≡◌, ◌<◌, ◌≤◌, All, IfSome, length, position, slice_index_or};
 ghost use Rattle.std.specs.Str.{bytes_eq};
 ghost use Rattle.std.specs.Arc.{arc_value};
@@ -31,7 +32,7 @@ impl Model for Site {
 
     ghost view = { λ a. record { base_url = a.base_url; accounts = a.accounts.items; users = a.users.items; zones = arc_value a.zones } };
 
-    ghost invariant = { λ a. (length a.accounts.items ≤ 16) × (0 < length a.users.items) × (length a.users.items ≤ 64) × HasItsAccounts (record { base_url = a.base_url; accounts = a.accounts.items; users = a.users.items; zones = arc_value a.zones }) };
+    ghost invariant = { λ a. (length a.accounts.items ≤ MAX_ACCOUNTS) × (0 < length a.users.items) × (length a.users.items ≤ MAX_USERS) × HasItsAccounts (record { base_url = a.base_url; accounts = a.accounts.items; users = a.users.items; zones = arc_value a.zones }) };
 }
 
 impl Site {
@@ -42,9 +43,9 @@ impl Site {
         users: Vec<SiteUser>,
         zones: Arc<Zones>,
     ) -> Site
-        requires few_accounts { length accounts.items ≤ 16 }
+        requires few_accounts { length accounts.items ≤ MAX_ACCOUNTS }
         requires some_users { 0 < length users.items }
-        requires few_users { length users.items ≤ 64 }
+        requires few_users { length users.items ≤ MAX_USERS }
         requires granted { HasItsAccounts (record { base_url = base_url; accounts = accounts.items; users = users.items; zones = arc_value zones }) }
         ensures { result ≡ record { base_url = base_url; accounts = accounts.items; users = users.items; zones = arc_value zones } }
     {

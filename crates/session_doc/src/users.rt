@@ -1,4 +1,5 @@
 //! The field `users`.
+ghost use Rattle.model_site.specs.declared.limits.TheConstants.{MAX_ACCOUNTS, MAX_USERS};
 ghost use Rattle.std.specs.Prelude.{◌≡◌, ◌≤◌, ◌&&◌, [], IfErr, IfOk, Ok, codes, length, map, not, option_map};
 ghost use Rattle.std.specs.List.{list_all, list_any};
 ghost use Rattle.std.specs.Char.{is_ascii_graphic};
@@ -11,6 +12,8 @@ ghost use Rattle.model_json.specs.TreeData.{data_of};
 ghost use Rattle.model_site.specs.declared.field.Field.TheVariants.{Users};
 ghost use Rattle.session_doc.specs.Reports.{ReportsField};
 
+use model_core::names::{is_name, is_token};
+use model_site::limits::MAX_USERS;
 use crate::account::Account;
 use crate::configuration_error::{ConfigurationError, bad};
 use crate::grants::read_grants;
@@ -21,12 +24,6 @@ use model_json::tree::Tree;
 use model_core::user::User;
 use std::alloc::{AllocError, Global};
 
-/// The most users of a site.
-const MOST_USERS: usize = 64;
-
-/// The most bytes of a user's name, and of a token.
-const MOST_BYTES: usize = 255;
-
 /// The users: 1 to 64, each with a name of 1 to 255 bytes and a token of 1 to 255 bytes from `!` to `~`, both of no
 /// other, and the accounts that the user may use. Takes memory for them.
 pub(crate) fn read_users(
@@ -34,14 +31,14 @@ pub(crate) fn read_users(
     accounts: &[Account],
     tree: &Tree,
 ) -> Result<Vec<SiteUser>, ConfigurationError>
-    requires { length accounts.now ≤ 16 }
+    requires { length accounts.now ≤ MAX_ACCOUNTS }
     ensures ok { IfOk result (λ users. users_in accounts.now (data_of tree.now) ≡ Ok users.items) }
     ensures err { IfErr result (λ error. ReportsField Users error (users_in accounts.now (data_of tree.now))) }
 {
     let Some(items) = tree.list_at("users") else {
         return Err(bad(Field::Users, 0));
     };
-    if items.is_empty() || items.len() > MOST_USERS {
+    if items.is_empty() || items.len() > MAX_USERS {
         return Err(bad(Field::Users, 0));
     }
     read_each(alloc, accounts, items)
@@ -52,8 +49,8 @@ fn read_each(
     accounts: &[Account],
     items: &[Tree],
 ) -> Result<Vec<SiteUser>, ConfigurationError>
-    requires few_accounts { length accounts.now ≤ 16 }
-    requires few { length items.now ≤ 64 }
+    requires few_accounts { length accounts.now ≤ MAX_ACCOUNTS }
+    requires few { length items.now ≤ MAX_USERS }
     ensures ok { IfOk result (λ users. read_behind (user_in accounts.now) [] (map data_of items.now) ≡ Ok users.items) }
     ensures err { IfErr result (λ error. ReportsField Users error (read_behind (user_in accounts.now) [] (map data_of items.now))) }
 {
@@ -74,7 +71,7 @@ fn read_user(
     earlier: &[SiteUser],
     item: &Tree,
 ) -> Result<Option<SiteUser>, AllocError>
-    requires { length accounts.now ≤ 16 }
+    requires { length accounts.now ≤ MAX_ACCOUNTS }
     ensures { IfOk result (λ user. user ≡ user_in accounts.now earlier.now (data_of item.now)) }
 {
     let Some(name) = good_name(earlier, item) else {
@@ -100,17 +97,11 @@ fn good_name<'a>(earlier: &[SiteUser], item: &'a Tree) -> Option<&'a Text>
     let Some(name) = item.text_at("name") else {
         return None;
     };
-    if is_name(name) && !has_name(earlier, name) {
+    if is_name(name.as_str()) && !has_name(earlier, name) {
         Some(name)
     } else {
         None
     }
-}
-
-fn is_name(name: &Text) -> bool
-    ensures { result ≡ is_name name.now }
-{
-    !name.as_str().is_empty() && name.as_str().len() <= MOST_BYTES
 }
 
 fn has_name(users: &[SiteUser], name: &Text) -> bool
@@ -133,18 +124,6 @@ fn good_token<'a>(earlier: &[SiteUser], item: &'a Tree) -> Option<&'a Text>
     } else {
         None
     }
-}
-
-fn is_token(text: &[u8]) -> bool
-    ensures { result ≡ is_token text.now }
-{
-    !text.is_empty() && text.len() <= MOST_BYTES && are_graphic(text)
-}
-
-fn are_graphic(bytes: &[u8]) -> bool
-    ensures { result ≡ list_all is_ascii_graphic bytes.now }
-{
-    bytes.iter().all(|byte| byte.is_ascii_graphic())
 }
 
 fn has_token(users: &[SiteUser], token: &Text) -> bool

@@ -1,10 +1,12 @@
 //! The field `zones`.
+ghost use Rattle.model_site.specs.declared.limits.TheConstants.{MAX_ZONES};
 ghost use Rattle.std.specs.Prelude.{◌≡◌, ◌≤◌, [], IfErr, IfOk, Ok, length, map};
 ghost use Rattle.model_site.specs.Configuration.{read_behind, zone_in, zone_text, zones_in};
 ghost use Rattle.model_json.specs.TreeData.{data_of};
 ghost use Rattle.session_doc.specs.LeadingZones.{leading_zones};
 ghost use Rattle.session_doc.specs.Reports.{ReportsField};
 
+use model_site::limits::MAX_ZONES;
 use crate::configuration_error::{ConfigurationError, bad};
 use crate::optional_list::optional_list_at;
 use model_site::field::Field;
@@ -12,9 +14,6 @@ use model_json::text::Text;
 use model_json::tree::Tree;
 use std::alloc::{AllocError, Global};
 use zone_table::{ZoneError, Zones};
-
-/// The most zones of a site.
-const MOST_ZONES: usize = 64;
 
 /// The time zones: at most 64, each with a name and a rule. Takes memory for them.
 pub(crate) fn read_zones(alloc: Global, tree: &Tree) -> Result<Zones, ConfigurationError>
@@ -24,14 +23,14 @@ pub(crate) fn read_zones(alloc: Global, tree: &Tree) -> Result<Zones, Configurat
     let Some(items) = optional_list_at(tree, "zones") else {
         return Err(bad(Field::Zones, 0));
     };
-    if items.len() > MOST_ZONES {
+    if items.len() > MAX_ZONES {
         return Err(bad(Field::Zones, 0));
     }
     read_each(alloc, items)
 }
 
 fn read_each(alloc: Global, items: &[Tree]) -> Result<Zones, ConfigurationError>
-    requires { length items.now ≤ 64 }
+    requires { length items.now ≤ MAX_ZONES }
     ensures ok { IfOk result (λ zones. read_behind zone_in [] (map data_of items.now) ≡ Ok zones) }
     ensures err { IfErr result (λ error. ReportsField Field.Zones error (read_behind zone_in [] (map data_of items.now))) }
 {

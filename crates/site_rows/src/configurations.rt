@@ -2,7 +2,6 @@
 use crate::lookups::lookups_differ;
 use json_edge::read::{ReadError, read_tree};
 use json_edge::write::tree_text;
-use row_table::field::field_name;
 use session_doc::{ConfigurationError, Site};
 use std::alloc::{AllocError, Global};
 
@@ -12,7 +11,7 @@ pub fn configured(alloc: Global, bytes: &[u8]) -> Result<String, AllocError> {
     match Site::read(alloc, bytes) {
         Ok(site) => site_text(alloc, &site, bytes),
         Err(ConfigurationError::Bad { field, index }) => {
-            let field = field_name(field);
+            let field = field.name();
             format!(in alloc; "{field} {index}")
         }
         Err(ConfigurationError::NoMemory) => Err(AllocError),

@@ -1,4 +1,5 @@
 //! The table of time zones.
+ghost use Rattle.model_site.specs.declared.limits.TheConstants.{MAX_ZONES};
 ghost use Rattle.std.specs.Prelude.{◌≡◌, ◌≤◌, [], None, IfErr, IfOk, IsTrue, OnOk, length};
 ghost use Rattle.std.specs.List.{list_any};
 ghost use Rattle.std.specs.Option.{SomeIff};
@@ -8,6 +9,7 @@ ghost use Rattle.model_core.specs.Names.{is_name};
 ghost use Rattle.model_site.specs.TimeZones.{first_bad_zone, has_zone, is_good_zone};
 ghost use Rattle.zone_table.specs.declared.zones.ZoneError.TheVariants.{NoMemory};
 
+use model_core::names::is_name;
 use crate::zone::Zone;
 use model_json::text::Text;
 use std::alloc::{AllocError, AllocFailed, Global};
@@ -15,9 +17,6 @@ use std::marker::Model;
 
 /// The name of the zone that is always there.
 const UTC: &str = "Etc/UTC";
-
-/// The most bytes of a zone's name.
-const MOST_NAME_BYTES: usize = 255;
 
 /// Why there is no table.
 #[derive(Clone, Copy, Debug, PartialEq, Eq)]
@@ -67,7 +66,7 @@ impl Zones {
     /// `BadZone` tells the first zone whose name is empty, longer than 255 bytes, `Etc/UTC` or that of an earlier zone, or
     /// whose rule `jiff` refuses. Takes memory for a copy of the list.
     pub fn read(alloc: Global, list: &[(Text, Text)]) -> Result<Zones, ZoneError>
-        requires { length list.now ≤ 64 }
+        requires { length list.now ≤ MAX_ZONES }
         ensures zones { IfOk result (λ zones. zones ≡ list.now) }
         ensures good { OnOk result (first_bad_zone [] list.now ≡ None) }
         ensures err { IfErr result (λ error. Reports error (first_bad_zone [] list.now)) }
@@ -103,16 +102,10 @@ impl Zones {
 fn good_zone(earlier: &[Zone], name: &Text, rule: &Text) -> Result<Option<Zone>, AllocError>
     ensures { IfOk result (λ zone. SomeIff zone (IsTrue (is_good_zone earlier.now (name.now, rule.now))) (name.now, rule.now)) }
 {
-    if !is_name(name) || has_zone(earlier, name) {
+    if !is_name(name.as_str()) || has_zone(earlier, name) {
         return Ok(None);
     }
     Zone::read(name, rule)
-}
-
-fn is_name(name: &Text) -> bool
-    ensures { result ≡ is_name name.now }
-{
-    !name.as_str().is_empty() && name.as_str().len() <= MOST_NAME_BYTES
 }
 
 fn has_zone(zones: &[Zone], name: &Text) -> bool
