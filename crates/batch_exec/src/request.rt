@@ -71,7 +71,7 @@ fn request_from_parts(
 fn capabilities_from(alloc: Global, member: Option<Tree>) -> Result<Option<Texts>, AllocError>
     ensures { IfOk result (λ o. o ≡ option_and_then (all_some as_text) (option_and_then as_list (option_map data_of member))) }
 {
-    match member.and_then(into_list) {
+    match member.and_then(Tree::into_list) {
         Some(list) => list.into_texts(alloc),
         None => Ok(None),
     }
@@ -82,7 +82,7 @@ fn capabilities_from(alloc: Global, member: Option<Tree>) -> Result<Option<Texts
 fn calls_from(alloc: Global, member: Option<Tree>) -> Result<Option<Invocations>, AllocError>
     ensures { IfOk result (λ o. o ≡ option_and_then (all_some invocation_of) (option_and_then as_list (option_map data_of member))) }
 {
-    let Some(list) = member.and_then(into_list) else {
+    let Some(list) = member.and_then(Tree::into_list) else {
         return Ok(None);
     };
     let items = list.into_items();

@@ -3,6 +3,7 @@ ghost use Rattle.std.specs.Prelude.{◌≡◌, IfOk, option_map};
 ghost use Rattle.std.specs.List.{find};
 ghost use Rattle.std.specs.Str.{bytes_eq};
 ghost use Rattle.model_batch.specs.References.{value_in_response, value_of_reference};
+ghost use Rattle.model_json.specs.Parts.{text_at};
 ghost use Rattle.model_json.specs.TreeData.{data_of};
 
 use crate::path::value_at_path;
@@ -21,13 +22,13 @@ pub(crate) fn value_of_reference(
 ) -> Result<Option<Tree>, AllocError>
     ensures { IfOk result (λ o. option_map data_of o ≡ value_of_reference responses.now (data_of reference.now)) }
 {
-    let result_of = reference.text_at("resultOf");
-    let name = reference.text_at("name");
-    let path = reference.text_at("path");
+    let result_of = text_at(reference, "resultOf");
+    let name = text_at(reference, "name");
+    let path = text_at(reference, "path");
     match (result_of, name, path) {
         (Some(result_of), Some(name), Some(path)) => {
-            match response_with_id(responses, result_of.as_str()) {
-                Some(response) => value_in_response(alloc, name.as_str(), path.as_str(), response),
+            match response_with_id(responses, result_of) {
+                Some(response) => value_in_response(alloc, name, path, response),
                 None => Ok(None),
             }
         }
@@ -47,6 +48,12 @@ fn value_in_response(
         return Ok(None);
     }
     value_at_path(alloc, path, &response.arguments)
+}
+
+fn text_at<'a>(reference: &'a Tree, key: &str) -> Option<&'a str>
+    ensures { option_map (λ s. s.now) result ≡ text_at key.now (data_of reference.now) }
+{
+    Some(reference.text_at(key)?.as_str())
 }
 
 // The first response to a call of this id.
