@@ -24,6 +24,7 @@ pub struct Site {
 }
 
 impl Model for Site {
+    ghost use Rattle.model_site.specs.declared.limits.TheConstants.{MAX_ACCOUNTS, MAX_USERS};
     ghost use Rattle.std.specs.Prelude.{◌<◌, ◌≤◌, length};
     ghost use Rattle.std.specs.Arc.{arc_value};
     ghost use Rattle.model_site.specs.Configuration.{HasItsAccounts, Site as Described};
