@@ -13,7 +13,8 @@ use Rattle.cal_model.specs.Answer.{entry_of, entries_from}
 use Rattle.cal_model.specs.Calendar.{new_calendar}
 use Rattle.model_json.specs.Data.{Pair}
 use Rattle.model_history.specs.History.{changes_of, next_number, state_at}
-use Rattle.cal_model.specs.Sets.{Outcome, accepted, refused, changes_in, max_entries, max_size, outcome_of, outcomes, size_of, size_of_object, within_quota}
+use Rattle.cal_model.specs.declared.limits.TheConstants.{MAX_ENTRIES, MAX_OBJECT_BYTES}
+use Rattle.cal_model.specs.Sets.{Outcome, accepted, refused, changes_in, outcome_of, outcomes, size_of, size_of_object, within_quota}
 use Rattle.cal_model.specs.declared.set_error.SetError.TheVariants.{OverQuota}
 use Rattle.model_history.specs.declared.entry.Change.{Change}
 use Rattle.model_history.specs.declared.entry.Entry.{Entry}
@@ -34,17 +35,17 @@ chosen false b x y = refl
 
 -- what comes of a create whose calendar has a text of n bytes is told by the tally
 outcome_by_tally : (t : Tally) (cs : List Change) (p : Pair) (c : Change) (n : ℕ) → Tallies t cs → c ≡ new_calendar (t.calendars + 1) p.1 → n ≡ size_of_object c.object
-    → outcome_of cs p ≡ (if nat_lt t.entries max_entries && not (nat_lt max_size (t.size + n)) then accepted c else refused OverQuota)
+    → outcome_of cs p ≡ (if nat_lt t.entries MAX_ENTRIES && not (nat_lt MAX_OBJECT_BYTES (t.size + n)) then accepted c else refused OverQuota)
 outcome_by_tally t cs p c n h made size =
     let here : new_calendar (next_number cs Calendar) p.1 ≡ c = ap (λ m. new_calendar m p.1) (next_is cs t.calendars h.numbers) ∙ sym made in
-    ap (within_quota cs) here ∙ rw (← h.entries, ← h.size, ← size) (chosen (nat_lt t.entries max_entries) (nat_lt max_size (t.size + n)) (refused OverQuota) (accepted c))
+    ap (within_quota cs) here ∙ rw (← h.entries, ← h.size, ← size) (chosen (nat_lt t.entries MAX_ENTRIES) (nat_lt MAX_OBJECT_BYTES (t.size + n)) (refused OverQuota) (accepted c))
 
 pub accepted_by_tally : (t : Tally) (cs : List Change) (p : Pair) (c : Change) (n : ℕ) (room : Bool) → Tallies t cs → c ≡ new_calendar (t.calendars + 1) p.1 → n ≡ size_of_object c.object
-    → room ≡ (nat_lt t.entries max_entries && not (nat_lt max_size (t.size + n))) → room ≡ true → accepted c ≡ outcome_of cs p
+    → room ≡ (nat_lt t.entries MAX_ENTRIES && not (nat_lt MAX_OBJECT_BYTES (t.size + n))) → room ≡ true → accepted c ≡ outcome_of cs p
 accepted_by_tally t cs p c n room h made size is answer = sym (outcome_by_tally t cs p c n h made size ∙ ap (λ b. if b then accepted c else refused OverQuota) (sym is ∙ answer))
 
 pub refused_by_tally : (t : Tally) (cs : List Change) (p : Pair) (c : Change) (n : ℕ) (room : Bool) → Tallies t cs → c ≡ new_calendar (t.calendars + 1) p.1 → n ≡ size_of_object c.object
-    → room ≡ (nat_lt t.entries max_entries && not (nat_lt max_size (t.size + n))) → room ≡ false → refused OverQuota ≡ outcome_of cs p
+    → room ≡ (nat_lt t.entries MAX_ENTRIES && not (nat_lt MAX_OBJECT_BYTES (t.size + n))) → room ≡ false → refused OverQuota ≡ outcome_of cs p
 refused_by_tally t cs p c n room h made size is answer = sym (outcome_by_tally t cs p c n h made size ∙ ap (λ b. if b then accepted c else refused OverQuota) (sym is ∙ answer))
 
 -- the tally that counts the calendar too

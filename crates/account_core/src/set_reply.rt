@@ -81,19 +81,16 @@ fn created(alloc: Global, create: &Member, change: &Change) -> Result<Member, Al
 }
 
 /// A SetError as clients see it (RFC 8620 section 5.3).
-fn set_error_tree(alloc: Global, error: SetError) -> Result<Tree, AllocError>
-    ensures { IfOk result (λ t. data_of t ≡ set_error error) }
+fn set_error_tree(alloc: Global, error: &SetError) -> Result<Tree, AllocError>
+    ensures { IfOk result (λ t. data_of t ≡ set_error error.now) }
 {
-    let name = match error {
-        SetError::OverQuota => "overQuota",
-    };
-    let name = Tree::Text(Text::from_str(alloc, name)?);
+    let name = Tree::Text(Text::from_str(alloc, error.name())?);
     Tree::object(alloc, vec![in alloc; ("type", name)]?)
 }
 
 /// What the reply tells of a create that was refused.
-fn not_created(alloc: Global, create: &Member, error: SetError) -> Result<Member, AllocError>
-    ensures { IfOk result (λ m. pair_of m ∷ [] ≡ not_created_member (pair_of create.now) (refused error)) }
+fn not_created(alloc: Global, create: &Member, error: &SetError) -> Result<Member, AllocError>
+    ensures { IfOk result (λ m. pair_of m ∷ [] ≡ not_created_member (pair_of create.now) (refused error.now)) }
 {
     let key = create.key.copy()?;
     let value = set_error_tree(alloc, error)?;
@@ -132,7 +129,7 @@ fn all_not_created(
     for (i, create) in creates.iter().enumerate() {
         match &outcomes[i] {
             Outcome::Accepted(_) => {}
-            Outcome::Refused(error) => all.push(not_created(alloc, create, *error)?)?,
+            Outcome::Refused(error) => all.push(not_created(alloc, create, error)?)?,
         }
     }
     Ok(all)

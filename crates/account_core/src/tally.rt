@@ -1,12 +1,8 @@
 //! How much an account holds.
 ghost use Rattle.std.specs.Prelude.{◌≡◌, ◌+◌, ◌≤◌, ◌&&◌, ◌<◌, nat_lt, not};
-ghost use Rattle.cal_model.specs.Sets.{max_entries, max_size};
+ghost use Rattle.cal_model.specs.declared.limits.TheConstants.{MAX_ENTRIES, MAX_OBJECT_BYTES};
 
-/// The most entries of an account.
-pub const MAX_ENTRIES: usize = 50_000;
-
-/// The most bytes of the compact texts of all objects that an account's entries put.
-pub const MAX_SIZE: usize = 16_777_216;
+use cal_model::limits::{MAX_ENTRIES, MAX_OBJECT_BYTES};
 
 /// How much an account holds, and how many calendars it has had. It tells whether a change is within the quota, and the
 /// number of the next calendar, without going over the history.
@@ -18,8 +14,8 @@ pub struct Tally {
     pub size: usize,
     /// How many calendars were created, with the numbers from 1 on, in order.
     pub calendars: u64,
-    ghost few: { entries ≤ max_entries },
-    ghost small: { size ≤ max_size },
+    ghost few: { entries ≤ MAX_ENTRIES },
+    ghost small: { size ≤ MAX_OBJECT_BYTES },
     ghost numbered: { calendars ≤ entries },
 }
 
@@ -40,15 +36,15 @@ impl Tally {
 
     /// Whether one more entry is within the quota, whose object has a text of this many bytes. Takes no memory.
     pub fn has_room(&self, size: usize) -> bool
-        ensures { result ≡ (nat_lt self.now.entries MAX_ENTRIES && not (nat_lt MAX_SIZE (self.now.size + size))) }
+        ensures { result ≡ (nat_lt self.now.entries MAX_ENTRIES && not (nat_lt MAX_OBJECT_BYTES (self.now.size + size))) }
     {
-        self.entries < MAX_ENTRIES && size <= MAX_SIZE - self.size
+        self.entries < MAX_ENTRIES && size <= MAX_OBJECT_BYTES - self.size
     }
 
     /// Counts one more entry, which creates a calendar with a text of this many bytes. Takes no memory.
     pub fn count_calendar(&mut self, size: usize)
         requires few { self.old.entries < MAX_ENTRIES }
-        requires small { self.old.size + size ≤ MAX_SIZE }
+        requires small { self.old.size + size ≤ MAX_OBJECT_BYTES }
         ensures entries { self.new.entries ≡ self.old.entries + 1 }
         ensures size { self.new.size ≡ self.old.size + size }
         ensures calendars { self.new.calendars ≡ self.old.calendars + 1 }

@@ -9,6 +9,7 @@ use Rattle.model_json.specs.Json.{text_of}
 use Rattle.model_json.specs.Parts.{members_in}
 use Rattle.model_json.specs.SameData.{same_data}
 use Rattle.model_json.specs.TreeData.{data_of}
+use Rattle.cal_model.specs.declared.limits.TheConstants.{MAX_ENTRIES, MAX_OBJECT_BYTES}
 use Rattle.cal_model.specs.declared.set_error.SetError.{SetError}
 use Rattle.cal_model.specs.declared.set_error.SetError.TheVariants.{OverQuota}
 use Rattle.model_history.specs.declared.entry.Change.{Change}
@@ -33,16 +34,9 @@ size_of_object (Some t) = length (text_of (data_of t))
 abbrev pub size_of : List Change → ℕ
 size_of cs = sum_by (λ c. size_of_object c.object) cs
 
--- the most entries of an account, and the most bytes of all their objects' texts
-abbrev pub max_entries : ℕ
-max_entries = 50000
-
-abbrev pub max_size : ℕ
-max_size = 16777216
-
 -- one change more is more than an account may have
 abbrev pub exceeds_quota : List Change → Change → Bool
-exceeds_quota cs c = not (nat_lt (length cs) max_entries) || nat_lt max_size (size_of cs + size_of_object c.object)
+exceeds_quota cs c = not (nat_lt (length cs) MAX_ENTRIES) || nat_lt MAX_OBJECT_BYTES (size_of cs + size_of_object c.object)
 
 abbrev pub within_quota : List Change → Change → Outcome
 within_quota cs c = if exceeds_quota cs c then refused OverQuota else accepted c

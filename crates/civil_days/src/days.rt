@@ -2,7 +2,7 @@
 ghost use Rattle.std.specs.Prelude.{◌≡◌, ◌+◌, ◌/◌, ◌<◌, ◌≤◌, ◌^◌, ◌-ℤ◌, unsigned_abs, IfSome};
 ghost use Rattle.std.specs.Int.{int_rem_euclid};
 ghost use Rattle.std.specs.Option.{SomeIff};
-ghost use Rattle.model_time.specs.CivilDay.{IsDate, day_number, year_of, month_of, day_of_month, weekday_of};
+ghost use Rattle.model_time.specs.CivilDay.{IsDate, IsDateOf, day_number, year_of, month_of, day_of_month, weekday_of};
 
 use crate::Civil;
 use jiff_core::civil::Date;
@@ -25,6 +25,7 @@ pub fn civil(day: i64) -> Civil
     ensures year { result.year ≡ year_of day }
     ensures month { result.month ≡ month_of day }
     ensures day { result.day ≡ day_of_month day }
+    ensures date { IsDateOf day result.year result.month result.day }
 
     // So a caller knows that `day_of` takes the year of a day of size below 2^41.
     ensures bound { unsigned_abs result.year ≤ unsigned_abs day / 365 + 1970 }

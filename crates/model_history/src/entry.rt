@@ -1,10 +1,9 @@
 //! The history of an account.
-ghost use Rattle.std.specs.Prelude.{◌≡◌, IfOk};
+ghost use Rattle.std.specs.Prelude.{◌≡◌};
 ghost use Rattle.model_history.specs.History.{is_kind};
 
 use model_json::tree::Tree;
 use model_time::moment::Moment;
-use std::alloc::AllocError;
 
 /// The kinds of object that an account holds, each with a state and with numbers of its own.
 #[derive(Clone, Copy, Debug, PartialEq, Eq, Drop)]
@@ -52,36 +51,4 @@ pub struct Entry {
     pub moment: Moment,
     /// What was changed.
     pub change: Change,
-}
-
-impl Change {
-    /// Gives an equal change.
-    pub fn copy(&self) -> Result<Change, AllocError>
-        ensures { IfOk result (λ c. c ≡ self.now) }
-    {
-        let object = match &self.object {
-            None => None,
-            Some(tree) => Some(tree.copy()?),
-        };
-        Ok(Change {
-            kind: self.kind,
-            id: self.id,
-            object,
-        })
-    }
-}
-
-impl Entry {
-    /// Gives an equal entry.
-    pub fn copy(&self) -> Result<Entry, AllocError>
-        ensures { IfOk result (λ e. e ≡ self.now) }
-    {
-        Ok(Entry {
-            author: self.author,
-            turn: self.turn,
-            part: self.part,
-            moment: self.moment,
-            change: self.change.copy()?,
-        })
-    }
 }

@@ -26,5 +26,6 @@ returns c =
     let result_fits : FitsSigned w64 result = omega (arith, signed_arith) in
     let year : result ≡ date.year +ℤ cycle *ℤ pos 400 = omega (arith, signed_arith) in
     let day : c.args.day ≡ cycles_later (epoch_day date) cycle = omega (arith, signed_arith) in
-    let same = (one_date c.args.day).only result date.month date.day (IsDateOf_later c.args.day result cycle date year day) in
-    simp to_z-of_z (record { year = same.0; month = same.1; day = same.2; bound = rw same.0 (year_of_size c.args.day) })
+    let is = IsDateOf_later c.args.day result cycle date year day in
+    let same = (one_date c.args.day).only result date.month date.day is in
+    simp to_z-of_z (record { year = same.0; month = same.1; day = same.2; date = is; bound = rw same.0 (year_of_size c.args.day) })
