@@ -1,5 +1,6 @@
 //! What holds of a lock between any two steps of any threads.
 ghost use Rattle.account_lock.specs.Lock.{IsTicketLock};
+ghost use Rattle.account_lock.specs.LockSteps.{HasCome};
 ghost use Rattle.account_lock.specs.Rule.{lock_of};
 
 use crate::rule::LockRule;
@@ -13,4 +14,10 @@ use std::snapshot::Snapshot;
 pub fn holds_between_steps<B: Book>()
     ensures law { (opened : _) (s : _) → ⟦<LockRule<B> as TableRule<Option<B>, View, Snapshot<B>>>⟧.holds opened s
         → IsTicketLock B.entries B.base (B.entries opened.value) (B.base opened.value) (lock_of s) }
+{}
+
+/// Each such state came of the lock as it was opened by steps of the eight kinds, each where it may come, and by no other.
+pub fn comes_by_steps<B: Book>()
+    ensures law { (opened : _) (s : _) → ⟦<LockRule<B> as TableRule<Option<B>, View, Snapshot<B>>>⟧.holds opened s
+        → HasCome B.entries B.base (B.entries opened.value) (B.base opened.value) (lock_of s) }
 {}
