@@ -1,7 +1,7 @@
 -- The rule of the lock's table makes the table a ticket lock.
 use Rattle.std.proofs.Common.{◌≡◌, ℕ, zero, suc, ◌<◌, ◌≤◌, List, [], ◌∷◌, length, sym, refl, ap, ◌∙◌, subst, ⊎_elim, arith, Option, Some, None, slice_get}
 use Rattle.std.specs.Prelude.{slice_index_or}
-use mathlib.Core.Option.{some, some-injective, some-ne-none}
+use mathlib.Core.Option.{some}
 use Rattle.atomic_table.specs.Table.{State}
 use Rattle.model_history.specs.Base.{Base}
 use Rattle.account_lock.specs.Lock.{PassView, IsTicketLock}
@@ -9,7 +9,7 @@ use Rattle.model_history.specs.Signed.{written_by}
 use Rattle.model_history.specs.declared.entry.Entry.{Entry}
 use Rattle.account_lock.specs.HistoryRule.{AuthorsBelow, TurnsUpTo, TurnsFrom, TurnsRise}
 use Rattle.account_lock.specs.Rule.{RuleHolds, lock_of, slot_of}
-use Rattle.account_lock.specs.LockSteps.{HasCome}
+use Rattle.account_lock.specs.LockSteps.{IsReached}
 use Rattle.account_lock.specs.TicketRule.{At}
 use Rattle.account_lock.proofs.ViewLemmas.{at_inside, get_from_at}
 
@@ -95,5 +95,5 @@ module _ {B : Type 0} (entries : B → List Entry) (base : B → Base) where
       } in
       subst (λ (ws : List ℕ). IsTicketLock entries base o z (lock_of (record { words = ws; homes = s.homes; views = s.views }))) (sym r.words) lock
 
-  pub has_come : (o : List Entry) (z : Base) (s : State (Option B) PassView) → RuleHolds entries base o z s → HasCome entries base o z (lock_of s)
-  has_come o z s r = subst (λ (ws : List ℕ). HasCome entries base o z (lock_of (record { words = ws; homes = s.homes; views = s.views }))) (sym r.words) r.came
+  pub is_reached : (o : List Entry) (z : Base) (s : State (Option B) PassView) → RuleHolds entries base o z s → IsReached entries base o z (lock_of s)
+  is_reached o z s r = subst (λ (ws : List ℕ). IsReached entries base o z (lock_of (record { words = ws; homes = s.homes; views = s.views }))) (sym r.words) r.reached

@@ -9,7 +9,7 @@ use Rattle.atomic_table.proofs.Lists.{at_longer, set_here, set_else, set_again}
 use Rattle.model_history.specs.Base.{Base}
 use Rattle.model_history.specs.MostTurns.{most_turns}
 use Rattle.account_lock.specs.Lock.{PassView, TicketLock, in_line, has_turn, has_read}
-use Rattle.account_lock.specs.LockSteps.{with_ticket, with_turn, having_read, having_added, out_of_line, new_pass, having_split, split_off, StepKind, MayCome, Makes, HasCome}
+use Rattle.account_lock.specs.LockSteps.{with_ticket, with_turn, having_read, having_added, out_of_line, new_pass, having_split, split_off, StepKind, MayCome, Makes, IsReached}
 use Rattle.account_lock.specs.LockSteps as kind
 use Rattle.model_history.specs.Signed.{AreSigned, Extends}
 use Rattle.model_history.specs.declared.entry.Entry.{Entry}
@@ -53,8 +53,8 @@ module _ {B : Type 0} (entries : B → List Entry) (base : B → Base) (o : List
       slot
 
   -- one step more
-  comes : (l m : TicketLock B) (k : StepKind B) (id : ℕ) (v : PassView) → HasCome entries base o z l → At l.views id v → MayCome entries base k v → Makes entries base k id v l m → HasCome entries base o z m
-  comes l m k id v came at may makes = (l ∷ came.0, ((k, id, v, get_from_at l.views id v at, may, makes), came.1))
+  one_more : (l m : TicketLock B) (k : StepKind B) (id : ℕ) (v : PassView) → IsReached entries base o z l → At l.views id v → MayCome entries base k v → Makes entries base k id v l m → IsReached entries base o z m
+  one_more l m k id v reached at may makes = (l ∷ reached.0, ((k, id, v, get_from_at l.views id v at, may, makes), reached.1))
 
   -- while a pass has the turn, the slot is out
   slot_is_out : (h : List Entry) (s : State (Option B) PassView) (id : ℕ) (v : PassView) → SlotHolds entries base z h s → At s.views id v → IsTrue (has_turn v.phase) → slot_of s.homes ≡ None
@@ -103,7 +103,7 @@ module _ {B : Type 0} (entries : B → List Entry) (base : B → Base) (o : List
           timed = each (λ i u. TurnsUpTo u.turns u.mine × TurnsRise u.mine) (tt, tt);
         };
         slot = inl (b, refl, is_base, is_entries, each (λ i u. IsTrue (has_turn u.phase) → ⊥) (λ b. absurd (false≢true b)));
-        came = ([], (b, is_entries, is_base, refl));
+        reached = ([], (b, is_entries, is_base, refl));
       }
 
   pub takes_ticket : (slots id : ℕ) (me : Me (Option B) PassView) → me.0.phase ≡ Idle → me.0.turns < most_turns
@@ -127,7 +127,7 @@ module _ {B : Type 0} (entries : B → List Entry) (base : B → Base) (o : List
           tickets = subst (λ (x : ℕ). TicketsHold (r.ticket + 1) r.serving (set s.views id (with_ticket me.0 x))) (sym is) (issue r.ticket r.serving s.views id me.0 r.tickets at idle);
           told = history_stays o z r.history r.count s.views id me.0 w r.told at refl refl refl refl (omega arith) (λ read. absurd (false≢true read)) (λ turn. absurd (false≢true (ap has_turn turn)));
           slot = slot_stays r.history s 0 ((k + 1) % 2 ^ 64) id me w r.slot at (sym (ap has_turn idle));
-          came = comes (lock_at r.ticket r.serving r.count s) (lock_at (r.ticket + 1) r.serving r.count (stepped s 0 ((k + 1) % 2 ^ 64) id me.1 w keeps)) kind.takes_ticket id me.0 r.came at (idle, less)
+          reached = one_more (lock_at r.ticket r.serving r.count s) (lock_at (r.ticket + 1) r.serving r.count (stepped s 0 ((k + 1) % 2 ^ 64) id me.1 w keeps)) kind.takes_ticket id me.0 r.reached at (idle, less)
               (ap (λ (x : ℕ). lock_at (r.ticket + 1) r.serving r.count (stepped s 0 ((k + 1) % 2 ^ 64) id me.1 (with_ticket me.0 x) keeps)) is);
         },
         refl,
@@ -160,7 +160,7 @@ module _ {B : Type 0} (entries : B → List Entry) (base : B → Base) (o : List
           tickets = tickets_stay r.ticket r.serving s.views id me.0 w r.tickets at refl refl (sym waits_in_line) (λ _. sym hit ∙ is);
           told = history_stays o z r.history r.count s.views id me.0 w r.told at refl refl refl refl (omega arith) (λ read. absurd (false≢true read)) (λ _. λ k. (home.2 k, home.3 k));
           slot = inr (ap (λ (x : List _). set x 0 none) home.1, (id, w, set_here s.views id w (at_inside s.views id me.0 at), refl));
-          came = comes (lock_at r.ticket r.serving r.count s) (lock_at r.ticket r.serving r.count (stepped s 1 k id me.1 w (takes 0 (Some b)))) kind.looks id me.0 r.came at waits
+          reached = one_more (lock_at r.ticket r.serving r.count s) (lock_at r.ticket r.serving r.count (stepped s 1 k id me.1 w (takes 0 (Some b)))) kind.looks id me.0 r.reached at waits
               ((λ not. absurd (not (sym is ∙ hit))), λ _. (b, ap slot_of home.1, ap (λ (x : List _). record (lock_at r.ticket r.serving r.count s) { slot = slot_of (set x 0 none); views = set s.views id w }) home.1));
         },
         ((λ _. (b, refl, home.2 ∙ sym same, subst (λ (x : ℕ × List Entry). Extends x.0 me.0.seen x.1) (λ k. (sym (r.passes.number id me.0 at) k, sym home.3 k)) (unseen_of_others o z r.history r.count s.views id me.0 r.told at))), λ not. absurd (not hit)),
@@ -192,7 +192,7 @@ module _ {B : Type 0} (entries : B → List Entry) (base : B → Base) (o : List
           tickets = tickets_stay r.ticket r.serving s.views id me.0 w r.tickets at refl refl (sym (ap in_line turn)) (λ _. r.tickets.served id me.0 at in_turn);
           told = history_read o z r.history r.count s.views id me.0 r.told at turn;
           slot = slot_stays r.history s 2 k id me w r.slot at (sym in_turn);
-          came = comes (lock_at r.ticket r.serving r.count s) (lock_at r.ticket r.serving r.count (stepped s 2 k id me.1 w keeps)) kind.reads_count id me.0 r.came at turn (whole, refl);
+          reached = one_more (lock_at r.ticket r.serving r.count s) (lock_at r.ticket r.serving r.count (stepped s 2 k id me.1 w keeps)) kind.reads_count id me.0 r.reached at turn (whole, refl);
         },
         (refl, is ∙ whole),
       )
@@ -219,7 +219,7 @@ module _ {B : Type 0} (entries : B → List Entry) (base : B → Base) (o : List
           tickets = tickets_stay r.ticket r.serving s.views id me.0 w r.tickets at refl refl (sym (ap in_line read)) (λ _. r.tickets.served id me.0 at in_turn);
           told = history_grows o z r.history r.count s.views id me.0 xs r.told at (ap has_read read) (only_turn r.ticket r.serving s.views id me.0 r.tickets at in_turn) by_place;
           slot = ⊎_elim (λ home. absurd (home.4 id me.0 at in_turn)) (λ out. inr (out.0, taken_stays s.views id me.0 w out.1 at (sym in_turn))) r.slot;
-          came = comes (lock_at r.ticket r.serving r.count s) (lock_at r.ticket r.serving (r.count + length xs) (stepped s 2 ((r.count + k) % 2 ^ 64) id me.1 w keeps)) (kind.adds_entries xs) id me.0 r.came at (read, signed) refl;
+          reached = one_more (lock_at r.ticket r.serving r.count s) (lock_at r.ticket r.serving (r.count + length xs) (stepped s 2 ((r.count + k) % 2 ^ 64) id me.1 w keeps)) (kind.adds_entries xs) id me.0 r.reached at (read, signed) refl;
         },
         refl,
       )
@@ -253,7 +253,7 @@ module _ {B : Type 0} (entries : B → List Entry) (base : B → Base) (o : List
             is_entries ∙ r.told.read id me.0 at (ap has_read done),
             each_set (λ i u. IsTrue (has_turn u.phase) → ⊥) s.views id w (only_turn r.ticket r.serving s.views id me.0 r.tickets at in_turn) (λ turn. absurd (false≢true turn)),
           );
-          came = comes (lock_at r.ticket r.serving r.count s) (lock_at r.ticket (r.serving + 1) r.count (stepped s 1 ((get_or s.words 1 0 + 1) % 2 ^ 64) id me.1 w gives)) (kind.gives_turn b) id me.0 r.came at (done, is_entries, is_base)
+          reached = one_more (lock_at r.ticket r.serving r.count s) (lock_at r.ticket (r.serving + 1) r.count (stepped s 1 ((get_or s.words 1 0 + 1) % 2 ^ 64) id me.1 w gives)) (kind.gives_turn b) id me.0 r.reached at (done, is_entries, is_base)
               (slot_is_out r.history s id me.0 r.slot at in_turn, r.told.counted ∙ ap length (sym (r.told.read id me.0 at (ap has_read done))), ap (λ (x : List _). record (lock_at r.ticket (r.serving + 1) r.count s) { slot = slot_of x; views = set s.views id w }) homes);
         },
         refl,
@@ -279,6 +279,6 @@ module _ {B : Type 0} (entries : B → List Entry) (base : B → Base) (o : List
             (λ home. inl (home.0, home.1, home.2, home.3, each_last (λ i u. IsTrue (has_turn u.phase) → ⊥) ws y (untaken_stays s.views 0 v w home.4 at' refl) (λ turn. absurd (false≢true turn))))
             (λ out. let m = taken_stays s.views 0 v w out.1 at' refl in inr (out.0, (m.0, m.1, at_longer ws (y ∷ []) m.0 m.1 m.2, m.3)))
             r.slot;
-        came = comes (lock_at r.ticket r.serving r.count s) (lock_at r.ticket r.serving r.count (record { words = s.words; homes = s.homes; views = ws ++ y ∷ [] })) kind.splits_pass 0 v r.came at' (first, few) refl;
+        reached = one_more (lock_at r.ticket r.serving r.count s) (lock_at r.ticket r.serving r.count (record { words = s.words; homes = s.homes; views = ws ++ y ∷ [] })) kind.splits_pass 0 v r.reached at' (first, few) refl;
       } in
       subst (λ (k : ℕ). Rule (record { words = s.words; homes = s.homes; views = set s.views k w ++ y ∷ [] })) (sym is_first) made

@@ -1,5 +1,5 @@
 -- The eight kinds of step of a ticket lock: what each makes of the view of the pass that steps, when it may come, and what it makes of the lock.
-use Rattle.std.specs.Prelude.{◌≡◌, ◌≢◌, ℕ, ◌+◌, ◌<◌, List, [], ◌∷◌, ◌++◌, length, slice_get, slice_set, Option, Some, None}
+use Rattle.std.specs.Prelude.{◌≡◌, ◌≢◌, ℕ, ◌+◌, ◌<◌, List, [], ◌∷◌, ◌++◌, length, slice_get, slice_set, Some, None}
 use Rattle.model_history.specs.Base.{Base}
 use Rattle.model_history.specs.MostTurns.{most_turns}
 use Rattle.model_history.specs.Signed.{AreSigned}
@@ -80,10 +80,10 @@ module _ {B : Type 0} (entries : B → List Entry) (base : B → Base) where
     abbrev pub IsOpened : TicketLock B → Type 0
     IsOpened l = (b : B) × (entries b ≡ opened) × (base b ≡ lock_base) × (l ≡ record { ticket = 0; serving = 0; count = length opened; slot = Some b; views = new_pass 0 opened lock_base ∷ [] })
 
-    -- the lock came of the opened one by steps, by way of these, the last one first
-    abbrev pub CameBy : List (TicketLock B) → TicketLock B → Type 0
-    CameBy [] l = IsOpened l
-    CameBy (k ∷ ks) l = IsStep k l × CameBy ks k
+    -- steps lead to the lock from the opened one, by way of these, the last one first
+    abbrev pub IsReachedBy : List (TicketLock B) → TicketLock B → Type 0
+    IsReachedBy [] l = IsOpened l
+    IsReachedBy (k ∷ ks) l = IsStep k l × IsReachedBy ks k
 
-    abbrev pub HasCome : TicketLock B → Type 0
-    HasCome l = (ks : List (TicketLock B)) × CameBy ks l
+    abbrev pub IsReached : TicketLock B → Type 0
+    IsReached l = (ks : List (TicketLock B)) × IsReachedBy ks l

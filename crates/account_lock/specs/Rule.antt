@@ -5,7 +5,7 @@ use mathlib.Core.Option as table
 use Rattle.atomic_table.specs.Table.{State}
 use Rattle.model_history.specs.Base.{Base}
 use Rattle.account_lock.specs.Lock.{PassView, TicketLock, has_turn}
-use Rattle.account_lock.specs.LockSteps.{HasCome}
+use Rattle.account_lock.specs.LockSteps.{IsReached}
 use Rattle.model_history.specs.declared.entry.Entry.{Entry}
 use Rattle.account_lock.specs.TicketRule.{At, TicketsHold, PassesHold}
 use Rattle.account_lock.specs.HistoryRule.{HistoryHolds}
@@ -40,4 +40,4 @@ module _ {B : Type 0} (entries : B → List Entry) (base : B → Base) where
     pub tickets : TicketsHold ticket serving s.views
     pub told : HistoryHolds opened z history count s.views
     pub slot : SlotHolds z history s
-    pub came : HasCome entries base opened z (lock_at ticket serving count s)
+    pub reached : IsReached entries base opened z (lock_at ticket serving count s)
