@@ -9,7 +9,7 @@ use Rattle.atomic_table.proofs.Lists.{at_longer, set_here, set_else, set_again}
 use Rattle.model_history.specs.Base.{Base}
 use Rattle.model_history.specs.MostTurns.{most_turns}
 use Rattle.account_lock.specs.Lock.{PassView, TicketLock, in_line, has_turn, has_read}
-use Rattle.account_lock.specs.LockSteps.{with_ticket, with_turn, having_read, having_added, out_of_line, new_pass, having_split, split_off, StepKind, MayCome, Makes, IsReached}
+use Rattle.account_lock.specs.LockSteps.{with_ticket, with_turn, having_read, having_added, out_of_line, new_pass, having_split, split_off, StepKind, MayCome, ChangesLock, IsReached}
 use Rattle.account_lock.specs.LockSteps as kind
 use Rattle.model_history.specs.Signed.{AreSigned, Extends}
 use Rattle.model_history.specs.declared.entry.Entry.{Entry}
@@ -53,7 +53,7 @@ module _ {B : Type 0} (entries : B → List Entry) (base : B → Base) (o : List
       slot
 
   -- one step more
-  one_more : (l m : TicketLock B) (k : StepKind B) (id : ℕ) (v : PassView) → IsReached entries base o z l → At l.views id v → MayCome entries base k v → Makes entries base k id v l m → IsReached entries base o z m
+  one_more : (l m : TicketLock B) (k : StepKind B) (id : ℕ) (v : PassView) → IsReached entries base o z l → At l.views id v → MayCome entries base k v → ChangesLock entries base k id v l m → IsReached entries base o z m
   one_more l m k id v reached at may makes = (l ∷ reached.0, ((k, id, v, get_from_at l.views id v at, may, makes), reached.1))
 
   -- while a pass has the turn, the slot is out

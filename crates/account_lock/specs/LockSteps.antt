@@ -62,19 +62,19 @@ module _ {B : Type 0} (entries : B → List Entry) (base : B → Base) where
   MayCome splits_pass v = (v.number ≡ 0) × (v.splits + 1 < 256)
 
   -- What a step of a kind finds in the lock and makes of it, the view being the i-th. All else stays. From a look that finds the ticket until the turn is given the slot is with the pass: to take the book out and to return it changes what that has in hand, and not the lock.
-  abbrev pub Makes : StepKind B → ℕ → PassView → TicketLock B → TicketLock B → Type 0
-  Makes takes_ticket i v l m = m ≡ record l { ticket = l.ticket + 1; views = slice_set l.views i (with_ticket v l.ticket) }
-  Makes looks i v l m = (l.serving ≢ v.ticket → m ≡ l) × (l.serving ≡ v.ticket → (b : B) × (l.slot ≡ Some b) × (m ≡ record l { slot = None; views = slice_set l.views i (with_turn v (base b) (entries b)) }))
-  Makes takes_book i v l m = (l.slot ≡ None) × (m ≡ l)
-  Makes reads_count i v l m = (l.count ≡ length v.hand.1) × (m ≡ record l { views = slice_set l.views i (having_read v) })
-  Makes (adds_entries added) i v l m = m ≡ record l { count = l.count + length added; views = slice_set l.views i (having_added v added) }
-  Makes (returns_book b) i v l m = (l.slot ≡ None) × (m ≡ l)
-  Makes (gives_turn b) i v l m = (l.slot ≡ None) × (l.count ≡ length v.seen) × (m ≡ record l { serving = l.serving + 1; slot = Some b; views = slice_set l.views i (out_of_line v) })
-  Makes splits_pass i v l m = m ≡ record l { views = slice_set l.views i (having_split v) ++ split_off v ∷ [] }
+  abbrev pub ChangesLock : StepKind B → ℕ → PassView → TicketLock B → TicketLock B → Type 0
+  ChangesLock takes_ticket i v l m = m ≡ record l { ticket = l.ticket + 1; views = slice_set l.views i (with_ticket v l.ticket) }
+  ChangesLock looks i v l m = (l.serving ≢ v.ticket → m ≡ l) × (l.serving ≡ v.ticket → (b : B) × (l.slot ≡ Some b) × (m ≡ record l { slot = None; views = slice_set l.views i (with_turn v (base b) (entries b)) }))
+  ChangesLock takes_book i v l m = (l.slot ≡ None) × (m ≡ l)
+  ChangesLock reads_count i v l m = (l.count ≡ length v.hand.1) × (m ≡ record l { views = slice_set l.views i (having_read v) })
+  ChangesLock (adds_entries added) i v l m = m ≡ record l { count = l.count + length added; views = slice_set l.views i (having_added v added) }
+  ChangesLock (returns_book b) i v l m = (l.slot ≡ None) × (m ≡ l)
+  ChangesLock (gives_turn b) i v l m = (l.slot ≡ None) × (l.count ≡ length v.seen) × (m ≡ record l { serving = l.serving + 1; slot = Some b; views = slice_set l.views i (out_of_line v) })
+  ChangesLock splits_pass i v l m = m ≡ record l { views = slice_set l.views i (having_split v) ++ split_off v ∷ [] }
 
   -- a step of one pass
-  abbrev pub IsStep : TicketLock B → TicketLock B → Type 0
-  IsStep l m = (kind : StepKind B) × (i : ℕ) × (v : PassView) × (slice_get l.views i ≡ Some v) × MayCome kind v × Makes kind i v l m
+  abbrev pub IsLockStep : TicketLock B → TicketLock B → Type 0
+  IsLockStep l m = (kind : StepKind B) × (i : ℕ) × (v : PassView) × (slice_get l.views i ≡ Some v) × MayCome kind v × ChangesLock kind i v l m
 
   module _ (opened : List Entry) (lock_base : Base) where
     abbrev pub IsOpened : TicketLock B → Type 0
@@ -83,7 +83,7 @@ module _ {B : Type 0} (entries : B → List Entry) (base : B → Base) where
     -- steps lead to the lock from the opened one, by way of these, the last one first
     abbrev pub IsReachedBy : List (TicketLock B) → TicketLock B → Type 0
     IsReachedBy [] l = IsOpened l
-    IsReachedBy (k ∷ ks) l = IsStep k l × IsReachedBy ks k
+    IsReachedBy (k ∷ ks) l = IsLockStep k l × IsReachedBy ks k
 
     abbrev pub IsReached : TicketLock B → Type 0
     IsReached l = (ks : List (TicketLock B)) × IsReachedBy ks l

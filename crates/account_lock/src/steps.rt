@@ -1,9 +1,6 @@
 //! The eight kinds of step, each as a function.
-ghost use Rattle.std.specs.Prelude.{◌≡◌, ℕ, ◌+◌, ◌^◌, ◌<◌, [], ◌∷◌, ◌++◌, length};
-ghost use Rattle.model_history.specs.MostTurns.{most_turns};
+ghost use Rattle.std.specs.Prelude.{◌≡◌, ◌^◌, ◌<◌, [], ◌++◌, length};
 ghost use Rattle.account_lock.specs.LockSteps.{with_ticket, having_read, having_added, out_of_line, having_split, split_off, MayCome, takes_ticket, looks, takes_book, reads_count, adds_entries, returns_book, gives_turn, splits_pass};
-ghost use Rattle.model_history.specs.Signed.{AreSigned};
-ghost use Rattle.account_lock.specs.declared.lock.Phase.TheVariants.{Idle, Waits, Turn, Read, Done};
 ghost use Rattle.account_lock.specs.StepNews.{IsSeatOf, HasBook, HasEmptySlot, HasTurn};
 
 use crate::rule::{
