@@ -1,7 +1,7 @@
 -- The rule of the lock's table makes the table a ticket lock.
 use Rattle.std.proofs.Common.{◌≡◌, ℕ, zero, suc, ◌<◌, ◌≤◌, List, [], ◌∷◌, length, sym, refl, ap, ◌∙◌, subst, ⊎_elim, arith, Option, Some, None, slice_get}
 use Rattle.std.specs.Prelude.{slice_index_or}
-use mathlib.Core.Option.{some, some-injective, some-ne-none}
+use mathlib.Core.Option.{some}
 use Rattle.atomic_table.specs.Table.{State}
 use Rattle.model_history.specs.Base.{Base}
 use Rattle.account_lock.specs.Lock.{PassView, IsTicketLock}
@@ -9,18 +9,14 @@ use Rattle.model_history.specs.Signed.{written_by}
 use Rattle.model_history.specs.declared.entry.Entry.{Entry}
 use Rattle.account_lock.specs.HistoryRule.{AuthorsBelow, TurnsUpTo, TurnsFrom, TurnsRise}
 use Rattle.account_lock.specs.Rule.{RuleHolds, lock_of, slot_of}
+use Rattle.account_lock.specs.LockSteps.{IsReached}
 use Rattle.account_lock.specs.TicketRule.{At}
-use Rattle.account_lock.proofs.ViewLemmas.{at_inside}
+use Rattle.account_lock.proofs.ViewLemmas.{at_inside, get_from_at}
 
 at_from_get : (vs : List PassView) (i : ℕ) (v : PassView) → slice_get vs i ≡ Some v → At vs i v
 at_from_get [] i v is = cc
 at_from_get (x ∷ xs) zero v is = let same : x ≡ v = cc in ap some same
 at_from_get (x ∷ xs) (suc i) v is = at_from_get xs i v is
-
-get_from_at : (vs : List PassView) (i : ℕ) (v : PassView) → At vs i v → slice_get vs i ≡ Some v
-get_from_at [] i v at = absurd (some-ne-none v (sym at))
-get_from_at (x ∷ xs) zero v at = ap Some (some-injective x v at)
-get_from_at (x ∷ xs) (suc i) v at = get_from_at xs i v at
 
 at_below : (vs : List PassView) (k : ℕ) → k < length vs → (v : PassView) × At vs k v
 at_below [] k less = absurd (omega arith)
@@ -81,6 +77,7 @@ module _ {B : Type 0} (entries : B → List Entry) (base : B → Base) where
         seen = λ i v is. let k = r.told.seen i v (at i v is) in ((k.0, k.1), k.3);
         read = λ i v is. r.told.read i v (at i v is);
         unchanged = λ i v is. r.told.unchanged i v (at i v is);
+        first = (let f = r.passes.first in (0, f.0, get 0 f.0 f.1, number 0 f.0 (get 0 f.0 f.1)));
         numbered = λ i j v w is is' same. sym (number i v is) ∙ (same ∙ number j w is');
         within = λ i j v w is is' first.
             let place = number i v is in
@@ -97,3 +94,6 @@ module _ {B : Type 0} (entries : B → List Entry) (base : B → Base) where
         timed = λ i v is. let t = r.told.timed i v (at i v is) in (turns_in_order v.mine t.1, each_turn_up_to v.turns v.mine t.0);
       } in
       subst (λ (ws : List ℕ). IsTicketLock entries base o z (lock_of (record { words = ws; homes = s.homes; views = s.views }))) (sym r.words) lock
+
+  pub is_reached : (o : List Entry) (z : Base) (s : State (Option B) PassView) → RuleHolds entries base o z s → IsReached entries base o z (lock_of s)
+  is_reached o z s r = subst (λ (ws : List ℕ). IsReached entries base o z (lock_of (record { words = ws; homes = s.homes; views = s.views }))) (sym r.words) r.reached

@@ -1,25 +1,26 @@
 -- Each step keeps the rule of the lock's table.
-use Rattle.std.proofs.Common.{◌≡◌, ℕ, ◌+◌, ◌%◌, ◌^◌, ◌<◌, ◌≤◌, List, [], ◌∷◌, ◌++◌, length, set, get_or, sym, refl, ap, ◌∙◌, subst, inl, inr, ⊎_elim, arith, IsTrue, append-nil, Option, Some}
+use Rattle.std.proofs.Common.{◌≡◌, ℕ, ◌+◌, ◌%◌, ◌^◌, ◌<◌, ◌≤◌, List, [], ◌∷◌, ◌++◌, length, set, get_or, sym, refl, ap, ◌∙◌, subst, inl, inr, ⊎_elim, arith, IsTrue, append-nil, Option, Some, None}
 use Rattle.std.proofs.lemmas.Bool.{false≢true}
 use mathlib.Core.Option.{none, some, some-ne-none}
 use mathlib.Core.Logic.{dite}
 use native.Mathlib.Decide.{ℕ_discrete}
-use Rattle.atomic_table.specs.Table.{State, Me, Step, step, keeps, takes, gives, stepped, Allows, Splits, opening}
+use Rattle.atomic_table.specs.Table.{State, Me, Step, step, keeps, takes, gives, put_back, stepped, Allows, Splits, opening}
 use Rattle.atomic_table.proofs.Lists.{at_longer, set_here, set_else, set_again}
 use Rattle.model_history.specs.Base.{Base}
 use Rattle.model_history.specs.MostTurns.{most_turns}
-use Rattle.account_lock.specs.Lock.{PassView, in_line, has_turn, has_read}
-use Rattle.account_lock.specs.LockSteps.{with_ticket, with_turn, having_read, having_added, out_of_line, new_pass, having_split, split_off}
+use Rattle.account_lock.specs.Lock.{PassView, TicketLock, in_line, has_turn, has_read}
+use Rattle.account_lock.specs.LockSteps.{with_ticket, with_turn, having_read, having_added, out_of_line, new_pass, having_split, split_off, StepKind, MayCome, ChangesLock, IsReached}
+use Rattle.account_lock.specs.LockSteps as kind
 use Rattle.model_history.specs.Signed.{AreSigned, Extends}
 use Rattle.model_history.specs.declared.entry.Entry.{Entry}
 use Rattle.account_lock.specs.declared.lock.Phase.TheVariants.{Idle, Waits, Turn, Read, Done}
 use Rattle.account_lock.specs.HistoryRule.{Knows, TurnsUpTo, TurnsRise}
-use Rattle.account_lock.specs.Rule.{SlotHolds, RuleHolds}
+use Rattle.account_lock.specs.Rule.{SlotHolds, RuleHolds, lock_at, slot_of}
 use Rattle.account_lock.specs.StepNews.{looked, read_count, added_entries, left_line}
 use Rattle.account_lock.specs.TicketRule.{At, TicketsHold}
 use Rattle.account_lock.proofs.HistoryLemmas.{history_stays, history_read, history_grows, history_split, unseen_of_others}
 use Rattle.account_lock.proofs.TicketLemmas.{tickets_few, turn_in_line, only_turn, passes_stay, passes_split, issue, tickets_stay, leave, tickets_split}
-use Rattle.account_lock.proofs.ViewLemmas.{each_set, each_last, at_inside, same_at}
+use Rattle.account_lock.proofs.ViewLemmas.{each_set, each_last, at_inside, same_at, get_from_at}
 
 module _ {B : Type 0} (entries : B → List Entry) (base : B → Base) (o : List Entry) (z : Base) where
   -- what a step tells doesn't depend on its numbers
@@ -50,6 +51,14 @@ module _ {B : Type 0} (entries : B → List Entry) (base : B → Base) (o : List
       (λ home. inl (home.0, home.1, home.2, home.3, untaken_stays s.views id me.0 w home.4 at same))
       (λ out. inr (out.0, taken_stays s.views id me.0 w out.1 at same))
       slot
+
+  -- one step more
+  one_more : (l m : TicketLock B) (k : StepKind B) (id : ℕ) (v : PassView) → IsReached entries base o z l → At l.views id v → MayCome entries base k v → ChangesLock entries base k id v l m → IsReached entries base o z m
+  one_more l m k id v reached at may makes = (l ∷ reached.0, ((k, id, v, get_from_at l.views id v at, may, makes), reached.1))
+
+  -- while a pass has the turn, the slot is out
+  slot_is_out : (h : List Entry) (s : State (Option B) PassView) (id : ℕ) (v : PassView) → SlotHolds entries base z h s → At s.views id v → IsTrue (has_turn v.phase) → slot_of s.homes ≡ None
+  slot_is_out h s id v slot at turn = ⊎_elim (λ home. absurd (home.4 id v at turn)) (λ out. ap slot_of out.0) slot
 
   only_view : (P : ℕ → PassView → Type 0) (v : PassView) → P 0 v → (i : ℕ) (u : PassView) → At (v ∷ []) i u → P i u
   only_view P v here i u at = each_last P [] v (λ i v at. absurd (some-ne-none v (sym at))) here i u at
@@ -94,6 +103,7 @@ module _ {B : Type 0} (entries : B → List Entry) (base : B → Base) (o : List
           timed = each (λ i u. TurnsUpTo u.turns u.mine × TurnsRise u.mine) (tt, tt);
         };
         slot = inl (b, refl, is_base, is_entries, each (λ i u. IsTrue (has_turn u.phase) → ⊥) (λ b. absurd (false≢true b)));
+        reached = ([], (b, is_entries, is_base, refl));
       }
 
   pub takes_ticket : (slots id : ℕ) (me : Me (Option B) PassView) → me.0.phase ≡ Idle → me.0.turns < most_turns
@@ -117,6 +127,8 @@ module _ {B : Type 0} (entries : B → List Entry) (base : B → Base) (o : List
           tickets = subst (λ (x : ℕ). TicketsHold (r.ticket + 1) r.serving (set s.views id (with_ticket me.0 x))) (sym is) (issue r.ticket r.serving s.views id me.0 r.tickets at idle);
           told = history_stays o z r.history r.count s.views id me.0 w r.told at refl refl refl refl (omega arith) (λ read. absurd (false≢true read)) (λ turn. absurd (false≢true (ap has_turn turn)));
           slot = slot_stays r.history s 0 ((k + 1) % 2 ^ 64) id me w r.slot at (sym (ap has_turn idle));
+          reached = one_more (lock_at r.ticket r.serving r.count s) (lock_at (r.ticket + 1) r.serving r.count (stepped s 0 ((k + 1) % 2 ^ 64) id me.1 w keeps)) kind.takes_ticket id me.0 r.reached at (idle, less)
+              (ap (λ (x : ℕ). lock_at (r.ticket + 1) r.serving r.count (stepped s 0 ((k + 1) % 2 ^ 64) id me.1 (with_ticket me.0 x) keeps)) is);
         },
         refl,
       )
@@ -148,6 +160,8 @@ module _ {B : Type 0} (entries : B → List Entry) (base : B → Base) (o : List
           tickets = tickets_stay r.ticket r.serving s.views id me.0 w r.tickets at refl refl (sym waits_in_line) (λ _. sym hit ∙ is);
           told = history_stays o z r.history r.count s.views id me.0 w r.told at refl refl refl refl (omega arith) (λ read. absurd (false≢true read)) (λ _. λ k. (home.2 k, home.3 k));
           slot = inr (ap (λ (x : List _). set x 0 none) home.1, (id, w, set_here s.views id w (at_inside s.views id me.0 at), refl));
+          reached = one_more (lock_at r.ticket r.serving r.count s) (lock_at r.ticket r.serving r.count (stepped s 1 k id me.1 w (takes 0 (Some b)))) kind.looks id me.0 r.reached at waits
+              ((λ not. absurd (not (sym is ∙ hit))), λ _. (b, ap slot_of home.1, ap (λ (x : List _). record (lock_at r.ticket r.serving r.count s) { slot = slot_of (set x 0 none); views = set s.views id w }) home.1));
         },
         ((λ _. (b, refl, home.2 ∙ sym same, subst (λ (x : ℕ × List Entry). Extends x.0 me.0.seen x.1) (λ k. (sym (r.passes.number id me.0 at) k, sym home.3 k)) (unseen_of_others o z r.history r.count s.views id me.0 r.told at))), λ not. absurd (not hit)),
       ))
@@ -163,7 +177,8 @@ module _ {B : Type 0} (entries : B → List Entry) (base : B → Base) (o : List
       let k : ℕ = get_or s.words 2 0 in
       let is : k ≡ r.count = ap (λ (w : List ℕ). get_or w 2 0) r.words in
       let w : PassView = having_read me.0 in
-      let in_turn : IsTrue (has_turn me.0.phase) = ap has_turn turn in (
+      let in_turn : IsTrue (has_turn me.0.phase) = ap has_turn turn in
+      let whole : r.count ≡ length me.0.hand.1 = r.told.counted ∙ ap (λ (x : Base × List Entry). length x.1) (sym (r.told.in_hand id me.0 at turn)) in (
         w,
         keeps,
         tt,
@@ -177,8 +192,9 @@ module _ {B : Type 0} (entries : B → List Entry) (base : B → Base) (o : List
           tickets = tickets_stay r.ticket r.serving s.views id me.0 w r.tickets at refl refl (sym (ap in_line turn)) (λ _. r.tickets.served id me.0 at in_turn);
           told = history_read o z r.history r.count s.views id me.0 r.told at turn;
           slot = slot_stays r.history s 2 k id me w r.slot at (sym in_turn);
+          reached = one_more (lock_at r.ticket r.serving r.count s) (lock_at r.ticket r.serving r.count (stepped s 2 k id me.1 w keeps)) kind.reads_count id me.0 r.reached at turn (whole, refl);
         },
-        (refl, is ∙ (r.told.counted ∙ ap (λ (x : Base × List Entry). length x.1) (sym (r.told.in_hand id me.0 at turn)))),
+        (refl, is ∙ whole),
       )
 
   pub adds : (slots id : ℕ) (me : Me (Option B) PassView) (k : ℕ) (xs : List Entry) → me.0.phase ≡ Read → k ≡ length xs → length me.0.seen + length xs < 2 ^ 64 → AreSigned me.0.number me.0.turns xs
@@ -203,6 +219,7 @@ module _ {B : Type 0} (entries : B → List Entry) (base : B → Base) (o : List
           tickets = tickets_stay r.ticket r.serving s.views id me.0 w r.tickets at refl refl (sym (ap in_line read)) (λ _. r.tickets.served id me.0 at in_turn);
           told = history_grows o z r.history r.count s.views id me.0 xs r.told at (ap has_read read) (only_turn r.ticket r.serving s.views id me.0 r.tickets at in_turn) by_place;
           slot = ⊎_elim (λ home. absurd (home.4 id me.0 at in_turn)) (λ out. inr (out.0, taken_stays s.views id me.0 w out.1 at (sym in_turn))) r.slot;
+          reached = one_more (lock_at r.ticket r.serving r.count s) (lock_at r.ticket r.serving (r.count + length xs) (stepped s 2 ((r.count + k) % 2 ^ 64) id me.1 w keeps)) (kind.adds_entries xs) id me.0 r.reached at (read, signed) refl;
         },
         refl,
       )
@@ -215,7 +232,8 @@ module _ {B : Type 0} (entries : B → List Entry) (base : B → Base) (o : List
       let few = tickets_few r.ticket r.serving s.views r.tickets r.passes in
       let waiting = r.tickets.waiting in
       let fits : (r.serving + 1) % 2 ^ 64 ≡ r.serving + 1 = omega arith in
-      let put_back : set s.homes 0 (some (Some b)) ≡ some (Some b) ∷ [] = ⊎_elim (λ home. ap (λ (x : List _). set x 0 (some (Some b))) home.1) (λ out. ap (λ (x : List _). set x 0 (some (Some b))) out.0) r.slot in (
+      let back : set s.homes 0 (some (Some b)) ≡ some (Some b) ∷ [] = ⊎_elim (λ home. ap (λ (x : List _). set x 0 (some (Some b))) home.1) (λ out. ap (λ (x : List _). set x 0 (some (Some b))) out.0) r.slot in
+      let homes : put_back s.homes me.1 ≡ some (Some b) ∷ [] = rw has back in (
         w,
         gives,
         tt,
@@ -230,11 +248,13 @@ module _ {B : Type 0} (entries : B → List Entry) (base : B → Base) (o : List
           told = history_stays o z r.history r.count s.views id me.0 w r.told at refl refl refl refl (omega arith) (λ read. absurd (false≢true read)) (λ turn. absurd (false≢true (ap has_turn turn)));
           slot = inl (
             b,
-            rw has put_back,
+            homes,
             is_base ∙ (r.told.unchanged id me.0 at).1,
             is_entries ∙ r.told.read id me.0 at (ap has_read done),
             each_set (λ i u. IsTrue (has_turn u.phase) → ⊥) s.views id w (only_turn r.ticket r.serving s.views id me.0 r.tickets at in_turn) (λ turn. absurd (false≢true turn)),
           );
+          reached = one_more (lock_at r.ticket r.serving r.count s) (lock_at r.ticket (r.serving + 1) r.count (stepped s 1 ((get_or s.words 1 0 + 1) % 2 ^ 64) id me.1 w gives)) (kind.gives_turn b) id me.0 r.reached at (done, is_entries, is_base)
+              (slot_is_out r.history s id me.0 r.slot at in_turn, r.told.counted ∙ ap length (sym (r.told.read id me.0 at (ap has_read done))), ap (λ (x : List _). record (lock_at r.ticket (r.serving + 1) r.count s) { slot = slot_of x; views = set s.views id w }) homes);
         },
         refl,
       )
@@ -259,5 +279,6 @@ module _ {B : Type 0} (entries : B → List Entry) (base : B → Base) (o : List
             (λ home. inl (home.0, home.1, home.2, home.3, each_last (λ i u. IsTrue (has_turn u.phase) → ⊥) ws y (untaken_stays s.views 0 v w home.4 at' refl) (λ turn. absurd (false≢true turn))))
             (λ out. let m = taken_stays s.views 0 v w out.1 at' refl in inr (out.0, (m.0, m.1, at_longer ws (y ∷ []) m.0 m.1 m.2, m.3)))
             r.slot;
+        reached = one_more (lock_at r.ticket r.serving r.count s) (lock_at r.ticket r.serving r.count (record { words = s.words; homes = s.homes; views = ws ++ y ∷ [] })) kind.splits_pass 0 v r.reached at' (first, few) refl;
       } in
       subst (λ (k : ℕ). Rule (record { words = s.words; homes = s.homes; views = set s.views k w ++ y ∷ [] })) (sym is_first) made

@@ -1,5 +1,5 @@
 -- Views of passes where one is changed, or one comes last.
-use Rattle.std.proofs.Common.{◌≡◌, ◌≢◌, ℕ, zero, suc, ◌+◌, ◌*◌, ◌<◌, ◌≤◌, List, [], ◌∷◌, ◌++◌, length, set, sym, refl, ap, ◌∙◌, subst, ⊎_elim, arith}
+use Rattle.std.proofs.Common.{◌≡◌, ◌≢◌, ℕ, zero, suc, ◌+◌, ◌*◌, ◌<◌, ◌≤◌, List, [], ◌∷◌, ◌++◌, length, set, sym, refl, ap, ◌∙◌, subst, ⊎_elim, arith, Some, slice_get}
 use Rattle.std.specs.Prelude.{sum_by}
 use Rattle.std.proofs.lemmas.List.Sums.{sum_by-cons, sum_by-append}
 use mathlib.Core.Option.{some-injective, some-ne-none}
@@ -46,3 +46,8 @@ at_inside (x ∷ xs) (suc i) v at = let tail = at_inside xs i v at in omega arit
 -- two views at one place are one
 pub same_at : (vs : List PassView) (i j : ℕ) (v w : PassView) → i ≡ j → At vs i v → At vs j w → v ≡ w
 same_at vs i j v w is at at' = some-injective v w (sym at ∙ (ap (λ (k : ℕ). get_elem? vs k) is ∙ at'))
+
+pub get_from_at : (vs : List PassView) (i : ℕ) (v : PassView) → At vs i v → slice_get vs i ≡ Some v
+get_from_at [] i v at = absurd (some-ne-none v (sym at))
+get_from_at (x ∷ xs) zero v at = ap Some (some-injective x v at)
+get_from_at (x ∷ xs) (suc i) v at = get_from_at xs i v at

@@ -77,7 +77,8 @@ module _ {B : Type 0} (entries : B → List Entry) (base : B → Base) where
     pub seen : (i : ℕ) (v : PassView) → slice_get l.views i ≡ Some v → Begins v.seen opened × Begins history v.seen
     pub read : (i : ℕ) (v : PassView) → slice_get l.views i ≡ Some v → IsTrue (has_read v.phase) → v.seen ≡ history
     pub unchanged : (i : ℕ) (v : PassView) → slice_get l.views i ≡ Some v → (v.opened ≡ opened) × (v.base ≡ lock_base)
-    -- Passes have different numbers, up to the number of those that pass 0 has split off, and no other pass has split off any.
+    -- Passes have different numbers, from 0 up to the number of those that pass 0 has split off, and no other pass has split off any.
+    pub first : (i : ℕ) × (v : PassView) × (slice_get l.views i ≡ Some v) × (v.number ≡ 0)
     pub numbered : (i j : ℕ) (v w : PassView) → slice_get l.views i ≡ Some v → slice_get l.views j ≡ Some w → v.number ≡ w.number → i ≡ j
     pub within : (i j : ℕ) (v w : PassView) → slice_get l.views i ≡ Some v → slice_get l.views j ≡ Some w → w.number ≡ 0 → v.number ≤ w.splits
     pub alone : (i : ℕ) (v : PassView) → slice_get l.views i ≡ Some v → v.number ≢ 0 → v.splits ≡ 0

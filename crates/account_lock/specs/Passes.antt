@@ -3,11 +3,13 @@ use Rattle.std.specs.Prelude.{◌≡◌, ℕ, ◌+◌, ℤ, List, [], ◌++◌}
 use Rattle.atomic_table.specs.Seated.{TableId}
 use Rattle.model_history.specs.Base.{Base}
 use Rattle.account_lock.specs.Lock.{PassView}
+use Rattle.account_lock.specs.declared.lock.Phase.{Phase}
+use Rattle.account_lock.specs.declared.lock.Phase.TheVariants.{Idle}
 use Rattle.model_history.specs.declared.entry.Entry.{Entry}
 use Rattle.model_history.specs.declared.stamp.Stamp.{Stamp}
 use Rattle.model_history.specs.Signed.{Extends}
 
--- a pass outside a call
+-- a pass as its owner sees it
 pub record PassState : Type 0 where
   -- which lock it is of, and that lock's base
   pub lock : TableId
@@ -15,16 +17,18 @@ pub record PassState : Type 0 where
   pub number : ℕ
   -- the calls that it has made
   pub turns : ℕ
+  -- where it stands in a call: outside of one it is idle
+  pub phase : Phase
   -- the history, as far as it knows it, and the entries in it that its own calls added
   pub seen : List Entry
   pub mine : List Entry
 
 abbrev pub state_of : TableId → PassView → PassState
-state_of lock v = record { lock = lock; base = v.base; number = v.number; turns = v.turns; seen = v.seen; mine = v.mine }
+state_of lock v = record { lock = lock; base = v.base; number = v.number; turns = v.turns; phase = v.phase; seen = v.seen; mine = v.mine }
 
 -- pass number k of a lock that was opened with a book of these entries
 abbrev pub opened_pass : TableId → Base → List Entry → ℕ → PassState
-opened_pass lock base opened k = record { lock = lock; base = base; number = k; turns = 0; seen = opened; mine = [] }
+opened_pass lock base opened k = record { lock = lock; base = base; number = k; turns = 0; phase = Idle; seen = opened; mine = [] }
 
 -- the stamp of the pass's next call
 abbrev pub next_stamp : PassState → ℤ → Stamp

@@ -5,6 +5,7 @@ use mathlib.Core.Option as table
 use Rattle.atomic_table.specs.Table.{State}
 use Rattle.model_history.specs.Base.{Base}
 use Rattle.account_lock.specs.Lock.{PassView, TicketLock, has_turn}
+use Rattle.account_lock.specs.LockSteps.{IsReached}
 use Rattle.model_history.specs.declared.entry.Entry.{Entry}
 use Rattle.account_lock.specs.TicketRule.{At, TicketsHold, PassesHold}
 use Rattle.account_lock.specs.HistoryRule.{HistoryHolds}
@@ -14,9 +15,12 @@ slot_of [] = None
 slot_of (none ∷ _) = None
 slot_of (some slot ∷ _) = slot
 
--- a table of three words and one slot as a ticket lock
+-- a table of these three words and one slot as a ticket lock
+abbrev pub lock_at : {B : Type 0} → ℕ → ℕ → ℕ → State (Option B) PassView → TicketLock B
+lock_at ticket serving count s = record { ticket = ticket; serving = serving; count = count; slot = slot_of s.homes; views = s.views }
+
 abbrev pub lock_of : {B : Type 0} → State (Option B) PassView → TicketLock B
-lock_of s = record { ticket = slice_index s.words 0; serving = slice_index s.words 1; count = slice_index s.words 2; slot = slot_of s.homes; views = s.views }
+lock_of s = lock_at (slice_index s.words 0) (slice_index s.words 1) (slice_index s.words 2) s
 
 module _ {B : Type 0} (entries : B → List Entry) (base : B → Base) where
   -- The slot has the book, with the whole history, and no pass has the turn; or the slot is out, and one has it.
@@ -36,3 +40,4 @@ module _ {B : Type 0} (entries : B → List Entry) (base : B → Base) where
     pub tickets : TicketsHold ticket serving s.views
     pub told : HistoryHolds opened z history count s.views
     pub slot : SlotHolds z history s
+    pub reached : IsReached entries base opened z (lock_at ticket serving count s)

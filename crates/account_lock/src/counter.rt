@@ -78,7 +78,13 @@ impl Book for CounterBook {
     ghost added = { λ z h call stamp. amount_added h call.0 stamp };
 
     #[tactic(auto, using(crate::proofs::CounterLemmas::sum_of_ids_append))]
-    fn act(&mut self, author: u32, turn: u64, call: &Add, moment: Moment) -> Result<u64, AllocError> {
+    fn act(
+        &mut self,
+        author: u32,
+        turn: u64,
+        call: &Add,
+        moment: Moment,
+    ) -> Result<u64, AllocError> {
         let amount = call.0.min(MOST_AMOUNT);
         if amount == 0 || self.entries.len() == MOST_ENTRIES {
             return Ok(self.sum);

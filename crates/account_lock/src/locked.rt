@@ -93,6 +93,9 @@ impl<B: Book> Locked<B> {
         ensures unchanged { IfErr result (λ e. e ≡ PassSpent → pass.new ≡ pass.old) }
 
         ensures failed { IfErr result (λ e. e ≡ NoMemory → HasFailed pass.old pass.new) }
+
+        // Outside of calls a pass is idle: one that used up a turn has given it back.
+        ensures idle { (pass.old.phase ≡ Idle) × (pass.new.phase ≡ Idle) }
     {
         if pass.turns == MOST_TURNS {
             return Err(CallError::PassSpent);

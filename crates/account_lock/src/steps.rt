@@ -1,9 +1,6 @@
 //! The eight kinds of step, each as a function.
-ghost use Rattle.std.specs.Prelude.{◌≡◌, ℕ, ◌+◌, ◌^◌, ◌<◌, [], ◌∷◌, ◌++◌, length};
-ghost use Rattle.model_history.specs.MostTurns.{most_turns};
-ghost use Rattle.account_lock.specs.LockSteps.{with_ticket, having_read, having_added, out_of_line, having_split, split_off};
-ghost use Rattle.model_history.specs.Signed.{AreSigned};
-ghost use Rattle.account_lock.specs.declared.lock.Phase.TheVariants.{Idle, Waits, Turn, Read, Done};
+ghost use Rattle.std.specs.Prelude.{◌≡◌, ◌^◌, ◌<◌, [], ◌++◌, length};
+ghost use Rattle.account_lock.specs.LockSteps.{with_ticket, having_read, having_added, out_of_line, having_split, split_off, MayCome, takes_ticket, looks, takes_book, reads_count, adds_entries, returns_book, gives_turn, splits_pass};
 ghost use Rattle.account_lock.specs.StepNews.{IsSeatOf, HasBook, HasEmptySlot, HasTurn};
 
 use crate::rule::{
@@ -40,7 +37,7 @@ const LOOKS_AWAKE: u32 = 2000;
 /// Takes the next ticket, and gives its number.
 pub(crate) fn take_ticket<B: Book>(board: &Board<B>, seat: &mut PassSeat<B>) -> u64
     requires board { IsSeatOf board.now.table_id seat.old.table_id }
-    requires idle { (seat.old.me.0.phase ≡ Idle) × (seat.old.me.0.turns < most_turns) }
+    requires may { MayCome B.entries B.base takes_ticket seat.old.me.0 }
     ensures same { (seat.new.table_id ≡ seat.old.table_id) × (seat.new.id ≡ seat.old.id) }
     ensures view { seat.new.me ≡ (with_ticket seat.old.me.0 result, seat.old.me.1) }
 {
@@ -56,7 +53,8 @@ pub(crate) fn await_turn<B: Book, R: Wait>(
     ticket: u64,
 )
     requires board { IsSeatOf board.now.table_id seat.old.table_id }
-    requires waits { (seat.old.me.0.phase ≡ Waits) × (seat.old.me.0.ticket ≡ ticket) }
+    requires may { MayCome B.entries B.base looks seat.old.me.0 }
+    requires ticket { seat.old.me.0.ticket ≡ ticket }
     ensures same { (seat.new.table_id ≡ seat.old.table_id) × (seat.new.id ≡ seat.old.id) }
     ensures turn { HasTurn B.entries B.base seat.old.me seat.new.me }
 {
@@ -78,6 +76,7 @@ pub(crate) fn await_turn<B: Book, R: Wait>(
 /// Takes the book out of the slot.
 pub(crate) fn take_book<B: Book>(board: &Board<B>, seat: &mut PassSeat<B>) -> B
     requires board { IsSeatOf board.now.table_id seat.old.table_id }
+    requires may { MayCome B.entries B.base takes_book seat.old.me.0 }
     requires full { (b : B) × HasBook seat.old.me.1 b }
     ensures same { (seat.new.table_id ≡ seat.old.table_id) × (seat.new.id ≡ seat.old.id) }
     ensures book { HasBook seat.old.me.1 result }
@@ -89,7 +88,7 @@ pub(crate) fn take_book<B: Book>(board: &Board<B>, seat: &mut PassSeat<B>) -> B
 /// Reads how long the history is.
 pub(crate) fn read_history<B: Book>(board: &Board<B>, seat: &mut PassSeat<B>) -> u64
     requires board { IsSeatOf board.now.table_id seat.old.table_id }
-    requires turn { seat.old.me.0.phase ≡ Turn }
+    requires may { MayCome B.entries B.base reads_count seat.old.me.0 }
     ensures same { (seat.new.table_id ≡ seat.old.table_id) × (seat.new.id ≡ seat.old.id) }
     ensures view { seat.new.me ≡ (having_read seat.old.me.0, seat.old.me.1) }
     ensures length { result ≡ length seat.old.me.0.hand.1 }
@@ -105,11 +104,10 @@ pub(crate) fn add_entries<B: Book, G: Growth>(
     count: u64,
 )
     requires board { IsSeatOf board.now.table_id seat.old.table_id }
-    requires read { seat.old.me.0.phase ≡ Read }
+    requires may { MayCome B.entries B.base (adds_entries G.grown) seat.old.me.0 }
     requires grown { B.entries book.now ≡ seat.old.me.0.seen ++ G.grown }
     requires count { count ≡ length G.grown }
     requires small { length (B.entries book.now) < 2 ^ 64 }
-    requires signed { AreSigned seat.old.me.0.number seat.old.me.0.turns G.grown }
     ensures same { (seat.new.table_id ≡ seat.old.table_id) × (seat.new.id ≡ seat.old.id) }
     ensures view { seat.new.me ≡ (having_added seat.old.me.0 G.grown, seat.old.me.1) }
 {
@@ -119,6 +117,7 @@ pub(crate) fn add_entries<B: Book, G: Growth>(
 /// Puts the book back into the slot.
 pub(crate) fn return_book<B: Book>(board: &Board<B>, seat: &mut PassSeat<B>, book: B)
     requires board { IsSeatOf board.now.table_id seat.old.table_id }
+    requires may { MayCome B.entries B.base (returns_book book) seat.old.me.0 }
     requires empty { HasEmptySlot seat.old.me.1 }
     ensures same { (seat.new.table_id ≡ seat.old.table_id) × (seat.new.id ≡ seat.old.id) }
     ensures left { (seat.new.me.0 ≡ seat.old.me.0) × HasBook seat.new.me.1 book }
@@ -129,8 +128,7 @@ pub(crate) fn return_book<B: Book>(board: &Board<B>, seat: &mut PassSeat<B>, boo
 /// Gives back the slot, with the book that has the whole history, and the turn, and wakes the passes that sleep.
 pub(crate) fn give_turn<B: Book>(board: &Board<B>, seat: &mut PassSeat<B>)
     requires board { IsSeatOf board.now.table_id seat.old.table_id }
-    requires done { seat.old.me.0.phase ≡ Done }
-    requires book { (b : B) × HasBook seat.old.me.1 b × (B.entries b ≡ seat.old.me.0.seen) × (B.base b ≡ seat.old.me.0.base) }
+    requires may { (b : B) × HasBook seat.old.me.1 b × MayCome B.entries B.base (gives_turn b) seat.old.me.0 }
     ensures same { (seat.new.table_id ≡ seat.old.table_id) × (seat.new.id ≡ seat.old.id) }
     ensures view { seat.new.me ≡ (out_of_line seat.old.me.0, []) }
 {
@@ -141,7 +139,7 @@ pub(crate) fn give_turn<B: Book>(board: &Board<B>, seat: &mut PassSeat<B>)
 /// Makes a new pass. Pass 0 alone does.
 pub(crate) fn split_pass<B: Book>(board: &Board<B>, seat: &mut PassSeat<B>) -> PassSeat<B>
     requires board { IsSeatOf board.now.table_id seat.old.table_id }
-    requires first { (seat.old.me.0.number ≡ 0) × (seat.old.me.0.splits + 1 < 256) }
+    requires may { MayCome B.entries B.base splits_pass seat.old.me.0 }
     ensures same { (seat.new.table_id ≡ seat.old.table_id) × (seat.new.id ≡ seat.old.id) }
     ensures view { seat.new.me ≡ (having_split seat.old.me.0, seat.old.me.1) }
     ensures new { (result.table_id ≡ seat.old.table_id) × (result.me ≡ (split_off seat.old.me.0, [])) }

@@ -7,6 +7,7 @@ use account_lock::counter::{Add, CounterBook};
 use account_lock::locked::Locked;
 use account_lock::pass::Pass;
 use model_history::book::Book;
+use model_time::moment::Moment;
 use std::alloc::Global;
 use std::process::Abort;
 use std::sync::Wait;
@@ -40,64 +41,73 @@ fn open_two<B: Book>(rt: &impl Abort, alloc: Global, book: B) -> (Locked<B>, Pas
 fn a_sum_counts_the_calls_of_both_passes(rt: HostRuntime) {
     let alloc = rt.alloc();
     let (lock, mut first, mut second) = open_two(&rt, alloc, CounterBook::new(alloc));
-    assert_eq!(rt; lock.call(&rt, &mut first, &Add(5), 0), Ok(5));
-    assert_eq!(rt; lock.call(&rt, &mut second, &Add(2), 0), Ok(7));
-    assert_eq!(rt; lock.call(&rt, &mut first, &Add(0), 0), Ok(7));
-    assert_eq!(rt; lock.call(&rt, &mut first, &Add(1001), 0), Ok(1007));
+    let moment = Moment::new(0);
+    assert_eq!(rt; lock.call(&rt, &mut first, &Add(5), moment), Ok(5));
+    assert_eq!(rt; lock.call(&rt, &mut second, &Add(2), moment), Ok(7));
+    assert_eq!(rt; lock.call(&rt, &mut first, &Add(0), moment), Ok(7));
+    assert_eq!(rt; lock.call(&rt, &mut first, &Add(1001), moment), Ok(1007));
 }
 
 #[test]
 fn a_pass_sees_the_calls_before_its_own(rt: HostRuntime) {
     let alloc = rt.alloc();
     let (lock, mut first, mut second) = open_two(&rt, alloc, ReportingBook::new(alloc));
-    let seen = Report {
-        turn: 2,
+    let moment = Moment::new(0);
+    let two = Report {
         entries: 2,
-        own: 1,
+        of_author: 1,
         first: Some(Signature { author: 0, turn: 1 }),
         last: Some(Signature { author: 1, turn: 1 }),
     };
+    let three = Report {
+        entries: 3,
+        of_author: 2,
+        last: Some(Signature { author: 0, turn: 4 }),
+        ..two
+    };
+    let of_first = [
+        (Question::Add(0), Answer::Sum(7)),
+        (Question::Tell(0), Answer::Told(two)),
+        (Question::Add(1), Answer::Sum(8)),
+    ];
     assert_eq!(rt;
-        lock.call(&rt, &mut first, &Question::Add(5), 0),
+        lock.call(&rt, &mut first, &Question::Add(5), moment),
         Ok(Answer::Sum(5))
     );
     assert_eq!(rt;
-        lock.call(&rt, &mut second, &Question::Add(2), 0),
+        lock.call(&rt, &mut second, &Question::Add(2), moment),
         Ok(Answer::Sum(7))
     );
     assert_eq!(rt;
-        lock.call(&rt, &mut second, &Question::Tell, 0),
-        Ok(Answer::Told(seen))
+        lock.call(&rt, &mut second, &Question::Tell(1), moment),
+        Ok(Answer::Told(two))
     );
+    for (question, answer) in &of_first {
+        assert_eq!(rt; lock.call(&rt, &mut first, question, moment), Ok(*answer));
+    }
     assert_eq!(rt;
-        lock.call(&rt, &mut first, &Question::Add(0), 0),
-        Ok(Answer::Sum(7))
-    );
-    assert_eq!(rt;
-        lock.call(&rt, &mut first, &Question::Tell, 0),
-        Ok(Answer::Told(Report { turn: 3, ..seen }))
+        lock.call(&rt, &mut second, &Question::Tell(0), moment),
+        Ok(Answer::Told(three))
     );
 }
 
-// Adds ones with all calls of a thread, and gives the last sum and what the pass has seen.
+// Adds ones with all calls of a thread, and gives the last sum.
 fn add_ones<R: Wait>(
     rt: &R,
     lock: &Locked<ReportingBook>,
     mut pass: Pass<ReportingBook>,
-) -> Option<(u64, Report)>
+) -> Option<u64>
     requires { pass.lock ≡ lock.now }
 {
     let mut last = 0;
     for _ in 0..TIMES {
-        let Ok(Answer::Sum(sum)) = lock.call(rt, &mut pass, &Question::Add(1), 0) else {
+        let answer = lock.call(rt, &mut pass, &Question::Add(1), Moment::new(0));
+        let Ok(Answer::Sum(sum)) = answer else {
             return None;
         };
         last = sum;
     }
-    match lock.call(rt, &mut pass, &Question::Tell, 0) {
-        Ok(Answer::Told(report)) => Some((last, report)),
-        _ => None,
-    }
+    Some(last)
 }
 
 fn add_in_two_threads<R: Threads + Wait + Sync>(
@@ -105,7 +115,7 @@ fn add_in_two_threads<R: Threads + Wait + Sync>(
     lock: &Locked<ReportingBook>,
     one: Pass<ReportingBook>,
     other: Pass<ReportingBook>,
-) -> [Option<(u64, Report)>; 2]
+) -> [Option<u64>; 2]
     requires { (one.lock ≡ lock.now) × (other.lock ≡ lock.now) }
 {
     let (one, other) = join(
@@ -129,7 +139,7 @@ fn add_in_four_threads<R: Threads + Wait + Sync>(
         Pass<ReportingBook>,
         Pass<ReportingBook>,
     ),
-) -> [Option<(u64, Report)>; 4]
+) -> [Option<u64>; 4]
     requires { (passes.0.lock ≡ lock.now) × (passes.1.lock ≡ lock.now) × (passes.2.lock ≡ lock.now) × (passes.3.lock ≡ lock.now) }
 {
     let (a, b, c, d) = passes;
@@ -148,19 +158,26 @@ fn add_in_four_threads<R: Threads + Wait + Sync>(
 #[test]
 fn four_threads_write_one_history(rt: HostRuntime) {
     let alloc = rt.alloc();
-    let Ok((lock, mut passes)) = Locked::open(alloc, ReportingBook::new(alloc), 4) else {
+    let Ok((lock, mut passes)) = Locked::open(alloc, ReportingBook::new(alloc), 5) else {
         panic!(rt; "there is no memory")
     };
+    let mut last = pop_pass(&rt, &lock, &mut passes);
     let d = pop_pass(&rt, &lock, &mut passes);
     let c = pop_pass(&rt, &lock, &mut passes);
     let b = pop_pass(&rt, &lock, &mut passes);
     let a = pop_pass(&rt, &lock, &mut passes);
     let mut greatest = 0;
     for ended in add_in_four_threads(&rt, &lock, (a, b, c, d)) {
-        let (sum, report) = ended.expect(&rt, "each call is answered");
-        assert_eq!(rt; report.own, TIMES);
-        assert_eq!(rt; report.turn, TIMES + 1);
-        greatest = sum.max(greatest);
+        greatest = ended.expect(&rt, "each call is answered").max(greatest);
     }
     assert_eq!(rt; greatest, 4 * TIMES);
+    for author in 0..4 {
+        let told = lock.call(&rt, &mut last, &Question::Tell(author), Moment::new(0));
+        let Ok(Answer::Told(report)) = told else {
+            panic!(rt; "no report")
+        };
+        assert_eq!(rt; report.entries, 4 * TIMES);
+        assert_eq!(rt; report.of_author, TIMES);
+        assert_eq!(rt; report.last.map(|signature| signature.turn), Some(TIMES));
+    }
 }

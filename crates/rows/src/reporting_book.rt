@@ -5,14 +5,15 @@ ghost use Rattle.rows.specs.Reports.{signature_of};
 use account_lock::counter::{self, CounterBook};
 use model_history::book::Book;
 use model_history::entry::Entry;
+use model_time::moment::Moment;
 use std::alloc::{AllocError, Global};
 use std::marker::Model;
 
-/// What is asked: to add an amount, or to tell of the entries.
+/// What is asked: to add an amount, or to tell of the entries, and of those of one author.
 #[derive(Drop)]
 pub enum Question {
     Add(u64),
-    Tell,
+    Tell(u32),
 }
 
 /// Who made an entry, by which of its calls.
@@ -22,13 +23,11 @@ pub struct Signature {
     pub turn: u64,
 }
 
-/// Which call of the pass this is, how many entries it has seen and how many of them are its own, and who made the
-/// first and the last one.
+/// How many entries there are and how many of them are the author's, and who made the first and the last one.
 #[derive(Clone, Copy, Debug, PartialEq, Eq, Drop)]
 pub struct Report {
-    pub turn: u64,
     pub entries: u64,
-    pub own: u64,
+    pub of_author: u64,
     pub first: Option<Signature>,
     pub last: Option<Signature>,
 }
@@ -71,7 +70,7 @@ impl ReportingBook {
 }
 
 impl Book for ReportingBook {
-    ghost use Rattle.account_lock.specs.Counter.{no_base};
+    ghost use Rattle.model_history.specs.Base.{no_base};
     ghost use Rattle.rows.specs.Reports.{answer_of, reported_by, added_signed};
 
     type Call = Question;
@@ -82,7 +81,7 @@ impl Book for ReportingBook {
 
     ghost entries = { λ b. b };
 
-    ghost answer = { λ z h question stamp. answer_of h question stamp };
+    ghost answer = { λ z h question moment. answer_of h question };
 
     ghost added = { λ z h question stamp. reported_by h question stamp };
 
@@ -91,7 +90,7 @@ impl Book for ReportingBook {
         author: u32,
         turn: u64,
         call: &Question,
-        moment: i64,
+        moment: Moment,
     ) -> Result<Answer, AllocError> {
         match call {
             Question::Add(amount) => {
@@ -100,12 +99,11 @@ impl Book for ReportingBook {
                     .act(author, turn, &counter::Add(*amount), moment)?;
                 Ok(Answer::Sum(sum))
             }
-            Question::Tell => {
+            Question::Tell(of) => {
                 let entries = self.counter.entries();
                 Ok(Answer::Told(Report {
-                    turn,
                     entries: entries.len() as u64,
-                    own: entries_of(entries, author),
+                    of_author: entries_of(entries, *of),
                     first: signature_at(entries, 0),
                     last: signature_at(entries, entries.len().saturating_sub(1)),
                 }))
