@@ -4,7 +4,7 @@ ghost use Rattle.indexmap.specs.IndexMap.{get, keys};
 ghost use Rattle.version_table.specs.Puts.{ids_of, latest, live_at, object_at};
 ghost use Rattle.version_table.specs.Versions.{AreIndexed, AreLinked, put_of};
 
-use cal_model::ids::Ids;
+use model_history::ids::Ids;
 use indexmap::IndexMap;
 use std::alloc::{AllocError, Global};
 
