@@ -4,8 +4,8 @@ ghost use Rattle.indexmap.specs.IndexMap.{get, keys};
 ghost use Rattle.version_table.specs.Puts.{ids_of, latest, live_at, object_at};
 ghost use Rattle.version_table.specs.Versions.{AreIndexed, AreLinked, put_of};
 
-use model_history::ids::Ids;
 use indexmap::IndexMap;
+use model_history::ids::Ids;
 use std::alloc::{AllocError, Global};
 
 /// What an id holds from a state on.
