@@ -1,7 +1,7 @@
 -- What is live at an earlier state.
-use Rattle.std.proofs.Common.{◌≡◌, ℕ, zero, suc, List, [], ◌∷◌, Bool, true, false, cond, is_some, take, map, filter, refl, sym, ap, ◌∙◌, Option, None}
+use Rattle.std.proofs.Common.{◌≡◌, ℕ, zero, suc, List, [], ◌∷◌, Bool, true, false, cond, is_some, take, map, filter, refl, sym, ap, ◌∙◌, None}
 use Rattle.model_history.specs.History.{is_kind, object_at}
-use Rattle.model_history.specs.Pages.{Mention, is_live, live_from, mention_of, mentions}
+use Rattle.model_history.specs.Pages.{is_live, live_from, mention_of, mentions}
 use Rattle.model_history.specs.declared.entry.Change.{Change}
 use Rattle.model_history.specs.declared.entry.Kind.{Kind}
 use Rattle.state_log.proofs.LawLemmas.{live_objects}

@@ -1,14 +1,12 @@
 -- What a page lists anew by one more mention, and what is left to list.
-use Rattle.std.proofs.Common.{◌≡◌, ◌≤◌, ◌<◌, ◌+◌, ◌==◌, ◌++◌, ◌||◌, [], ◌∷◌, ℕ, List, Bool, true, false, cond, Option, Some, None, length, drop, take, filter, get_or, arith, refl, sym, ap, ◌∙◌, append-nil, eq-eqb}
+use Rattle.std.proofs.Common.{◌≡◌, ◌≤◌, ◌<◌, ◌+◌, ◌==◌, ◌++◌, [], ◌∷◌, ℕ, List, Bool, true, false, cond, Option, Some, length, drop, take, filter, get_or, arith, refl, sym, ap, ◌∙◌, eq-eqb}
 use Rattle.std.proofs.lemmas.Bool.{cond-true, or_parts}
 use Rattle.std.proofs.lemmas.List.{take_more, take-append-drop, drop-append-le, length-take-le}
 use Rattle.std.proofs.lemmas.List.Elements.{filter-append}
 use Rattle.std.proofs.lemmas.List.Folds.{list_any-append}
-use Rattle.std.proofs.lemmas.List.Sums.{fold-append}
-use Rattle.model_history.specs.History.{with_id}
-use Rattle.model_history.specs.Pages.{Mention, ids_of, is_in, is_live, is_touched, size_of_page}
+use Rattle.model_history.specs.Pages.{Mention, ids_of, is_live, is_touched, size_of_page}
 use Rattle.state_log.proofs.MentionLemmas.{is_live_untouched, is_named, is_named_here}
-use Rattle.state_log.proofs.SizeLemmas.{is_in-with_id, size_of_page_more}
+use Rattle.state_log.proofs.SizeLemmas.{size_of_page_more}
 use Rattle.state_log.proofs.StandingLemmas.{standing_more}
 use Rattle.state_log.specs.Standing.{after, growth_of, is_changed, is_gone, is_listed, is_new, is_named_after, listed_by, one_if, only_if, standing}
 use Rattle.state_log.specs.declared.standing.Growth.{Growth}

@@ -1,10 +1,10 @@
 -- Notes of changes: one more note, and how ids stand where a page begins.
-use Rattle.std.proofs.Common.{◌≡◌, ◌≤◌, ◌<◌, ◌+◌, ◌-◌, ◌==◌, ◌||◌, not, ℕ, zero, suc, List, [], ◌∷◌, ◌++◌, Bool, true, false, cond, if◌then◌else◌, Option, Some, None, unwrap_or, length, take, drop, map, get_or, slice_get, arith, refl, sym, ap, subst, ◌∙◌, ⊎_elim, length-append, nat_eq, append-nil}
+use Rattle.std.proofs.Common.{◌≡◌, ◌≤◌, ◌<◌, ◌+◌, ◌==◌, ◌||◌, ℕ, zero, suc, List, [], ◌∷◌, ◌++◌, Bool, true, false, cond, if◌then◌else◌, Option, Some, unwrap_or, length, take, drop, get_or, slice_get, arith, refl, sym, ap, subst, ◌∙◌, ⊎_elim, length-append, nat_eq}
 use Rattle.std.specs.List.{list_any, position_or_len}
 use Rattle.std.specs.Map.{keys_of}
 use Rattle.std.proofs.lemmas.Bool.{cases_lt, eqb-true, eq-eqb}
 use Rattle.std.proofs.Math.Seq.{get_or-append_seam}
-use Rattle.std.proofs.lemmas.List.{get_or_append_left, map_push, take_more, take-append-le, length-map, get_or-map, drop-map, drop-take, take_rest, take_all}
+use Rattle.std.proofs.lemmas.List.{get_or_append_left, map_push, take_more, take-append-le, length-map, get_or-map, drop-map, drop-take, take_all}
 use Rattle.std.proofs.lemmas.List.Folds.{list_any-append}
 use Rattle.std.proofs.lemmas.Option.{same_Some, slice_get-get_or, slice_get_within}
 use Rattle.std.proofs.lemmas.Grind.{fold-append}
@@ -63,19 +63,19 @@ pub noted_more : (ns : List Note) (n : Note) → AreNotes ns → n.was_live ≡ 
 noted_more ns n old was rank = λ i x h.
     subst (λ ms. IsNote ms i x) (sym (said_more ns n))
     (⊎_elim
-      (λ below. let at = old i x (sym (note_before ns n i below) ∙ h) in
-        record {
-          was_live = at.was_live ∙ sym (is_live_front (said ns) (mention_in n) i x.id (omega (arith, below, length-said ns)));
-          rank = rank_stays (said ns) (mention_in n) x.rank x.id at.rank;
-        })
-      (λ past. let within : i < length (ns ++ n ∷ []) = slice_get_within (ns ++ n ∷ []) i x h in
-        let last : i ≡ length ns = omega (arith, past, within, length-append ns (n ∷ [])) in
-        subst (λ y. IsNote (said ns ++ mention_in n ∷ []) i y) (at_seam ns n x i last h)
-        (record {
-          was_live = was ∙ sym (is_live_end (said ns) (mention_in n) i n.id (omega (arith, last, length-said ns)));
-          rank = rank;
-        }))
-      (cases_lt i (length ns)))
+    (λ below. let at = old i x (sym (note_before ns n i below) ∙ h) in
+    record {
+      was_live = at.was_live ∙ sym (is_live_front (said ns) (mention_in n) i x.id (omega (arith, below, length-said ns)));
+      rank = rank_stays (said ns) (mention_in n) x.rank x.id at.rank;
+    })
+    (λ past. let within : i < length (ns ++ n ∷ []) = slice_get_within (ns ++ n ∷ []) i x h in
+    let last : i ≡ length ns = omega (arith, past, within, length-append ns (n ∷ [])) in
+    subst (λ y. IsNote (said ns ++ mention_in n ∷ []) i y) (at_seam ns n x i last h)
+    (record {
+      was_live = was ∙ sym (is_live_end (said ns) (mention_in n) i n.id (omega (arith, last, length-said ns)));
+      rank = rank;
+    }))
+    (cases_lt i (length ns)))
 
 kept_or_put : (b p : Bool) (o : Option Bool) (x : Bool) → unwrap_or o false ≡ x → unwrap_or (cond b (Some p) o) false ≡ cond b p x
 kept_or_put true p o x h = refl
@@ -143,7 +143,7 @@ begun_more ns rest k i n id was now noted is_rest at inside item is more =
     let seen = is_noted (take i rest) id in
     let ms = said ns in
     let grown : is_noted (take (i + 1) rest) id ≡ (seen || (n.id == id)) =
-        ap (λ l. is_noted l id) (take_more rest i n inside ∙ ap (λ x. take i rest ++ x ∷ []) (sym item)) ∙ list_any-append (λ x. x.id == id) (take i rest) (n ∷ []) ∙ ap (λ b. seen || b) (or_none (n.id == id)) in
+    ap (λ l. is_noted l id) (take_more rest i n inside ∙ ap (λ x. take i rest ++ x ∷ []) (sym item)) ∙ list_any-append (λ x. x.id == id) (take i rest) (n ∷ []) ∙ ap (λ b. seen || b) (or_none (n.id == id)) in
     let untouched = λ (e : seen ≡ false). is_touched_noted ns k i id ∙ ap (λ l. is_noted (take i l) id) (sym is_rest) ∙ e in
     let live = λ (same : (n.id == id) ≡ true) (e : seen ≡ false). (noted (k + i) n at).was_live ∙ ap (λ x. is_live ms (k + i) x) (eqb-true n.id id same) ∙ is_live_untouched ms k (k + i) id (omega arith) (untouched e) in
     first_step (n.id == id) seen (standing ms k k id) (begun n.was_live) was now (λ same e. ap begun (live same e) ∙ sym (standing_begun ms k id)) is more

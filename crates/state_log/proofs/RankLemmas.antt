@@ -1,9 +1,10 @@
 -- Ids by their places in order of creation.
-use Rattle.std.proofs.Common.{◌≡◌, ◌≤◌, ◌<◌, ◌+◌, ◌-◌, ◌==◌, ◌||◌, ℕ, zero, suc, List, [], ◌∷◌, ◌++◌, Bool, true, false, cond, Option, Some, None, length, take, drop, map, filter, get_or, slice_get, slice_index, arith, refl, sym, ap, subst, ◌∙◌, ⊎_elim, nat_eq}
-use Rattle.std.specs.List.{list_any, range_with_len, IsDistinct, dedup, dedup_from}
+use Rattle.std.proofs.Common.{◌≡◌, ◌≤◌, ◌<◌, ◌+◌, ◌-◌, ◌==◌, ◌||◌, ℕ, zero, suc, List, [], ◌∷◌, Bool, true, false, cond, Some, length, take, drop, map, filter, get_or, slice_get, slice_index, arith, refl, sym, ap, subst, ◌∙◌, ⊎_elim, nat_eq}
+use Rattle.std.specs.List.{range_with_len, IsDistinct, dedup, dedup_from}
 use Rattle.std.specs.List.Sorted.{IsStrictlyIncreasing, IsPermutation, IsSorted}
 use Rattle.std.specs.Ordering.{nat_cmp}
 use Rattle.std.proofs.lemmas.Bool.{cases_lt, eqb-true, eq-eqb, false≢true, cases_Bool}
+use Rattle.std.proofs.lemmas.List.Elements.{filter_agree}
 use Rattle.std.proofs.lemmas.List.Folds.{list_any_at}
 use Rattle.std.proofs.lemmas.List.Sorted.{list_any-IsPermutation}
 use Rattle.std.proofs.lemmas.Map.Keys.{apart_from_distinct, IsStrictlyIncreasing-dedup}
@@ -11,7 +12,7 @@ use Rattle.std.proofs.lemmas.Option.{slice_get_within, get_or_from_slice_get}
 use Rattle.model_history.specs.Pages.{ids_of, is_in, is_touched}
 use Rattle.state_log.proofs.SizeLemmas.{eqb_sym}
 use Rattle.state_log.proofs.NoteLemmas.{is_noted, is_touched_noted}
-use Rattle.state_log.specs.Notes.{AreNotes, said}
+use Rattle.state_log.specs.Notes.{AreNotes, AreRanks, has_rank, said}
 use Rattle.state_log.specs.declared.change_index.Note.{Note}
 
 -- ---- a list that rises is a filter of all numbers
@@ -44,11 +45,11 @@ rising_is_filter (suc n) b [] p up same past =
 rising_is_filter (suc n) b (r ∷ rs) p up same past =
     ⊎_elim
     (λ below. rising_is_filter n (b + 1) (r ∷ rs) p (omega (arith, below), up.1) (λ q h. same q (omega (arith, h))) (λ q h. past q (omega (arith, h)))
-      ∙ sym (keep_filter p b (range_with_len (b + 1) n) false (sym (same b (omega arith)) ∙ absent_below (b + 1) b (r ∷ rs) (omega arith) (omega (arith, below), up.1))))
+    ∙ sym (keep_filter p b (range_with_len (b + 1) n) false (sym (same b (omega arith)) ∙ absent_below (b + 1) b (r ∷ rs) (omega arith) (omega (arith, below), up.1))))
     (λ here. let at : r ≡ b = omega (arith, here, up.0) in
-      let rest = rising_is_filter n (b + 1) rs p (subst (λ x. Rises (x + 1) rs) at up.1) (λ q h. behind r q rs (omega (arith, h, at)) ∙ same q (omega (arith, h))) (λ q h. past q (omega (arith, h))) in
-      ap (λ l. r ∷ l) rest ∙ ap (λ x. x ∷ filter p (range_with_len (b + 1) n)) at
-      ∙ sym (keep_filter p b (range_with_len (b + 1) n) true (sym (same b (omega arith)) ∙ ap (λ c. c || is_in rs b) (eq-eqb r b at))))
+    let rest = rising_is_filter n (b + 1) rs p (subst (λ x. Rises (x + 1) rs) at up.1) (λ q h. behind r q rs (omega (arith, h, at)) ∙ same q (omega (arith, h))) (λ q h. past q (omega (arith, h))) in
+    ap (λ l. r ∷ l) rest ∙ ap (λ x. x ∷ filter p (range_with_len (b + 1) n)) at
+    ∙ sym (keep_filter p b (range_with_len (b + 1) n) true (sym (same b (omega arith)) ∙ ap (λ c. c || is_in rs b) (eq-eqb r b at))))
     (cases_lt b r)
   where
     behind : (r q : ℕ) (rs : List ℕ) → r < q → is_in rs q ≡ is_in (r ∷ rs) q
@@ -94,9 +95,6 @@ ranked_take ids (suc k) (n ∷ ns) h = (h.0, ranked_take ids k ns h.1)
 pub window_ranked : (ns : List Note) (k i : ℕ) → AreNotes ns → AreRanked (ids_of (said ns)) (take i (drop k ns))
 window_ranked ns k i h = ranked_take (ids_of (said ns)) i (drop k ns) (ranked_drop (ids_of (said ns)) k ns (are_ranked (ids_of (said ns)) ns (λ j n e. (h j n e).rank)))
 
-abbrev pub has_rank : List Note → ℕ → Bool
-has_rank ns r = list_any (λ n. n.rank == r) ns
-
 -- no rank lies past the ids
 pub none_past : (ids : List ℕ) (ns : List Note) (r : ℕ) → AreRanked ids ns → length ids ≤ r → has_rank ns r ≡ false
 none_past ids [] r h past = refl
@@ -112,10 +110,10 @@ same_rank ids a r x distinct at h =
     ⊎_elim
     (λ below. not_same a r (omega (arith, below)) ∙ sym (ap (λ y. y == get_or ids r 0) (sym stands) ∙ apart_from_distinct nat_eq ids a r 0 distinct below h))
     (λ past. ⊎_elim
-      (λ above. not_same a r (omega (arith, above)) ∙ sym (ap (λ y. y == get_or ids r 0) (sym stands) ∙ eqb_sym (get_or ids a 0) (get_or ids r 0) ∙ apart_from_distinct nat_eq ids r a 0 distinct above within))
-      (λ level. let same : a ≡ r = omega (arith, past, level) in
-        eq-eqb a r same ∙ sym (eq-eqb x (get_or ids r 0) (sym stands ∙ ap (λ y. get_or ids y 0) same)))
-      (cases_lt r a))
+    (λ above. not_same a r (omega (arith, above)) ∙ sym (ap (λ y. y == get_or ids r 0) (sym stands) ∙ eqb_sym (get_or ids a 0) (get_or ids r 0) ∙ apart_from_distinct nat_eq ids r a 0 distinct above within))
+    (λ level. let same : a ≡ r = omega (arith, past, level) in
+    eq-eqb a r same ∙ sym (eq-eqb x (get_or ids r 0) (sym stands ∙ ap (λ y. get_or ids y 0) same)))
+    (cases_lt r a))
     (cases_lt a r)
   where
     not_same : (a r : ℕ) → (1 ≤ (a - r) + (r - a)) → (a == r) ≡ false
@@ -173,34 +171,24 @@ rank_within ids ns ranks i ranked same h =
     let listed : is_in ranks r ≡ true = list_any_at (λ n. n == r) ranks i 0 h (eq-eqb r r refl) in
     ⊎_elim (λ l. l) (λ past. absurd (false≢true (sym (none_past ids ns r ranked (omega (arith, past))) ∙ sym (same r) ∙ listed))) (cases_lt r (length ids))
 
-pub touched_is : (ns : List Note) (k j : ℕ) → k ≤ j → filter (λ id. is_noted (take (j - k) (drop k ns)) id) (ids_of (said ns)) ≡ filter (is_touched (said ns) k j) (ids_of (said ns))
+touched_is : (ns : List Note) (k j : ℕ) → k ≤ j → filter (λ id. is_noted (take (j - k) (drop k ns)) id) (ids_of (said ns)) ≡ filter (is_touched (said ns) k j) (ids_of (said ns))
 touched_is ns k j le =
     let end : k + (j - k) ≡ j = omega (arith, le) in
-    filter_same (λ id. is_noted (take (j - k) (drop k ns)) id) (is_touched (said ns) k j) (λ id. sym (is_touched_noted ns k (j - k) id) ∙ ap (λ n. is_touched (said ns) k n id) end) (ids_of (said ns))
-  where
-    filter_same : (p q : ℕ → Bool) → ((n : ℕ) → p n ≡ q n) → (ns : List ℕ) → filter p ns ≡ filter q ns
-    filter_same p q h [] = refl
-    filter_same p q h (n ∷ ns) = ap (λ b. cond b (n ∷ filter p ns) (filter p ns)) (h n) ∙ ap (λ l. cond (q n) (n ∷ l) l) (filter_same p q h ns)
+    filter_agree (λ id. is_noted (take (j - k) (drop k ns)) id) (is_touched (said ns) k j) (λ id. sym (is_touched_noted ns k (j - k) id) ∙ ap (λ n. is_touched (said ns) k n id) end) (ids_of (said ns))
 
--- what is known of the places of the notes of a window, each once, in order
-pub record AreRanks (ids : List ℕ) (ns : List Note) (ranks : List ℕ) : Type 0 where
-  pub distinct : IsDistinct nat_eq ids
-  pub ranked : AreRanked ids ns
-  pub up : IsStrictlyIncreasing ranks
-  pub same : (r : ℕ) → is_in ranks r ≡ has_rank ns r
-
-pub are_ranks : (ns : List Note) (k i : ℕ) (ids some sorted ranks : List ℕ) → AreNotes ns → ids ≡ ids_of (said ns) → IsDistinct nat_eq ids → some ≡ map (λ (n : Note). n.rank) (take i (drop k ns)) → IsPermutation some sorted → IsSorted nat_cmp sorted → ranks ≡ dedup nat_eq sorted
-    → AreRanks ids (take i (drop k ns)) ranks
-are_ranks ns k i ids some sorted ranks noted is_ids distinct is moved up once = record {
-  distinct = distinct;
-  ranked = subst (λ l. AreRanked l (take i (drop k ns))) (sym is_ids) (window_ranked ns k i noted);
+pub are_ranks : (ns : List Note) (some sorted ranks : List ℕ) → some ≡ map (λ (n : Note). n.rank) ns → IsPermutation some sorted → IsSorted nat_cmp sorted → ranks ≡ dedup nat_eq sorted → AreRanks ns ranks
+are_ranks ns some sorted ranks is moved up once = record {
   up = subst IsStrictlyIncreasing (sym once) (IsStrictlyIncreasing-dedup sorted up);
-  same = λ r. ranks_of_notes (take i (drop k ns)) some sorted ranks r is moved once;
+  same = λ r. ranks_of_notes ns some sorted ranks r is moved once;
 }
 
-pub marked_within : (ids : List ℕ) (ns : List Note) (ranks : List ℕ) (i : ℕ) → AreRanks ids ns ranks → i < length ranks → get_or ranks i 0 < length ids
-marked_within ids ns ranks i m h = rank_within ids ns ranks i m.ranked m.same h
+ranked_in : (ns : List Note) (k i : ℕ) (ids : List ℕ) → AreNotes ns → ids ≡ ids_of (said ns) → AreRanked ids (take i (drop k ns))
+ranked_in ns k i ids noted is_ids = subst (λ l. AreRanked l (take i (drop k ns))) (sym is_ids) (window_ranked ns k i noted)
 
-pub touched_by_ranks : (ns : List Note) (k j : ℕ) (ids ranks : List ℕ) → k ≤ j → ids ≡ ids_of (said ns) → AreRanks ids (take (j - k) (drop k ns)) ranks → map (λ r. get_or ids r 0) ranks ≡ filter (is_touched (said ns) k j) (ids_of (said ns))
-touched_by_ranks ns k j ids ranks le is_ids m =
-    ids_at_ranks ids (take (j - k) (drop k ns)) ranks m.distinct m.ranked m.up m.same ∙ ap (λ l. filter (λ id. is_noted (take (j - k) (drop k ns)) id) l) is_ids ∙ touched_is ns k j le
+pub ranks_within : (ns : List Note) (k i : ℕ) (ids ranks : List ℕ) (p : ℕ) → AreNotes ns → ids ≡ ids_of (said ns) → AreRanks (take i (drop k ns)) ranks → p < length ranks → get_or ranks p 0 < length ids
+ranks_within ns k i ids ranks p noted is_ids are h = rank_within ids (take i (drop k ns)) ranks p (ranked_in ns k i ids noted is_ids) are.same h
+
+pub touched_by_ranks : (ns : List Note) (k j : ℕ) (ids ranks : List ℕ) → k ≤ j → AreNotes ns → ids ≡ ids_of (said ns) → IsDistinct nat_eq ids → AreRanks (take (j - k) (drop k ns)) ranks
+    → map (λ r. get_or ids r 0) ranks ≡ filter (is_touched (said ns) k j) (ids_of (said ns))
+touched_by_ranks ns k j ids ranks le noted is_ids distinct are =
+    ids_at_ranks ids (take (j - k) (drop k ns)) ranks distinct (ranked_in ns k (j - k) ids noted is_ids) are.up are.same ∙ ap (λ l. filter (λ id. is_noted (take (j - k) (drop k ns)) id) l) is_ids ∙ touched_is ns k j le

@@ -1,6 +1,8 @@
 -- What the changes of one kind said of ids, with what makes a page from them.
-use Rattle.std.specs.Prelude.{◌≡◌, ℕ, Bool, false, List, map, Option, Some, slice_get, unwrap_or}
-use Rattle.model_history.specs.Pages.{Mention, ids_of, is_live, live_from}
+use Rattle.std.specs.Prelude.{◌≡◌, ◌==◌, ℕ, Bool, false, List, map, Option, Some, slice_get, unwrap_or}
+use Rattle.std.specs.List.{list_any}
+use Rattle.std.specs.List.Sorted.{IsStrictlyIncreasing}
+use Rattle.model_history.specs.Pages.{Mention, ids_of, is_in, is_live, live_from}
 use Rattle.state_log.specs.declared.change_index.Note.{Note}
 
 -- what a note says, without what it adds
@@ -21,3 +23,11 @@ AreNotes ns = (i : ℕ) (n : Note) → slice_get ns i ≡ Some n → IsNote (sai
 -- a map tells which ids are live after all mentions
 abbrev pub AreLive : (ℕ → Option Bool) → List Mention → Type 0
 AreLive live ms = (id : ℕ) → unwrap_or (live id) false ≡ live_from false ms id
+
+abbrev pub has_rank : List Note → ℕ → Bool
+has_rank ns r = list_any (λ n. n.rank == r) ns
+
+-- the ranks in some notes, each once, the lowest first
+pub record AreRanks (ns : List Note) (ranks : List ℕ) : Type 0 where
+  pub up : IsStrictlyIncreasing ranks
+  pub same : (r : ℕ) → is_in ranks r ≡ has_rank ns r

@@ -1,10 +1,10 @@
 -- How ids stand between two states.
-use Rattle.std.specs.Prelude.{◌≡◌, ℕ, List, [], ◌∷◌, ◌==◌, ◌&&◌, ◌||◌, not, Bool, true, false, Option, Some, None, drop, filter, take, if◌then◌else◌, nat_eq}
+use Rattle.std.specs.Prelude.{◌≡◌, ℕ, List, [], ◌∷◌, ◌==◌, ◌&&◌, ◌||◌, not, Bool, true, false, Option, Some, None, drop, if◌then◌else◌, nat_eq}
 use Rattle.std.specs.HashMap.{get, HashMap}
 use Rattle.std.specs.List.{list_any}
 use Rattle.std.specs.declared.hash.BuildHasherDefault.{BuildHasherDefault}
 use Rattle.std.specs.declared.hash.FoldHasher.{FoldHasher}
-use Rattle.model_history.specs.Pages.{Mention, ids_of, is_in, is_live, is_touched}
+use Rattle.model_history.specs.Pages.{Mention, is_live, is_touched}
 use Rattle.state_log.specs.declared.standing.Growth.{Growth}
 use Rattle.state_log.specs.declared.standing.Standing.{Standing}
 

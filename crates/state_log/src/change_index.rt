@@ -2,7 +2,7 @@
 ghost use Rattle.std.specs.Prelude.{◌≡◌, ◌≤◌, ◌<◌, ◌+◌, ◌-◌, ◌++◌, ◌∷◌, [], nat_eq, drop, filter, length, map, take, OnOk, IfOk};
 ghost use Rattle.indexmap.specs.IndexMap.{get, keys};
 ghost use Rattle.model_history.specs.Pages.{ids_of, is_touched};
-ghost use Rattle.state_log.specs.Notes.{AreLive, AreNotes, said};
+ghost use Rattle.state_log.specs.Notes.{AreLive, AreNotes, AreRanks, said};
 
 use indexmap::IndexMap;
 use std::alloc::{AllocError, Global};
@@ -80,9 +80,7 @@ impl ChangeIndex {
         requires end { until ≤ length (mentioned self.now) }
         ensures { IfOk result (λ ids. ids.items ≡ filter (is_touched (mentioned self.now) since until) (ids_of (mentioned self.now))) }
     {
-        let mut ranks = self.ranks_between(alloc, since, until)?;
-        ranks.sort_unstable();
-        ranks.dedup();
+        let ranks = self.sorted_ranks(alloc, since, until)?;
         let keys = self.live.keys();
         let ids = keys.as_slice();
         let mut touched = Vec::new(alloc);
@@ -90,6 +88,23 @@ impl ChangeIndex {
             touched.push(ids[*rank])?;
         }
         Ok(touched)
+    }
+
+    // The ranks of the ids that are named between two states, each once.
+    fn sorted_ranks(
+        &self,
+        alloc: Global,
+        since: usize,
+        until: usize,
+    ) -> Result<Vec<usize>, AllocError>
+        requires order { since ≤ until }
+        requires end { until ≤ length (mentioned self.now) }
+        ensures { IfOk result (λ ranks. AreRanks (take (until - since) (drop since self.now.notes.items)) ranks.items) }
+    {
+        let mut ranks = self.ranks_between(alloc, since, until)?;
+        ranks.sort_unstable();
+        ranks.dedup();
+        Ok(ranks)
     }
 
     fn ranks_between(

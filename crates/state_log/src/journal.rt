@@ -6,8 +6,8 @@ ghost use Rattle.model_history.specs.declared.entry.Kind.TheVariants.{Calendar, 
 ghost use Rattle.state_log.specs.Notes.{said};
 ghost use Rattle.state_log.specs.declared.journal.ChangesError.TheVariants.{NoMemory, NotRetained};
 
-use crate::page::{Page, page_from};
 use crate::change_index::ChangeIndex;
+use crate::page::{Page, page_from};
 use model_history::entry::{Entry, Kind};
 use std::alloc::{AllocError, Global};
 
@@ -107,7 +107,8 @@ impl Journal {
     /// Gives what was created, updated and destroyed after the state `since` of a kind (RFC 8620 section 5.2).
     ///
     /// The page ends at the greatest state at which its lists together have at most `max` ids, and at the state of the kind
-    /// where there is no maximum. Takes memory for the mentions of the kind and the ids of the page.
+    /// where there is no maximum. Time and memory grow with the changes of the kind after `since` and the ids that they name, and
+    /// not with the changes before.
     pub fn changes(&self, kind: Kind, since: u64, max: Option<u64>) -> Result<Page, ChangesError>
         ensures ok { IfOk result (IsPage (mentions kind (changes_of (entries self.now))) since max) }
         ensures not_retained { IsErrOf result ChangesError.NotRetained ↔ (is_retained (state_at (changes_of (entries self.now)) kind) since ≡ false) }

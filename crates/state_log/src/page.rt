@@ -5,8 +5,8 @@ ghost use Rattle.model_history.specs.Pages.{created, destroyed, page_end, update
 ghost use Rattle.state_log.specs.ChangeIndex.{mentioned};
 ghost use Rattle.state_log.specs.Standing.{AreStandings, is_changed, is_gone, is_new, listed_by, one_if};
 
-use crate::standing::{Growth, Standings, advance, standings_from};
 use crate::change_index::ChangeIndex;
+use crate::standing::{Growth, Standings, advance, standings_from};
 use model_history::ids::Ids;
 use std::alloc::{AllocError, Global};
 
@@ -66,7 +66,12 @@ fn end_from(
 }
 
 // The greatest state at which the page lists at most `most` ids.
-fn longest_from(alloc: Global, changes: &ChangeIndex, since: usize, most: u64) -> Result<usize, AllocError>
+fn longest_from(
+    alloc: Global,
+    changes: &ChangeIndex,
+    since: usize,
+    most: u64,
+) -> Result<usize, AllocError>
     requires { since ≤ length (mentioned changes.now) }
     ensures value { IfOk result (λ end. end ≡ page_end (mentioned changes.now) since (Some most)) }
     ensures after { IfOk result (λ end. since ≤ end) }

@@ -5,7 +5,7 @@ ghost use Rattle.state_log.specs.ChangeIndex.{mentioned};
 ghost use Rattle.state_log.specs.Notes.{mention_in};
 ghost use Rattle.state_log.specs.Standing.{AreStandings, after, begun, growth_of, is_listed, is_new, is_changed, is_gone};
 
-use crate::change_index::{Note, ChangeIndex};
+use crate::change_index::{ChangeIndex, Note};
 use std::alloc::{AllocError, Global};
 use std::collections::HashMap;
 

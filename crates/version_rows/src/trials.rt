@@ -46,12 +46,7 @@ pub fn differences(alloc: Global, row: &str) -> Result<Option<String>, AllocErro
 }
 
 /// Steps of which each makes the next state. One in three removes, be there an object or not.
-fn random_steps(
-    alloc: Global,
-    seed: u64,
-    count: u64,
-    ids: u64,
-) -> Result<Vec<Step>, AllocError> {
+fn random_steps(alloc: Global, seed: u64, count: u64, ids: u64) -> Result<Vec<Step>, AllocError> {
     let mut numbers = Numbers { last: seed };
     let mut steps = Vec::new(alloc);
     for state in 0..count {
@@ -82,7 +77,9 @@ fn other_table(alloc: Global, steps: &[Step], ids: u64) -> Result<Option<String>
     let table = table_of(alloc, steps)?;
     let last = steps.len() as u64;
     for state in 0..last + 2 {
-        if table.live_at(alloc, state)?.items().as_slice() != live_at(alloc, steps, state)?.as_slice() {
+        if table.live_at(alloc, state)?.items().as_slice()
+            != live_at(alloc, steps, state)?.as_slice()
+        {
             return Ok(Some(format!(in alloc; "live_at {state}")?));
         }
         for id in 0..ids {

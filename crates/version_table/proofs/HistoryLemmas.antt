@@ -9,7 +9,7 @@ use Rattle.model_history.specs.declared.entry.Change.{Change}
 use Rattle.model_history.specs.declared.entry.Kind.{Kind}
 use Rattle.model_json.specs.declared.tree.Tree.{Tree}
 use Rattle.version_table.specs.Histories.{of_kind, puts_after, puts_in}
-use Rattle.version_table.specs.Puts.{Put, ids_of, latest_from, live_at, object_at, up_to}
+use Rattle.version_table.specs.Puts.{Put, latest_from, live_at, object_at, up_to}
 
 same_id : (a b : ℕ) → (a == b) ≡ (b == a)
 same_id a b = grind (arith, common_steps)

@@ -1,4 +1,4 @@
-use Rattle.std.proofs.Common.{◌≡◌, ◌<◌, ◌∙◌, ap, arith, filter, length, get_or, refl, ℕ}
+use Rattle.std.proofs.Common.{◌∙◌, ap, filter, get_or, refl, ℕ}
 use Rattle.std.proofs.lemmas.List.{take_all}
 use Rattle.state_log.proofs.GrowthLemmas.{listed_more, listed_all, quiet_new, quiet_changed, quiet_gone}
 use Rattle.state_log.specs.Standing.{is_changed, is_gone, is_new, standing}
@@ -40,4 +40,3 @@ returns-clause-destroyed c =
     let touched = c.deref-id-items.result.now in
     c.loop-id.invariant.destroyed ∙ ap (λ l. filter (λ n. is_gone (standing ms c.args.since c.args.until n)) l) (take_all c.loop-id.id-index touched c.loop-id-test.false)
     ∙ listed_all is_gone quiet_gone ms c.args.since c.args.until touched c.requires.order (c.deref-id-items.ensures.value ∙ c.in_ok-touched.ensures)
-

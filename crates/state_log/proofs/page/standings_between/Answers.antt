@@ -1,4 +1,4 @@
-use Rattle.std.proofs.Common.{◌≡◌, ◌≤◌, ◌<◌, arith, length, get_or}
+use Rattle.std.proofs.Common.{◌≤◌, ◌<◌, arith, length}
 use Rattle.std.proofs.lemmas.Grind.{common_steps}
 use Rattle.state_log.proofs.StandingLemmas.{found_more}
 use Rattle.state_log.proofs.NoteLemmas.{length-said, mention_at}

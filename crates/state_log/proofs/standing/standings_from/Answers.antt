@@ -1,8 +1,7 @@
-use Rattle.std.proofs.Common.{◌≡◌, ◌<◌, ◌+◌, ap, sym, ◌∙◌, arith, length, drop, take, ◌-◌, get_or, false, Some, slice_get}
-use Rattle.std.proofs.lemmas.Grind.{common_steps}
+use Rattle.std.proofs.Common.{◌≡◌, ◌<◌, ◌+◌, ap, ◌∙◌, arith, length, drop, take, ◌-◌, get_or, false}
 use Rattle.std.proofs.lemmas.List.{get_or_default, take_rest, get_or-drop, length-drop}
 use Rattle.std.proofs.lemmas.Option.{slice_get_read}
-use Rattle.state_log.proofs.NoteLemmas.{begun_more, begun_all, length-said}
+use Rattle.state_log.proofs.NoteLemmas.{begun_more, begun_all}
 use Rattle.state_log.specs.declared.change_index.Note.{Note}
 use Rattle.state_log.proofs.standing.standings_from.Goals as goal
 

@@ -1,4 +1,4 @@
-use Rattle.std.proofs.Common.{◌≡◌, ◌==◌, ℕ, take, false, nat_eq}
+use Rattle.std.proofs.Common.{◌≡◌, ◌==◌, ℕ, take, nat_eq}
 use Rattle.std.specs.HashMap.{get}
 use Rattle.std.specs.List.{list_any}
 use Rattle.state_log.specs.Standing.{only_if, standing}

@@ -1,4 +1,4 @@
-use Rattle.std.proofs.Common.{◌≡◌, ◌∷◌, [], ◌++◌, ◌∙◌, ap, sym, subst, Some, cond, false, nat_eq, unwrap_or, slice_get}
+use Rattle.std.proofs.Common.{◌≡◌, ◌∷◌, [], ◌++◌, ◌∙◌, ap, sym, subst, Some, false, nat_eq, unwrap_or, slice_get}
 use Rattle.std.proofs.lemmas.Result.{IfOk-at_ok}
 use Rattle.std.specs.List.{position_or_len}
 use Rattle.std.specs.Map.{keys_of}
@@ -22,7 +22,7 @@ invariant_of-self c =
     let ordered : keys c.insert_full.new.self ≡ ids_of (said ns ++ m ∷ []) = ordered_more t.live.entries c.insert_full.new.self.entries (said ns) m c.args.puts t.ordered entries in
     let was : n.was_live ≡ live_from false (said ns) m.id = c.unwrap_or.ensures ∙ ap (λ o. unwrap_or o false) before ∙ t.known m.id in
     let rank : slice_get (ids_of (said ns ++ m ∷ [])) n.rank ≡ Some m.id =
-        ap (λ l. slice_get l n.rank) (sym ordered) ∙ ap (λ j. slice_get (keys c.insert_full.new.self) j) index ∙ ap (λ es. slice_get (keys_of es) (position_or_len (nat_eq m.id) (keys_of t.live.entries))) entries ∙ rank_found t.live.entries m.id c.args.puts in
+    ap (λ l. slice_get l n.rank) (sym ordered) ∙ ap (λ j. slice_get (keys c.insert_full.new.self) j) index ∙ ap (λ es. slice_get (keys_of es) (position_or_len (nat_eq m.id) (keys_of t.live.entries))) entries ∙ rank_found t.live.entries m.id c.args.puts in
     record {
       noted = subst AreNotes (sym c.push_reserved.ensures.items) (noted_more ns n t.noted was rank);
       known = subst (λ l. AreLive (get nat_eq c.insert_full.new.self) (said l)) (sym c.push_reserved.ensures.items) (subst (AreLive (get nat_eq c.insert_full.new.self)) (sym (said_more ns n)) (live_more (get nat_eq t.live) (get nat_eq c.insert_full.new.self) (said ns) m t.known updates.0));

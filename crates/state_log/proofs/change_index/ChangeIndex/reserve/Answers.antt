@@ -1,4 +1,4 @@
-use Rattle.std.proofs.Common.{◌≡◌, ◌∙◌, ap, sym, subst, nat_eq, unwrap_or, false}
+use Rattle.std.proofs.Common.{◌∙◌, ap, sym, subst, nat_eq, unwrap_or, false}
 use Rattle.std.specs.Map.{keys_of, lookup}
 use Rattle.model_history.specs.Pages.{ids_of, live_from}
 use Rattle.state_log.specs.Notes.{AreNotes, said}

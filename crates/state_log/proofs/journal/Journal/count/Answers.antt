@@ -1,5 +1,5 @@
-use Rattle.std.proofs.Common.{◌≡◌, ap, sym, arith, length}
-use Rattle.model_history.specs.History.{changes_of, state_at}
+use Rattle.std.proofs.Common.{◌≡◌, ap, arith, length}
+use Rattle.model_history.specs.History.{changes_of}
 use Rattle.model_history.specs.Pages.{mentions}
 use Rattle.state_log.specs.Journal.{entries}
 use Rattle.state_log.specs.ChangeIndex.{mentioned}

@@ -1,4 +1,4 @@
-use Rattle.std.proofs.Common.{◌≡◌, ◌<◌, ap, sym, subst, ◌∙◌, nat_eq, Some, arith, if◌then◌else◌, length, map}
+use Rattle.std.proofs.Common.{◌≡◌, ap, sym, subst, ◌∙◌, nat_eq, Some, arith, if◌then◌else◌, length, map}
 use Rattle.std.proofs.lemmas.Result.{IfOk-at_ok}
 use Rattle.indexmap.specs.IndexMap.{get}
 use Rattle.version_table.specs.declared.table.Version.{Version}

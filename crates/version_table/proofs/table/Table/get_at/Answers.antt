@@ -1,8 +1,8 @@
-use Rattle.std.proofs.Common.{◌≡◌, ◌<◌, ℕ, Bool, List, Some, length, subst, sym, ◌∙◌, arith}
+use Rattle.std.proofs.Common.{◌<◌, Bool, length, subst, sym, ◌∙◌, arith}
 use Rattle.std.specs.Prelude.{nat_le}
 use Rattle.std.proofs.lemmas.Bool.{le-leb, lt-leb}
 use Rattle.std.proofs.lemmas.Option.{slice_get_read}
-use Rattle.version_table.proofs.WalkLemmas.{Walks, steps, walk-begins, walk-ends, walk-goes_on, walk-nears, walk-none, walk-within}
+use Rattle.version_table.proofs.WalkLemmas.{Walks, steps, walk-ends, walk-goes_on, walk-nears, walk-none, walk-within}
 use Rattle.version_table.specs.Puts.{Put}
 use Rattle.version_table.proofs.table.Table.get_at.Goals as goal
 
