@@ -1,4 +1,7 @@
 //! Rows of journals.
+ghost use Rattle.std.specs.Prelude.{◌≡◌};
+ghost use Rattle.model_history.specs.Pages.{mention_of};
+
 use crate::words::{number, words_of};
 use model_history::entry::{Change, Entry, Kind};
 use model_json::tree::Tree;
@@ -32,7 +35,10 @@ pub fn add(journal: &mut Journal, kind: Kind, id: u64, puts: bool) -> Result<(),
 }
 
 /// An entry that puts an object or removes it. Takes no memory.
-pub fn entry_of(kind: Kind, id: u64, puts: bool) -> Entry {
+pub fn entry_of(kind: Kind, id: u64, puts: bool) -> Entry
+    ensures kind { result.change.kind ≡ kind }
+    ensures mention { mention_of result.change ≡ record { id = id; puts = puts } }
+{
     Entry {
         author: 0,
         turn: 0,

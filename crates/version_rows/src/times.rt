@@ -60,7 +60,7 @@ impl Load {
 }
 
 fn fill_table(table: &mut Table<u64>, load: Load)
-    requires { load.entries ≤ table_words.spare table.old }
+    requires { load.entries ≤ table_words.spare_puts table.old }
 {
     for entry in 0..load.entries {
         table.put(load.id(entry), entry.saturating_add(1), entry);

@@ -10,8 +10,8 @@ use Rattle.std.proofs.lemmas.Option.{same_Some, slice_get-get_or, slice_get_with
 use Rattle.indexmap.specs.IndexMap.{insert_entry}
 use Rattle.indexmap.specs.IndexSet.{insert_key}
 use Rattle.indexmap.proofs.SetLemmas.{keys_insert_entry}
-use Rattle.version_table.proofs.PutLemmas.{ids_of_more, with_id_is}
-use Rattle.version_table.specs.Puts.{ids_of}
+use Rattle.version_table.proofs.PutLemmas.{ids_put_more, with_id_is}
+use Rattle.version_table.specs.Puts.{ids_put}
 use Rattle.version_table.specs.Versions.{AreIndexed, AreLinked, is_of, last_place, put_of}
 use Rattle.version_table.specs.declared.table.Version.{Version}
 
@@ -61,8 +61,8 @@ module _ {T : Type 0} where
       ∙ ap (λ m. last_place (vs ++ v ∷ []) q m) (sym len)
 
   -- the keys of the index stay the ids in order of creation
-  pub ordered_more : {X : Type 0} (vs : List (Version T)) (v : Version T) (es fs : List (ℕ × X)) (w : X) → keys_of es ≡ ids_of (map put_of vs) → fs ≡ insert_entry nat_eq es v.id w
-      → keys_of fs ≡ ids_of (map put_of (vs ++ v ∷ []))
+  pub ordered_more : {X : Type 0} (vs : List (Version T)) (v : Version T) (es fs : List (ℕ × X)) (w : X) → keys_of es ≡ ids_put (map put_of vs) → fs ≡ insert_entry nat_eq es v.id w
+      → keys_of fs ≡ ids_put (map put_of (vs ++ v ∷ []))
   ordered_more vs v es fs w h is =
-      ap keys_of is ∙ keys_insert_entry nat_eq es v.id w ∙ ap (λ l. insert_key nat_eq l v.id) h ∙ with_id_is (ids_of (map put_of vs)) v.id
-      ∙ sym (ids_of_more (map put_of vs) (put_of v)) ∙ ap ids_of (sym (map_push put_of vs v))
+      ap keys_of is ∙ keys_insert_entry nat_eq es v.id w ∙ ap (λ l. insert_key nat_eq l v.id) h ∙ with_id_is (ids_put (map put_of vs)) v.id
+      ∙ sym (ids_put_more (map put_of vs) (put_of v)) ∙ ap ids_put (sym (map_push put_of vs v))

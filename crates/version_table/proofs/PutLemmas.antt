@@ -6,7 +6,7 @@ use Rattle.std.proofs.Math.Bool.{and-true}
 use Rattle.std.specs.List.{list_any}
 use Rattle.indexmap.specs.IndexSet.{insert_key}
 use Rattle.model_history.specs.History.{with_id}
-use Rattle.version_table.specs.Puts.{Put, ids_of, latest, latest_from}
+use Rattle.version_table.specs.Puts.{Put, ids_put, latest, latest_from}
 
 module _ {T : Type 0} where
   latest_from-append : (before : Option T) (ps qs : List (Put T)) (id : ℕ) → latest_from before (ps ++ qs) id ≡ latest_from (latest_from before ps id) qs id
@@ -19,8 +19,8 @@ module _ {T : Type 0} where
   latest_more true ps p id = latest_from-append None ps (p ∷ []) id ∙ ap (λ b. if b then p.object else latest ps id) (sym (and-true (p.id == id)))
   latest_more false ps p id = ap (λ l. latest l id) (append-nil ps) ∙ ap (λ b. if b then p.object else latest ps id) (sym (and_right (p.id == id) false refl))
 
-  pub ids_of_more : (ps : List (Put T)) (p : Put T) → ids_of (ps ++ p ∷ []) ≡ with_id (ids_of ps) p.id
-  ids_of_more ps p = fold-append (λ ids q. with_id ids q.id) [] ps (p ∷ [])
+  pub ids_put_more : (ps : List (Put T)) (p : Put T) → ids_put (ps ++ p ∷ []) ≡ with_id (ids_put ps) p.id
+  ids_put_more ps p = fold-append (λ ids q. with_id ids q.id) [] ps (p ∷ [])
 
   pub filter_all : (ps : List (Put T)) → filter (λ p. true) ps ≡ ps
   filter_all [] = refl

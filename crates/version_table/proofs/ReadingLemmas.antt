@@ -4,7 +4,7 @@ use Rattle.std.specs.Prelude.{nat_le}
 use Rattle.std.proofs.lemmas.List.Elements.{filter_agree}
 use Rattle.model_history.specs.History.{with_id}
 use Rattle.version_table.specs.Histories.{read_by}
-use Rattle.version_table.specs.Puts.{Put, latest_from, live_at, object_at, up_to}
+use Rattle.version_table.specs.Puts.{Put, latest_from, live_ids_at, version_at, up_to}
 
 module _ {T U : Type 0} (read : T → U) where
   either_read : (b : Bool) (x y : Option T) → (if b then option_map read x else option_map read y) ≡ option_map read (if b then x else y)
@@ -24,7 +24,7 @@ module _ {T U : Type 0} (read : T → U) where
   up_to_read [] k = refl
   up_to_read (p ∷ ps) k = read_if (nat_le p.state k) p (up_to k ps) (up_to k (read_by read ps)) (up_to_read ps k)
 
-  pub at_state_read : (ps : List (Put T)) (id k : ℕ) → object_at (read_by read ps) id k ≡ option_map read (object_at ps id k)
+  pub at_state_read : (ps : List (Put T)) (id k : ℕ) → version_at (read_by read ps) id k ≡ option_map read (version_at ps id k)
   at_state_read ps id k = ap (λ l. latest_from None l id) (up_to_read ps k) ∙ latest_read (up_to k ps) None id
 
   ids_read : (ps : List (Put T)) (ids : List ℕ) → fold (λ js (p : Put U). with_id js p.id) ids (read_by read ps) ≡ fold (λ js (p : Put T). with_id js p.id) ids ps
@@ -35,7 +35,7 @@ module _ {T U : Type 0} (read : T → U) where
   some_read None = refl
   some_read (Some x) = refl
 
-  pub live_read : (ps : List (Put T)) (k : ℕ) → live_at (read_by read ps) k ≡ live_at ps k
+  pub live_read : (ps : List (Put T)) (k : ℕ) → live_ids_at (read_by read ps) k ≡ live_ids_at ps k
   live_read ps k =
-      ap (λ l. filter (λ id. is_some (object_at (read_by read ps) id k)) l) (ids_read ps [])
-      ∙ filter_agree (λ id. is_some (object_at (read_by read ps) id k)) (λ id. is_some (object_at ps id k)) (λ id. ap is_some (at_state_read ps id k) ∙ some_read (object_at ps id k)) (fold (λ js (p : Put T). with_id js p.id) [] ps)
+      ap (λ l. filter (λ id. is_some (version_at (read_by read ps) id k)) l) (ids_read ps [])
+      ∙ filter_agree (λ id. is_some (version_at (read_by read ps) id k)) (λ id. is_some (version_at ps id k)) (λ id. ap is_some (at_state_read ps id k) ∙ some_read (version_at ps id k)) (fold (λ js (p : Put T). with_id js p.id) [] ps)

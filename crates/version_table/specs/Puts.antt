@@ -23,13 +23,13 @@ module _ {T : Type 0} where
   up_to k ps = filter (λ p. nat_le p.state k) ps
 
   -- the object of an id at state k
-  abbrev pub object_at : List (Put T) → ℕ → ℕ → Option T
-  object_at ps id k = latest (up_to k ps) id
+  abbrev pub version_at : List (Put T) → ℕ → ℕ → Option T
+  version_at ps id k = latest (up_to k ps) id
 
   -- the different ids, in the order in which they were first named, which is that of creation
-  abbrev pub ids_of : List (Put T) → List ℕ
-  ids_of ps = fold (λ ids p. with_id ids p.id) [] ps
+  abbrev pub ids_put : List (Put T) → List ℕ
+  ids_put ps = fold (λ ids p. with_id ids p.id) [] ps
 
   -- the ids that have an object at state k, in order of creation
-  abbrev pub live_at : List (Put T) → ℕ → List ℕ
-  live_at ps k = filter (λ id. is_some (object_at ps id k)) (ids_of ps)
+  abbrev pub live_ids_at : List (Put T) → ℕ → List ℕ
+  live_ids_at ps k = filter (λ id. is_some (version_at ps id k)) (ids_put ps)

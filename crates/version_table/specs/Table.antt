@@ -11,5 +11,5 @@ module _ {T : Type 0} where
   puts t = map put_of t.versions.items
 
   -- how many more it takes without memory, at least
-  abbrev pub spare : Table T → ℕ
-  spare t = min (index.spare t.newest) (vec_capacity t.versions - vec_len t.versions)
+  abbrev pub spare_puts : Table T → ℕ
+  spare_puts t = min (index.spare t.newest) (vec_capacity t.versions - vec_len t.versions)

@@ -1,7 +1,7 @@
 //! The versions of objects, and the places of the newest among them.
 ghost use Rattle.std.specs.Prelude.{◌≡◌, ◌<◌, ◌≤◌, ◌+◌, ◌++◌, ◌∷◌, [], nat_eq, map, None, Some, option_copied, OnOk, IfOk};
 ghost use Rattle.indexmap.specs.IndexMap.{get, keys};
-ghost use Rattle.version_table.specs.Puts.{ids_of, latest, live_at, object_at};
+ghost use Rattle.version_table.specs.Puts.{ids_put, latest, live_ids_at, version_at};
 ghost use Rattle.version_table.specs.Versions.{AreIndexed, AreLinked, put_of};
 
 use indexmap::IndexMap;
@@ -31,11 +31,11 @@ pub struct Table<T> {
     versions: Vec<Version<T>>,
     ghost linked: { AreLinked versions.items },
     ghost indexed: { AreIndexed (get nat_eq newest) versions.items },
-    ghost ordered: { keys newest ≡ ids_of (map put_of versions.items) },
+    ghost ordered: { keys newest ≡ ids_put (map put_of versions.items) },
 }
 
 impl<T: Drop> Table<T> {
-    ghost use Rattle.version_table.specs.Table.{puts, spare};
+    ghost use Rattle.version_table.specs.Table.{puts, spare_puts};
 
     /// A table without objects. Takes no memory.
     pub fn new(alloc: Global) -> Table<T>
@@ -49,7 +49,7 @@ impl<T: Drop> Table<T> {
 
     /// Takes memory for `more` further puts and removals, of whatever ids.
     pub fn reserve(&mut self, more: u64) -> Result<(), AllocError>
-        ensures spare { OnOk result (more ≤ spare self.new) }
+        ensures spare { OnOk result (more ≤ spare_puts self.new) }
         ensures puts { puts self.new ≡ puts self.old }
     {
         self.newest.reserve(more as usize)?;
@@ -58,26 +58,26 @@ impl<T: Drop> Table<T> {
 
     /// Puts an object under an id from state `k` on. Takes no memory, since it was reserved.
     pub fn put(&mut self, id: u64, k: u64, object: T)
-        requires { 0 < spare self.old }
+        requires { 0 < spare_puts self.old }
         ensures puts { puts self.new ≡ puts self.old ++ record { id = id; state = k; object = Some object } ∷ [] }
-        ensures spare { spare self.old ≤ spare self.new + 1 }
+        ensures spare { spare_puts self.old ≤ spare_puts self.new + 1 }
     {
         self.add(id, k, Some(object));
     }
 
     /// Removes the object of an id from state `k` on; earlier states still show it. Takes no memory, since it was reserved.
     pub fn remove(&mut self, id: u64, k: u64)
-        requires { 0 < spare self.old }
+        requires { 0 < spare_puts self.old }
         ensures puts { puts self.new ≡ puts self.old ++ record { id = id; state = k; object = None } ∷ [] }
-        ensures spare { spare self.old ≤ spare self.new + 1 }
+        ensures spare { spare_puts self.old ≤ spare_puts self.new + 1 }
     {
         self.add(id, k, None);
     }
 
     fn add(&mut self, id: u64, state: u64, object: Option<T>)
-        requires { 0 < spare self.old }
+        requires { 0 < spare_puts self.old }
         ensures puts { puts self.new ≡ puts self.old ++ record { id = id; state = state; object = object } ∷ [] }
-        ensures spare { spare self.old ≤ spare self.new + 1 }
+        ensures spare { spare_puts self.old ≤ spare_puts self.new + 1 }
     {
         let place = self.versions.len();
         let older = self.newest.insert(id, place).unwrap();
@@ -101,7 +101,7 @@ impl<T: Drop> Table<T> {
     ///
     /// Time grows with the number of versions of the id that are newer than `k`, and with nothing else.
     pub fn get_at(&self, id: u64, k: u64) -> Option<&T>
-        ensures { option_copied result ≡ object_at (puts self.now) id k }
+        ensures { option_copied result ≡ version_at (puts self.now) id k }
     {
         let mut place = self.newest.get(&id).copied();
         while let Some(at) = place {
@@ -116,7 +116,7 @@ impl<T: Drop> Table<T> {
 
     /// The ids that had an object at state `k`, in order of creation, which is that of their first puts. Takes memory for them.
     pub fn live_at(&self, alloc: Global, k: u64) -> Result<Ids, AllocError>
-        ensures { IfOk result (λ ids. ids ≡ live_at (puts self.now) k) }
+        ensures { IfOk result (λ ids. ids ≡ live_ids_at (puts self.now) k) }
     {
         let mut ids = Vec::new(alloc);
         for id in self.newest.keys().as_slice() {

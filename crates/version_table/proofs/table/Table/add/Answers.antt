@@ -2,7 +2,7 @@ use Rattle.std.proofs.Common.{◌≡◌, ap, sym, subst, ◌∙◌, nat_eq, Some
 use Rattle.std.proofs.lemmas.Result.{IfOk-at_ok}
 use Rattle.indexmap.specs.IndexMap.{get}
 use Rattle.version_table.specs.declared.table.Version.{Version}
-use Rattle.version_table.specs.Puts.{ids_of}
+use Rattle.version_table.specs.Puts.{ids_put}
 use Rattle.version_table.specs.Versions.{AreIndexed, AreLinked, put_of}
 use Rattle.version_table.proofs.PlaceLemmas.{indexed_more, linked_more, ordered_more}
 use Rattle.version_table.proofs.table.Table.add.Goals as goal
@@ -21,5 +21,5 @@ invariant_of-self g c =
     record {
       linked = subst AreLinked items (linked_more vs v t.linked older);
       indexed = subst (AreIndexed after) items (indexed_more (get nat_eq t.newest) after vs v t.indexed (λ q. updates.0 q ∙ ap (λ m. if nat_eq c.args.id q then Some m else get nat_eq t.newest q) at_end));
-      ordered = ordered_more vs v t.newest.entries c.insert.new.self.entries c.len-place.result t.ordered entries ∙ ap (λ l. ids_of (map put_of l)) items;
+      ordered = ordered_more vs v t.newest.entries c.insert.new.self.entries c.len-place.result t.ordered entries ∙ ap (λ l. ids_put (map put_of l)) items;
     }
