@@ -4,3 +4,6 @@ pub mod SizeLemmas
 pub mod EndLemmas
 pub mod GrowthLemmas
 pub mod LawLemmas
+pub mod NoteLemmas
+pub mod RankLemmas
+pub mod EarlierLemmas

@@ -15,7 +15,7 @@ pub or_none : (b : Bool) → (b || false) ≡ b
 or_none true = refl
 or_none false = refl
 
-live_from-append : (ms ns : List Mention) (before : Bool) (id : ℕ) → live_from before (ms ++ ns) id ≡ live_from (live_from before ms id) ns id
+pub live_from-append : (ms ns : List Mention) (before : Bool) (id : ℕ) → live_from before (ms ++ ns) id ≡ live_from (live_from before ms id) ns id
 live_from-append [] ns before id = refl
 live_from-append (m ∷ ms) ns before id = live_from-append ms ns (if m.id == id then m.puts else before) id
 

@@ -1,6 +1,7 @@
 -- What a journal shows.
-use Rattle.std.specs.Prelude.{ℕ, ◌-◌, List, vec_capacity, vec_len}
+use Rattle.std.specs.Prelude.{ℕ, ◌-◌, min, List, vec_capacity, vec_len}
 use Rattle.model_history.specs.declared.entry.Entry.{Entry}
+use Rattle.state_log.specs.ChangeIndex.{room}
 use Rattle.state_log.specs.declared.journal.Journal.{Journal}
 
 -- its entries, of both kinds
@@ -9,4 +10,4 @@ entries j = j.entries.items
 
 -- how many more entries it takes without memory, at least
 abbrev pub spare : Journal → ℕ
-spare j = vec_capacity j.entries - vec_len j.entries
+spare j = min (vec_capacity j.entries - vec_len j.entries) (min (room j.calendars) (room j.events))

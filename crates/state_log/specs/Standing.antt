@@ -1,10 +1,10 @@
 -- How ids stand between two states.
-use Rattle.std.specs.Prelude.{◌≡◌, ℕ, List, [], ◌∷◌, ◌==◌, ◌&&◌, ◌||◌, not, Bool, true, false, Option, Some, None, drop, filter, take, if◌then◌else◌, nat_eq}
+use Rattle.std.specs.Prelude.{◌≡◌, ℕ, List, [], ◌∷◌, ◌==◌, ◌&&◌, ◌||◌, not, Bool, true, false, Option, Some, None, drop, if◌then◌else◌, nat_eq}
 use Rattle.std.specs.HashMap.{get, HashMap}
 use Rattle.std.specs.List.{list_any}
 use Rattle.std.specs.declared.hash.BuildHasherDefault.{BuildHasherDefault}
 use Rattle.std.specs.declared.hash.FoldHasher.{FoldHasher}
-use Rattle.model_history.specs.Pages.{Mention, ids_of, is_in, is_live, is_touched}
+use Rattle.model_history.specs.Pages.{Mention, is_live, is_touched}
 use Rattle.state_log.specs.declared.standing.Growth.{Growth}
 use Rattle.state_log.specs.declared.standing.Standing.{Standing}
 
@@ -23,9 +23,9 @@ is_changed s = (s.was_live && s.is_live) && s.is_touched
 abbrev pub is_gone : Standing → Bool
 is_gone s = s.was_live && not s.is_live
 
--- the standing of an id after a mention from before the page
-abbrev pub before : Mention → Standing
-before m = record { was_live = m.puts; is_live = m.puts; is_touched = false }
+-- the standing of an id where a page begins
+abbrev pub begun : Bool → Standing
+begun live = record { was_live = live; is_live = live; is_touched = false }
 
 -- the standing after one more mention of the id
 abbrev pub after : Mention → Standing → Standing
@@ -50,18 +50,10 @@ Standings = HashMap ℕ Standing (BuildHasherDefault FoldHasher)
 abbrev pub AreStandings : List Mention → ℕ → ℕ → Standings → Type 0
 AreStandings ms k j standings = (id : ℕ) → get nat_eq standings id ≡ only_if (is_named_after ms k id) (standing ms k j id)
 
--- what is left of the standings once the ids of the first i mentions are listed
-abbrev pub AreLeft : List Mention → ℕ → ℕ → ℕ → Standings → Type 0
-AreLeft ms k j i standings = (id : ℕ) → get nat_eq standings id ≡ (if is_in (ids_of (take i ms)) id then None else only_if (is_named_after ms k id) (standing ms k j id))
-
 -- the id, where it has a standing and that passes
 abbrev pub listed_by : (Standing → Bool) → ℕ → Option Standing → List ℕ
 listed_by test id None = []
 listed_by test id (Some s) = if test s then id ∷ [] else []
-
--- those of the first i mentions' ids whose standing passes
-abbrev pub listed : (Standing → Bool) → List Mention → ℕ → ℕ → ℕ → List ℕ
-listed test ms k j i = filter (λ id. test (standing ms k j id)) (ids_of (take i ms))
 
 abbrev pub one_if : Bool → ℕ
 one_if b = if b then 1 else 0

@@ -2,9 +2,11 @@
 ghost use Rattle.std.specs.Prelude.{◌≡◌, ◌≤◌, ◌<◌, ◌+◌, ◌++◌, ◌∷◌, ◌↔◌, [], IfOk, IsErrOf, OnOk, false};
 ghost use Rattle.model_history.specs.History.{changes_of, state_at};
 ghost use Rattle.model_history.specs.Pages.{is_retained, mentions};
+ghost use Rattle.model_history.specs.declared.entry.Kind.TheVariants.{Calendar, Event};
+ghost use Rattle.state_log.specs.Notes.{said};
 ghost use Rattle.state_log.specs.declared.journal.ChangesError.TheVariants.{NoMemory, NotRetained};
 
-use crate::mention::{count_of, mentions_of};
+use crate::change_index::ChangeIndex;
 use crate::page::{Page, page_from};
 use model_history::entry::{Entry, Kind};
 use std::alloc::{AllocError, Global};
@@ -16,6 +18,10 @@ pub const WINDOW: u64 = 4096;
 #[derive(Drop)]
 pub struct Journal {
     entries: Vec<Entry>,
+    calendars: ChangeIndex,
+    events: ChangeIndex,
+    ghost calendars_told: { said calendars.notes.items ≡ mentions Calendar (changes_of entries.items) },
+    ghost events_told: { said events.notes.items ≡ mentions Event (changes_of entries.items) },
 }
 
 /// Why no page was made.
@@ -38,6 +44,7 @@ impl From<AllocError> for ChangesError {
 impl Journal {
     ghost use Rattle.state_log.specs.IsPage.{IsPage};
     ghost use Rattle.state_log.specs.Journal.{entries, spare};
+    ghost use Rattle.state_log.specs.ChangeIndex.{mentioned};
 
     /// A journal without entries. Takes no memory.
     pub fn new(alloc: Global) -> Journal
@@ -45,6 +52,8 @@ impl Journal {
     {
         Journal {
             entries: Vec::new(alloc),
+            calendars: ChangeIndex::new(alloc),
+            events: ChangeIndex::new(alloc),
         }
     }
 
@@ -60,6 +69,8 @@ impl Journal {
         ensures spare { OnOk result (more ≤ spare self.new) }
         ensures entries { entries self.new ≡ entries self.old }
     {
+        self.calendars.reserve(more as usize)?;
+        self.events.reserve(more as usize)?;
         self.entries.reserve(more as usize)
     }
 
@@ -69,14 +80,20 @@ impl Journal {
         ensures entries { entries self.new ≡ entries self.old ++ entry ∷ [] }
         ensures spare { spare self.old ≤ spare self.new + 1 }
     {
-        self.entries.push(entry).unwrap()
+        let id = entry.change.id;
+        let puts = entry.change.object.is_some();
+        match entry.change.kind {
+            Kind::Calendar => self.calendars.push_reserved(id, puts),
+            Kind::Event => self.events.push_reserved(id, puts),
+        }
+        self.entries.push_reserved(entry);
     }
 
     /// The state of a kind: how many entries are of it (RFC 8620 section 5.1). Takes no memory.
     pub fn count(&self, kind: Kind) -> u64
         ensures { result ≡ state_at (changes_of (entries self.now)) kind }
     {
-        count_of(&self.entries, kind)
+        self.index_of(kind).notes.len() as u64
     }
 
     /// Whether pages are made from state `k` of a kind: it was reached, and at most [`WINDOW`] changes ago. Takes no memory.
@@ -90,7 +107,8 @@ impl Journal {
     /// Gives what was created, updated and destroyed after the state `since` of a kind (RFC 8620 section 5.2).
     ///
     /// The page ends at the greatest state at which its lists together have at most `max` ids, and at the state of the kind
-    /// where there is no maximum. Takes memory for the mentions of the kind and the ids of the page.
+    /// where there is no maximum. Time and memory grow with the changes of the kind after `since` and the ids that they name, and
+    /// not with the changes before.
     pub fn changes(&self, kind: Kind, since: u64, max: Option<u64>) -> Result<Page, ChangesError>
         ensures ok { IfOk result (IsPage (mentions kind (changes_of (entries self.now))) since max) }
         ensures not_retained { IsErrOf result ChangesError.NotRetained ↔ (is_retained (state_at (changes_of (entries self.now)) kind) since ≡ false) }
@@ -99,7 +117,15 @@ impl Journal {
             return Err(ChangesError::NotRetained);
         }
         let alloc = *self.entries.allocator();
-        let mentions = mentions_of(alloc, &self.entries, kind)?;
-        Ok(page_from(alloc, &mentions, since as usize, max)?)
+        Ok(page_from(alloc, self.index_of(kind), since as usize, max)?)
+    }
+
+    fn index_of(&self, kind: Kind) -> &ChangeIndex
+        ensures { mentioned result.now ≡ mentions kind (changes_of (entries self.now)) }
+    {
+        match kind {
+            Kind::Calendar => &self.calendars,
+            Kind::Event => &self.events,
+        }
     }
 }

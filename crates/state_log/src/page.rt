@@ -2,9 +2,10 @@
 ghost use Rattle.std.specs.Prelude.{◌≡◌, ◌≤◌, ◌<◌, ◌+◌, ◌^◌, ◌++◌, ◌==◌, ◌∷◌, [], None, Some, IfOk, OnOk, if◌then◌else◌, length, nat_eq, ℕ};
 ghost use Rattle.std.specs.HashMap.{get};
 ghost use Rattle.model_history.specs.Pages.{created, destroyed, page_end, updated};
+ghost use Rattle.state_log.specs.ChangeIndex.{mentioned};
 ghost use Rattle.state_log.specs.Standing.{AreStandings, is_changed, is_gone, is_new, listed_by, one_if};
 
-use crate::mention::Mention;
+use crate::change_index::ChangeIndex;
 use crate::standing::{Growth, Standings, advance, standings_from};
 use model_history::ids::Ids;
 use std::alloc::{AllocError, Global};
@@ -27,18 +28,18 @@ pub struct Page {
 /// Makes the page from the state `since` that ends as far as at most `most` ids allow.
 pub(crate) fn page_from(
     alloc: Global,
-    mentions: &[Mention],
+    changes: &ChangeIndex,
     since: usize,
     most: Option<u64>,
 ) -> Result<Page, AllocError>
-    requires { since ≤ length mentions.now }
-    ensures until { IfOk result (λ page. page.until ≡ page_end mentions.now since most) }
-    ensures created { IfOk result (λ page. page.created ≡ created mentions.now since page.until) }
-    ensures updated { IfOk result (λ page. page.updated ≡ updated mentions.now since page.until) }
-    ensures destroyed { IfOk result (λ page. page.destroyed ≡ destroyed mentions.now since page.until) }
+    requires { since ≤ length (mentioned changes.now) }
+    ensures until { IfOk result (λ page. page.until ≡ page_end (mentioned changes.now) since most) }
+    ensures created { IfOk result (λ page. page.created ≡ created (mentioned changes.now) since page.until) }
+    ensures updated { IfOk result (λ page. page.updated ≡ updated (mentioned changes.now) since page.until) }
+    ensures destroyed { IfOk result (λ page. page.destroyed ≡ destroyed (mentioned changes.now) since page.until) }
 {
-    let until = end_from(alloc, mentions, since, most)?;
-    let lists = lists_between(alloc, mentions, since, until)?;
+    let until = end_from(alloc, changes, since, most)?;
+    let lists = lists_between(alloc, changes, since, until)?;
     Ok(Page {
         until: until as u64,
         created: Ids::new(lists.created),
@@ -49,38 +50,38 @@ pub(crate) fn page_from(
 
 fn end_from(
     alloc: Global,
-    mentions: &[Mention],
+    changes: &ChangeIndex,
     since: usize,
     most: Option<u64>,
 ) -> Result<usize, AllocError>
-    requires { since ≤ length mentions.now }
-    ensures value { IfOk result (λ end. end ≡ page_end mentions.now since most) }
+    requires { since ≤ length (mentioned changes.now) }
+    ensures value { IfOk result (λ end. end ≡ page_end (mentioned changes.now) since most) }
     ensures after { IfOk result (λ end. since ≤ end) }
-    ensures within { IfOk result (λ end. end ≤ length mentions.now) }
+    ensures within { IfOk result (λ end. end ≤ length (mentioned changes.now)) }
 {
     match most {
-        None => Ok(mentions.len()),
-        Some(most) => longest_from(alloc, mentions, since, most),
+        None => Ok(changes.notes.len()),
+        Some(most) => longest_from(alloc, changes, since, most),
     }
 }
 
 // The greatest state at which the page lists at most `most` ids.
 fn longest_from(
     alloc: Global,
-    mentions: &[Mention],
+    changes: &ChangeIndex,
     since: usize,
     most: u64,
 ) -> Result<usize, AllocError>
-    requires { since ≤ length mentions.now }
-    ensures value { IfOk result (λ end. end ≡ page_end mentions.now since (Some most)) }
+    requires { since ≤ length (mentioned changes.now) }
+    ensures value { IfOk result (λ end. end ≡ page_end (mentioned changes.now) since (Some most)) }
     ensures after { IfOk result (λ end. since ≤ end) }
-    ensures within { IfOk result (λ end. end ≤ length mentions.now) }
+    ensures within { IfOk result (λ end. end ≤ length (mentioned changes.now)) }
 {
-    let mut standings = standings_from(alloc, mentions, since)?;
+    let mut standings = standings_from(alloc, changes, since)?;
     let mut size = 0;
     let mut end = since;
-    for state in since..mentions.len() {
-        let growth = advance(&mut standings, &mentions[state])?;
+    for state in since..changes.notes.len() {
+        let growth = advance(&mut standings, &changes.notes[state])?;
         size = resized(size, growth);
         if size <= most {
             end = state + 1;
@@ -111,59 +112,59 @@ struct Lists {
 
 fn lists_between(
     alloc: Global,
-    mentions: &[Mention],
+    changes: &ChangeIndex,
     since: usize,
     until: usize,
 ) -> Result<Lists, AllocError>
     requires order { since ≤ until }
-    requires end { until ≤ length mentions.now }
-    ensures created { IfOk result (λ lists. lists.created.items ≡ created mentions.now since until) }
-    ensures updated { IfOk result (λ lists. lists.updated.items ≡ updated mentions.now since until) }
-    ensures destroyed { IfOk result (λ lists. lists.destroyed.items ≡ destroyed mentions.now since until) }
+    requires end { until ≤ length (mentioned changes.now) }
+    ensures created { IfOk result (λ lists. lists.created.items ≡ created (mentioned changes.now) since until) }
+    ensures updated { IfOk result (λ lists. lists.updated.items ≡ updated (mentioned changes.now) since until) }
+    ensures destroyed { IfOk result (λ lists. lists.destroyed.items ≡ destroyed (mentioned changes.now) since until) }
 {
-    let mut standings = standings_between(alloc, mentions, since, until)?;
+    let standings = standings_between(alloc, changes, since, until)?;
+    let touched = changes.touched_between(alloc, since, until)?;
     let mut lists = Lists {
         created: Vec::new(alloc),
         updated: Vec::new(alloc),
         destroyed: Vec::new(alloc),
     };
-    for mention in mentions {
-        lists.note(&mut standings, mention)?;
+    for id in &touched {
+        lists.add(&standings, *id)?;
     }
     Ok(lists)
 }
 
 fn standings_between(
     alloc: Global,
-    mentions: &[Mention],
+    changes: &ChangeIndex,
     since: usize,
     until: usize,
 ) -> Result<Standings, AllocError>
     requires order { since ≤ until }
-    requires end { until ≤ length mentions.now }
-    ensures { IfOk result (AreStandings mentions.now since until) }
+    requires end { until ≤ length (mentioned changes.now) }
+    ensures { IfOk result (AreStandings (mentioned changes.now) since until) }
 {
-    let mut standings = standings_from(alloc, mentions, since)?;
+    let mut standings = standings_from(alloc, changes, since)?;
     for state in since..until {
-        advance(&mut standings, &mentions[state])?;
+        advance(&mut standings, &changes.notes[state])?;
     }
     Ok(standings)
 }
 
 impl Lists {
-    // Takes out the standing of the mentioned id, where it has one, and puts the id into the list where it belongs, if there is one.
-    fn note(&mut self, standings: &mut Standings, mention: &Mention) -> Result<(), AllocError>
-        ensures taken { OnOk result ((id : ℕ) → get nat_eq standings.new id ≡ if mention.now.id == id then None else get nat_eq standings.old id) }
-        ensures created { OnOk result (self.new.created.items ≡ self.old.created.items ++ listed_by is_new mention.now.id (get nat_eq standings.old mention.now.id)) }
-        ensures updated { OnOk result (self.new.updated.items ≡ self.old.updated.items ++ listed_by is_changed mention.now.id (get nat_eq standings.old mention.now.id)) }
-        ensures destroyed { OnOk result (self.new.destroyed.items ≡ self.old.destroyed.items ++ listed_by is_gone mention.now.id (get nat_eq standings.old mention.now.id)) }
+    // Puts the id into the list where it belongs, if there is one.
+    fn add(&mut self, standings: &Standings, id: u64) -> Result<(), AllocError>
+        ensures created { OnOk result (self.new.created.items ≡ self.old.created.items ++ listed_by is_new id (get nat_eq standings.now id)) }
+        ensures updated { OnOk result (self.new.updated.items ≡ self.old.updated.items ++ listed_by is_changed id (get nat_eq standings.now id)) }
+        ensures destroyed { OnOk result (self.new.destroyed.items ≡ self.old.destroyed.items ++ listed_by is_gone id (get nat_eq standings.now id)) }
     {
-        match standings.remove(&mention.id) {
+        match standings.get(&id).copied() {
             None => Ok(()),
             Some(standing) => {
-                push_if(&mut self.created, mention.id, standing.is_new())?;
-                push_if(&mut self.updated, mention.id, standing.is_changed())?;
-                push_if(&mut self.destroyed, mention.id, standing.is_gone())
+                push_if(&mut self.created, id, standing.is_new())?;
+                push_if(&mut self.updated, id, standing.is_changed())?;
+                push_if(&mut self.destroyed, id, standing.is_gone())
             }
         }
     }

@@ -1,9 +1,11 @@
 //! How ids stand between two states, as a page grows from one state to the next.
-ghost use Rattle.std.specs.Prelude.{◌≡◌, ◌≤◌, ◌==◌, IfOk, OnOk, if◌then◌else◌, length, nat_eq, option_map, ℕ};
+ghost use Rattle.std.specs.Prelude.{◌≡◌, ◌≤◌, ◌==◌, IfOk, OnOk, if◌then◌else◌, length, nat_eq, option_map, unwrap_or, Some, ℕ};
 ghost use Rattle.std.specs.HashMap.{get};
-ghost use Rattle.state_log.specs.Standing.{AreStandings, after, before, growth_of, is_listed, is_new, is_changed, is_gone};
+ghost use Rattle.state_log.specs.ChangeIndex.{mentioned};
+ghost use Rattle.state_log.specs.Notes.{mention_in};
+ghost use Rattle.state_log.specs.Standing.{AreStandings, after, begun, growth_of, is_listed, is_new, is_changed, is_gone};
 
-use crate::mention::Mention;
+use crate::change_index::{ChangeIndex, Note};
 use std::alloc::{AllocError, Global};
 use std::collections::HashMap;
 
@@ -52,40 +54,34 @@ impl Standing {
 }
 
 /// The standings of the ids that are mentioned after a state, for a page that ends where it begins.
+///
+/// Time and memory grow with the changes after that state alone.
 pub(crate) fn standings_from(
     alloc: Global,
-    mentions: &[Mention],
+    changes: &ChangeIndex,
     since: usize,
 ) -> Result<Standings, AllocError>
-    requires { since ≤ length mentions.now }
-    ensures { IfOk result (AreStandings mentions.now since since) }
+    requires { since ≤ length (mentioned changes.now) }
+    ensures { IfOk result (AreStandings (mentioned changes.now) since since) }
 {
     let mut standings = HashMap::new(alloc);
-    for mention in &mentions[since..] {
-        let unknown = Standing {
-            was_live: false,
-            is_live: false,
-            is_touched: false,
-        };
-        standings.insert(mention.id, unknown)?;
-    }
-    for mention in &mentions[..since] {
-        note_before(&mut standings, mention)?;
+    for note in &changes.notes[since..] {
+        begin(&mut standings, note)?;
     }
     Ok(standings)
 }
 
-// Notes a mention from before the page, where its id has a standing.
-fn note_before(standings: &mut Standings, mention: &Mention) -> Result<(), AllocError>
-    ensures { OnOk result ((id : ℕ) → get nat_eq standings.new id ≡ option_map (λ s. if mention.now.id == id then before mention.now else s) (get nat_eq standings.old id)) }
+// Takes up the id of a change as it stood before, where no earlier change behind the state named it.
+fn begin(standings: &mut Standings, note: &Note) -> Result<(), AllocError>
+    ensures { OnOk result ((id : ℕ) → get nat_eq standings.new id ≡ if note.now.id == id then Some (unwrap_or (get nat_eq standings.old id) (begun note.now.was_live)) else get nat_eq standings.old id) }
 {
-    if standings.contains_key(&mention.id) {
-        let live = Standing {
-            was_live: mention.puts,
-            is_live: mention.puts,
+    if !standings.contains_key(&note.id) {
+        let begun = Standing {
+            was_live: note.was_live,
+            is_live: note.was_live,
             is_touched: false,
         };
-        standings.insert(mention.id, live)?;
+        standings.insert(note.id, begun)?;
     }
     Ok(())
 }
@@ -99,12 +95,12 @@ pub(crate) struct Growth {
     pub is_listed: bool,
 }
 
-/// Brings the standings to the state after one more mention.
-pub(crate) fn advance(standings: &mut Standings, mention: &Mention) -> Result<Growth, AllocError>
-    ensures standings { OnOk result ((id : ℕ) → get nat_eq standings.new id ≡ option_map (λ s. if mention.now.id == id then after mention.now s else s) (get nat_eq standings.old id)) }
-    ensures growth { IfOk result (λ growth. growth ≡ growth_of mention.now (get nat_eq standings.old mention.now.id)) }
+/// Brings the standings to the state after one more change.
+pub(crate) fn advance(standings: &mut Standings, note: &Note) -> Result<Growth, AllocError>
+    ensures standings { OnOk result ((id : ℕ) → get nat_eq standings.new id ≡ option_map (λ s. if note.now.id == id then after (mention_in note.now) s else s) (get nat_eq standings.old id)) }
+    ensures growth { IfOk result (λ growth. growth ≡ growth_of (mention_in note.now) (get nat_eq standings.old note.now.id)) }
 {
-    match standings.get(&mention.id).copied() {
+    match standings.get(&note.id).copied() {
         None => Ok(Growth {
             was_listed: false,
             is_listed: false,
@@ -112,10 +108,10 @@ pub(crate) fn advance(standings: &mut Standings, mention: &Mention) -> Result<Gr
         Some(old) => {
             let new = Standing {
                 was_live: old.was_live,
-                is_live: mention.puts,
+                is_live: note.puts,
                 is_touched: true,
             };
-            standings.insert(mention.id, new)?;
+            standings.insert(note.id, new)?;
             Ok(Growth {
                 was_listed: old.is_listed(),
                 is_listed: new.is_listed(),

@@ -1,21 +1,42 @@
-use Rattle.std.proofs.Common.{◌<◌, arith, length}
-use Rattle.std.proofs.lemmas.Grind.{common_steps}
-use Rattle.state_log.proofs.GrowthLemmas.{left_more, listed_more, quiet_new, quiet_changed, quiet_gone}
-use Rattle.state_log.specs.Standing.{is_changed, is_gone, is_new, is_named_after, only_if, standing}
+use Rattle.std.proofs.Common.{◌∙◌, ap, filter, get_or, refl, ℕ}
+use Rattle.std.proofs.lemmas.List.{take_all}
+use Rattle.state_log.proofs.GrowthLemmas.{listed_more, listed_all, quiet_new, quiet_changed, quiet_gone}
+use Rattle.state_log.specs.Standing.{is_changed, is_gone, is_new, standing}
+use Rattle.state_log.specs.Notes.{said}
 use Rattle.state_log.proofs.page.lists_between.Goals as goal
 
-pub loop-mention-preserved : goal.loop-mention-preserved
-loop-mention-preserved c =
-    let ms = c.args.mentions.now in
+pub loop-id-preserved : goal.loop-id-preserved
+loop-id-preserved c =
+    let ms = said c.args.changes.now.notes.items in
     let k = c.args.since in
     let j = c.args.until in
-    let m = c.mention-item.result in
-    let i = c.loop-mention.mention-index in
-    let inside : i < length ms = grind (arith, common_steps) in
-    let found = c.loop-mention.invariant.left m.id in
+    let ids = c.deref-id-items.result.now in
+    let i = c.loop-id.id-index in
+    let id : ℕ = get_or ids i 0 in
+    let found = c.in_ok-standings.ensures id in
     record {
-      left = λ id. left_more ms i m id (only_if (is_named_after ms k id) (standing ms k j id)) _ _ inside c.mention-item.is (c.loop-mention.invariant.left id) (c.in_ok-note.ensures.taken id);
-      created = listed_more is_new quiet_new ms k j i m _ _ _ c.requires.order c.requires.end inside c.mention-item.is found c.loop-mention.invariant.created c.in_ok-note.ensures.created;
-      updated = listed_more is_changed quiet_changed ms k j i m _ _ _ c.requires.order c.requires.end inside c.mention-item.is found c.loop-mention.invariant.updated c.in_ok-note.ensures.updated;
-      destroyed = listed_more is_gone quiet_gone ms k j i m _ _ _ c.requires.order c.requires.end inside c.mention-item.is found c.loop-mention.invariant.destroyed c.in_ok-note.ensures.destroyed;
+      created = listed_more is_new quiet_new ms k j ids i id _ _ _ c.requires.order c.requires.end c.loop-id-test.true refl found c.loop-id.invariant.created c.in_ok-add.ensures.created;
+      updated = listed_more is_changed quiet_changed ms k j ids i id _ _ _ c.requires.order c.requires.end c.loop-id-test.true refl found c.loop-id.invariant.updated c.in_ok-add.ensures.updated;
+      destroyed = listed_more is_gone quiet_gone ms k j ids i id _ _ _ c.requires.order c.requires.end c.loop-id-test.true refl found c.loop-id.invariant.destroyed c.in_ok-add.ensures.destroyed;
     }
+
+pub returns-clause-created : goal.returns-clause-created
+returns-clause-created c =
+    let ms = said c.args.changes.now.notes.items in
+    let touched = c.deref-id-items.result.now in
+    c.loop-id.invariant.created ∙ ap (λ l. filter (λ n. is_new (standing ms c.args.since c.args.until n)) l) (take_all c.loop-id.id-index touched c.loop-id-test.false)
+    ∙ listed_all is_new quiet_new ms c.args.since c.args.until touched c.requires.order (c.deref-id-items.ensures.value ∙ c.in_ok-touched.ensures)
+
+pub returns-clause-updated : goal.returns-clause-updated
+returns-clause-updated c =
+    let ms = said c.args.changes.now.notes.items in
+    let touched = c.deref-id-items.result.now in
+    c.loop-id.invariant.updated ∙ ap (λ l. filter (λ n. is_changed (standing ms c.args.since c.args.until n)) l) (take_all c.loop-id.id-index touched c.loop-id-test.false)
+    ∙ listed_all is_changed quiet_changed ms c.args.since c.args.until touched c.requires.order (c.deref-id-items.ensures.value ∙ c.in_ok-touched.ensures)
+
+pub returns-clause-destroyed : goal.returns-clause-destroyed
+returns-clause-destroyed c =
+    let ms = said c.args.changes.now.notes.items in
+    let touched = c.deref-id-items.result.now in
+    c.loop-id.invariant.destroyed ∙ ap (λ l. filter (λ n. is_gone (standing ms c.args.since c.args.until n)) l) (take_all c.loop-id.id-index touched c.loop-id-test.false)
+    ∙ listed_all is_gone quiet_gone ms c.args.since c.args.until touched c.requires.order (c.deref-id-items.ensures.value ∙ c.in_ok-touched.ensures)

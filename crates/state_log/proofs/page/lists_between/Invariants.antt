@@ -1,11 +1,11 @@
-use Rattle.std.proofs.Common.{◌≡◌}
-use Rattle.state_log.specs.Standing.{AreLeft, is_changed, is_gone, is_new, listed}
+use Rattle.std.proofs.Common.{◌≡◌, filter, take}
+use Rattle.state_log.specs.Standing.{is_changed, is_gone, is_new, standing}
+use Rattle.state_log.specs.ChangeIndex.{mentioned}
 use Rattle.state_log.proofs.page.lists_between.Given as goal
 
-abbrev pub invariant-loop-mention : goal.invariant-loop-mention
-invariant-loop-mention l = record {
-  left : AreLeft l.mentions l.since l.until l.mention-index l.standings;
-  created : l.lists.created.items ≡ listed is_new l.mentions l.since l.until l.mention-index;
-  updated : l.lists.updated.items ≡ listed is_changed l.mentions l.since l.until l.mention-index;
-  destroyed : l.lists.destroyed.items ≡ listed is_gone l.mentions l.since l.until l.mention-index;
+abbrev pub invariant-loop-id : goal.invariant-loop-id
+invariant-loop-id l = record {
+  created : l.lists.created.items ≡ filter (λ n. is_new (standing (mentioned l.changes) l.since l.until n)) (take l.id-index l.id-items);
+  updated : l.lists.updated.items ≡ filter (λ n. is_changed (standing (mentioned l.changes) l.since l.until n)) (take l.id-index l.id-items);
+  destroyed : l.lists.destroyed.items ≡ filter (λ n. is_gone (standing (mentioned l.changes) l.since l.until n)) (take l.id-index l.id-items);
 }

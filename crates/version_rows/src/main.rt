@@ -1,0 +1,72 @@
+//! Shows what tables of objects with versions and journals tell after the steps of a row; given words, times one of their calls.
+#![tactic(auto)]
+
+mod journals;
+mod plain;
+mod tables;
+mod times;
+mod trials;
+mod words;
+
+use row_table::line::unrolled;
+use row_table::row::{Row, read_rows};
+use row_table::tally::Tally;
+use std::alloc::{AllocError, Global};
+use std::{env, io};
+use words::has_same_words;
+
+const NOT_READ: &str = "the row can't be read";
+
+/// What a row asks for, where it can be read.
+///
+/// `table` and `journal` are followed by steps and a question, `random` by a seed, a number of steps and a number of ids.
+fn came(alloc: Global, asked: &str) -> Result<Option<String>, AllocError> {
+    if let Some(steps) = asked.strip_prefix("table ") {
+        tables::shown(alloc, steps)
+    } else if let Some(steps) = asked.strip_prefix("journal ") {
+        journals::shown(alloc, steps)
+    } else if let Some(numbers) = asked.strip_prefix("random ") {
+        trials::differences(alloc, numbers)
+    } else {
+        Ok(None)
+    }
+}
+
+/// What came of a row, where it isn't what the table has.
+fn other_than(alloc: Global, row: &Row) -> Result<Option<String>, AllocError> {
+    let (Some(asked), Some(answer)) = (
+        unrolled(alloc, row.asked.as_str())?,
+        unrolled(alloc, row.answer.as_str())?,
+    ) else {
+        return Ok(Some(String::from_str(alloc, NOT_READ)?));
+    };
+    match came(alloc, asked.as_str())? {
+        None => Ok(Some(String::from_str(alloc, NOT_READ)?)),
+        Some(came) if has_same_words(came.as_str(), answer.as_str()) => Ok(None),
+        other => Ok(other),
+    }
+}
+
+fn compare_rows(rt: &HostRuntime) -> io::Result<()> {
+    let mut tally = Tally::new();
+    for row in &read_rows(rt)? {
+        let other = other_than(rt.alloc(), row)?;
+        if let Some(other) = &other {
+            row.tell(rt, other.as_str())?;
+        }
+        tally.count(other.is_none());
+    }
+    println!(rt; "{tally}")
+}
+
+fn main(rt: HostRuntime) -> io::Result<()> {
+    let mut words = Vec::new(rt.alloc());
+    for word in env::args(&rt)? {
+        words.push(word)?;
+    }
+    if words.len() > 1 {
+        times::tell(&rt, &words[1..])
+    } else {
+        compare_rows(&rt)
+    }
+}

@@ -1,0 +1,5 @@
+pub mod PutLemmas
+pub mod PlaceLemmas
+pub mod WalkLemmas
+pub mod HistoryLemmas
+pub mod ReadingLemmas

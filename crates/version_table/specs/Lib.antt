@@ -1,0 +1,4 @@
+pub mod Puts
+pub mod Versions
+pub mod Table
+pub mod Histories

@@ -1,0 +1,129 @@
+//! The versions of objects, and the places of the newest among them.
+ghost use Rattle.std.specs.Prelude.{◌≡◌, ◌<◌, ◌≤◌, ◌+◌, ◌++◌, ◌∷◌, [], nat_eq, map, None, Some, option_copied, OnOk, IfOk};
+ghost use Rattle.indexmap.specs.IndexMap.{get, keys};
+ghost use Rattle.version_table.specs.Puts.{ids_put, latest, live_ids_at, version_at};
+ghost use Rattle.version_table.specs.Versions.{AreIndexed, AreLinked, put_of};
+
+use indexmap::IndexMap;
+use model_history::ids::Ids;
+use std::alloc::{AllocError, Global};
+
+/// What an id holds from a state on.
+#[derive(Drop)]
+pub(crate) struct Version<T> {
+    /// The id.
+    pub id: u64,
+    /// The state from which on it is so.
+    pub state: u64,
+    /// The object, or `None` from a removal on.
+    pub object: Option<T>,
+    /// The place of the version of the id before this one.
+    pub older: Option<usize>,
+}
+
+/// Objects by their ids, each with all that it was before.
+///
+/// Contracts see the puts and removals that made it, in order, each with its state, and how many more it takes without memory. No
+/// condition is laid on ids or states: an id that was removed may be put again, and states need not follow one another.
+#[derive(Drop)]
+pub struct Table<T> {
+    newest: IndexMap<u64, usize>,
+    versions: Vec<Version<T>>,
+    ghost linked: { AreLinked versions.items },
+    ghost indexed: { AreIndexed (get nat_eq newest) versions.items },
+    ghost ordered: { keys newest ≡ ids_put (map put_of versions.items) },
+}
+
+impl<T: Drop> Table<T> {
+    ghost use Rattle.version_table.specs.Table.{puts, spare_puts};
+
+    /// A table without objects. Takes no memory.
+    pub fn new(alloc: Global) -> Table<T>
+        ensures { puts result ≡ [] }
+    {
+        Table {
+            newest: IndexMap::new(alloc),
+            versions: Vec::new(alloc),
+        }
+    }
+
+    /// Takes memory for `more` further puts and removals, of whatever ids.
+    pub fn reserve(&mut self, more: u64) -> Result<(), AllocError>
+        ensures spare { OnOk result (more ≤ spare_puts self.new) }
+        ensures puts { puts self.new ≡ puts self.old }
+    {
+        self.newest.reserve(more as usize)?;
+        self.versions.reserve(more as usize)
+    }
+
+    /// Puts an object under an id from state `k` on. Takes no memory, since it was reserved.
+    pub fn put(&mut self, id: u64, k: u64, object: T)
+        requires { 0 < spare_puts self.old }
+        ensures puts { puts self.new ≡ puts self.old ++ record { id = id; state = k; object = Some object } ∷ [] }
+        ensures spare { spare_puts self.old ≤ spare_puts self.new + 1 }
+    {
+        self.add(id, k, Some(object));
+    }
+
+    /// Removes the object of an id from state `k` on; earlier states still show it. Takes no memory, since it was reserved.
+    pub fn remove(&mut self, id: u64, k: u64)
+        requires { 0 < spare_puts self.old }
+        ensures puts { puts self.new ≡ puts self.old ++ record { id = id; state = k; object = None } ∷ [] }
+        ensures spare { spare_puts self.old ≤ spare_puts self.new + 1 }
+    {
+        self.add(id, k, None);
+    }
+
+    fn add(&mut self, id: u64, state: u64, object: Option<T>)
+        requires { 0 < spare_puts self.old }
+        ensures puts { puts self.new ≡ puts self.old ++ record { id = id; state = state; object = object } ∷ [] }
+        ensures spare { spare_puts self.old ≤ spare_puts self.new + 1 }
+    {
+        let place = self.versions.len();
+        let older = self.newest.insert(id, place).unwrap();
+        self.versions.push_reserved(Version {
+            id,
+            state,
+            object,
+            older,
+        });
+    }
+
+    /// The object of an id, where it has one. Takes no memory.
+    pub fn get(&self, id: u64) -> Option<&T>
+        ensures { option_copied result ≡ latest (puts self.now) id }
+    {
+        let place = self.newest.get(&id).copied()?;
+        self.versions[place].object.as_ref()
+    }
+
+    /// The object that an id had at state `k`, where it had one. Takes no memory.
+    ///
+    /// Time grows with the number of versions of the id that are newer than `k`, and with nothing else.
+    pub fn get_at(&self, id: u64, k: u64) -> Option<&T>
+        ensures { option_copied result ≡ version_at (puts self.now) id k }
+    {
+        let mut place = self.newest.get(&id).copied();
+        while let Some(at) = place {
+            let version = &self.versions[at];
+            if version.state <= k {
+                return version.object.as_ref();
+            }
+            place = version.older;
+        }
+        None
+    }
+
+    /// The ids that had an object at state `k`, in order of creation, which is that of their first puts. Takes memory for them.
+    pub fn live_at(&self, alloc: Global, k: u64) -> Result<Ids, AllocError>
+        ensures { IfOk result (λ ids. ids ≡ live_ids_at (puts self.now) k) }
+    {
+        let mut ids = Vec::new(alloc);
+        for id in self.newest.keys().as_slice() {
+            if self.get_at(*id, k).is_some() {
+                ids.push(*id)?;
+            }
+        }
+        Ok(Ids::new(ids))
+    }
+}
