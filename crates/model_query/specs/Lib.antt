@@ -1,0 +1,6 @@
+pub mod Comparing
+pub mod Results
+pub mod Windows
+pub mod QueryChanges
+pub mod Matching
+pub mod Sorts
