@@ -22,7 +22,3 @@ with_places ids (p ∷ ps) = with_places (insert ids (min p.index (length ids)) 
 -- the removed ids taken out, and then the added ones put in
 abbrev pub spliced : List ℕ → Delta → List ℕ
 spliced old delta = with_places (filter (λ id. not (is_in delta.removed id)) old) delta.added
-
--- the ids that no change touched
-abbrev pub untouched : List ℕ → List ℕ → List ℕ
-untouched touched ids = filter (λ id. not (is_in touched id)) ids

@@ -13,12 +13,12 @@ use Rattle.model_query.specs.declared.comparator.Comparator.{Comparator}
 use Rattle.query_order.specs.InOrder.{in_order}
 use Rattle.query_order.specs.InOrder.{by_item, ordered_numbers}
 use Rattle.model_history.specs.Pages.{is_in}
-use Rattle.model_query.specs.QueryChanges.{delta_of, spliced, untouched}
+use Rattle.model_query.specs.QueryChangesLead.{Lead, StandAlike}
 use Rattle.model_query.specs.Matching.{with_number, match_of, matches, touched_by, of_events, result_of, result_at, touched_since}
 use Rattle.query_order.proofs.Totals.{by_all_ranks}
 use Rattle.query_order.proofs.Orders.{in_order_filter}
 use Rattle.query_order.proofs.Numbered.{named_places}
-use Rattle.query_order.proofs.Splicing.{change_leads}
+use Rattle.query_order.proofs.Splicing.{change_leads, or_right}
 
 -- ---- of lists of items to results
 
@@ -64,10 +64,6 @@ object_stays [] before id h = refl
 object_stays (c ∷ cs) before id h =
     let p = not_named (is_kind Event c.kind) c cs id h in
     ap (λ t. object_from (cond t c.object before) cs Event id) p.0 ∙ object_stays cs before id p.1
-
-or_right : (a b : Bool) → b ≡ true → (a || b) ≡ true
-or_right true b h = refl
-or_right false b h = h
 
 flat_map_push : {X : Type 0} (f : ℕ → List X) (ids : List ℕ) (id : ℕ) → flat_map f (ids ++ id ∷ []) ≡ flat_map f ids ++ f id
 flat_map_push f [] id = append-nil (f id)
@@ -156,7 +152,7 @@ pub matches_of_events : (see : Tree → Option Item) (cs : List Change) → matc
 matches_of_events see cs i = flat_map (λ id. match_of see id (object_of_events cs None id i)) (ids_of_events cs [] i)
 
 -- at state k, when the client has seen k changes of events, and now
-pub untouched_agree : (see : Tree → Option Item) (order : List Comparator) (cs : List Change) (k : ℕ) → untouched (touched_since cs k) (result_at see order cs k) ≡ untouched (touched_since cs k) (result_of see order cs)
+pub untouched_agree : (see : Tree → Option Item) (order : List Comparator) (cs : List Change) (k : ℕ) → StandAlike (result_at see order cs k) (result_of see order cs) (touched_since cs k)
 untouched_agree see order cs k =
     let es = of_events cs in
     let u : ℕ → Bool = λ id. not (is_in (touched_since cs k) id) in
@@ -164,5 +160,5 @@ untouched_agree see order cs k =
     let agree : filter (λ p. u p.0) (matches see (take k es)) ≡ filter (λ p. u p.0) (matches see cs) = sym (matches_agree see (take k es) (drop k es)) ∙ ap (filter (λ p. u p.0)) all in
     ap (filter u) (named_places order (matches see (take k es))) ∙ results_agree order u (matches see (take k es)) (matches see cs) agree ∙ ap (filter u) (sym (named_places order (matches see cs)))
 
-pub results_lead_at : (see : Tree → Option Item) (order : List Comparator) (cs : List Change) (k : ℕ) → spliced (result_at see order cs k) (delta_of (result_at see order cs k) (result_of see order cs) (touched_since cs k)) ≡ result_of see order cs
+pub results_lead_at : (see : Tree → Option Item) (order : List Comparator) (cs : List Change) (k : ℕ) → Lead (result_at see order cs k) (result_of see order cs) (touched_since cs k)
 results_lead_at see order cs k = change_leads (result_at see order cs k) (result_of see order cs) (touched_since cs k) (untouched_agree see order cs k)

@@ -13,6 +13,7 @@ use Rattle.query_order.proofs.Totals.{by_all_total}
 use Rattle.query_order.proofs.Counts.{shuffled_in_order}
 use Rattle.query_order.proofs.Placing.{by_count_is, rising_from}
 use Rattle.std.proofs.lemmas.Cmp.{on_total}
+use Rattle.std.proofs.lemmas.Simd.{map-map}
 
 -- what `result` gives, and how the sort comes to it
 pub places_is : (cs : List Comparator) (items : List Item) → places cs items ≡ ordered_numbers cs (enumerate_from 0 items)
@@ -36,16 +37,12 @@ named_back (p ∷ ps) front =
     λ i. map (named (append_assoc front (p ∷ []) ps i)) (enumerate_from (length-append front (p ∷ []) i) (map (λ p. p.1) ps)) in
     λ i. (at_front front p ps i, p.1) ∷ (sym same ∙ rest) i
 
-names_of : {X Y Z : Type 0} (f : Y → Z) (g : X → Y) (xs : List X) → map f (map g xs) ≡ map (λ x. f (g x)) xs
-names_of f g [] = refl
-names_of f g (x ∷ xs) = ap (λ l. f (g x) ∷ l) (names_of f g xs)
-
 pub named_places : (cs : List Comparator) (ps : List (ℕ × Item)) → numbers_at (map (λ p. p.0) ps) (places cs (map (λ p. p.1) ps)) ≡ ordered_numbers cs ps
 named_places cs ps =
     let numbered = enumerate_from 0 (map (λ p. p.1) ps) in
     ap (numbers_at (map (λ p. p.0) ps)) (places_is cs (map (λ p. p.1) ps)) ∙
-    names_of (λ k. get_or (map (λ p. p.0) ps) k 0) (λ q. q.0) (ordered cs numbered)
-    ∙ sym (names_of (λ q. q.0) (named ps) (ordered cs numbered))
+    map-map (λ k. get_or (map (λ p. p.0) ps) k 0) (λ q. q.0) (ordered cs numbered)
+    ∙ sym (map-map (λ q. q.0) (named ps) (ordered cs numbered))
     ∙ ap (map (λ q. q.0)) (sym (in_order_map (named ps) (by_item cs) numbered) ∙ ap (ordered cs) (named_back ps []))
 
 -- ---- each item is_in one place

@@ -4,7 +4,8 @@ use Rattle.std.proofs.Common.{eqb-true, eq-eqb}
 use Rattle.std.proofs.lemmas.List.Edits.{insert-append_left, insert_end}
 use Rattle.model_query.specs.declared.delta.Place.{Place}
 use Rattle.model_history.specs.Pages.{is_in}
-use Rattle.model_query.specs.QueryChanges.{indexed, delta_of, with_places, spliced, untouched}
+use Rattle.model_query.specs.QueryChanges.{indexed, delta_of, with_places, spliced}
+use Rattle.model_query.specs.QueryChangesLead.{Lead, StandAlike}
 
 -- what goes in before all that is left
 put_front : (ids rest : List ℕ) (index id : ℕ) → (0 < length rest → index ≤ length ids) → insert (ids ++ rest) (min index (length (ids ++ rest))) id ≡ insert ids (min index (length ids)) id ++ rest
@@ -44,7 +45,7 @@ has_filter test (y ∷ ys) id =
     ∙ ap (λ e. cond (test y) ((y == id) || e) e) (has_filter test ys id)
     ∙ table (y == id) (test y) (test id) (is_in ys id) (λ e. ap test (eqb-true y id e))
 
-or_right : (a b : Bool) → b ≡ true → (a || b) ≡ true
+pub or_right : (a b : Bool) → b ≡ true → (a || b) ≡ true
 or_right true b h = refl
 or_right false b h = h
 
@@ -76,5 +77,5 @@ put_back test (id ∷ rest) front =
     by_test false test id rest front h =
         ap (λ l. with_places l (indexed test (length front + 1) rest)) (sym (append_assoc front (id ∷ []) (filter (λ id. not (test id)) rest))) ∙ h ∙ append_assoc front (id ∷ []) rest
 
-pub change_leads : (old new touched : List ℕ) → untouched touched old ≡ untouched touched new → spliced old (delta_of old new touched) ≡ new
+pub change_leads : (old new touched : List ℕ) → StandAlike old new touched → Lead old new touched
 change_leads old new touched same = ap (λ l. with_places l (indexed (is_in touched) 0 new)) (left_out (is_in touched) old old (λ id h. h) ∙ same) ∙ put_back (is_in touched) new []
