@@ -15,12 +15,12 @@ use Rattle.query_order.specs.InOrder.{by_item, ordered_numbers}
 use Rattle.model_history.specs.Pages.{is_in}
 use Rattle.model_query.specs.QueryChangesLead.{Lead, StandAlike}
 use Rattle.model_query.specs.Matching.{with_number, match_of, matches, touched_by, of_events, result_of, result_at, touched_since}
-use Rattle.query_order.proofs.Totals.{by_all_ranks}
+use Rattle.query_order.proofs.TotalOrders.{by_all_ranks}
 use Rattle.query_order.proofs.Orders.{in_order_filter}
-use Rattle.query_order.proofs.Numbered.{named_places}
+use Rattle.query_order.proofs.Places.{named_places}
 use Rattle.query_order.proofs.Splicing.{change_leads, or_right}
 
--- ---- of lists of items to results
+-- of lists of items to results
 
 filter_map_swap : {X Y : Type 0} (u : Y → Bool) (f : X → Y) (xs : List X) → filter u (map f xs) ≡ map f (filter (λ x. u (f x)) xs)
 filter_map_swap u f [] = refl
@@ -31,6 +31,7 @@ filter_map_swap u f (x ∷ xs) = by_test (u (f x)) u f x xs (filter_map_swap u f
     by_test true u f x xs h = ap (λ l. f x ∷ l) h
     by_test false u f x xs h = h
 
+-- leaving events out before or after they are put in order comes to the same
 kept_numbers : (cs : List Comparator) (u : ℕ → Bool) (ps : List (ℕ × Item)) → filter u (ordered_numbers cs ps) ≡ ordered_numbers cs (filter (λ p. u p.0) ps)
 kept_numbers cs u ps =
     filter_map_swap u (λ p. p.0) (in_order (by_item cs) ps)
@@ -39,7 +40,7 @@ kept_numbers cs u ps =
 pub results_agree : (cs : List Comparator) (u : ℕ → Bool) (ps qs : List (ℕ × Item)) → filter (λ p. u p.0) ps ≡ filter (λ p. u p.0) qs → filter u (ordered_numbers cs ps) ≡ filter u (ordered_numbers cs qs)
 results_agree cs u ps qs same = kept_numbers cs u ps ∙ ap (ordered_numbers cs) same ∙ sym (kept_numbers cs u qs)
 
--- ---- of histories to lists of items
+-- of histories to lists of items
 
 object_after : (before : Option Tree) (h more : List Change) (id : ℕ) → object_from before (h ++ more) Event id ≡ object_from (object_from before h Event id) more Event id
 object_after before [] more id = refl
@@ -118,6 +119,7 @@ passed_over : (b : Bool) → not b ≡ true → b ≡ false
 passed_over true h = absurd (true≢false (sym h))
 passed_over false h = refl
 
+-- later changes touch nothing of the events that they don't name
 pub matches_agree : (see : Tree → Option Item) (h more : List Change) → filter (λ p. not (is_in (touched_by more) p.0)) (matches see (h ++ more)) ≡ filter (λ p. not (is_in (touched_by more) p.0)) (matches see h)
 matches_agree see h more =
     let u : ℕ → Bool = λ id. not (is_in (touched_by more) id) in
@@ -126,7 +128,7 @@ matches_agree see h more =
     ∙ ids_noted see u now more (ids_at h Event) (λ id p. ap not p)
     ∙ objects_same see u now (λ id. object_at h Event id) (λ id e. object_after None h more id ∙ object_stays more (object_at h Event id) id (passed_over (is_in (touched_by more) id) e)) (ids_at h Event)
 
--- ---- the changes of events alone
+-- the changes of events alone
 
 object_step : (k : Bool) (c : Change) (cs : List Change) (before : Option Tree) (id : ℕ) → is_kind Event c.kind ≡ k
     → ((b : Option Tree) → object_from b (of_events cs) Event id ≡ object_from b cs Event id)
@@ -148,6 +150,7 @@ ids_of_events : (cs : List Change) (ids : List ℕ) → ids_from ids (of_events 
 ids_of_events [] ids = refl
 ids_of_events (c ∷ cs) ids = ids_step (is_kind Event c.kind) c cs ids refl (λ b. ids_of_events cs b)
 
+-- changes of other kinds don't matter to events
 pub matches_of_events : (see : Tree → Option Item) (cs : List Change) → matches see (of_events cs) ≡ matches see cs
 matches_of_events see cs i = flat_map (λ id. match_of see id (object_of_events cs None id i)) (ids_of_events cs [] i)
 

@@ -17,14 +17,16 @@ put_front ids (r ∷ rest) index id h =
     let e : min index (length (ids ++ r ∷ rest)) ≡ min index (length ids) = let l = length-append ids (r ∷ rest) in omega (arith, l, low) in
     rw e (insert-append_left ids (r ∷ rest) (min index (length ids)) id (omega arith))
 
+-- so one place after the other can be put in before what is left
 pub put_step : (ids rest : List ℕ) (p : Place) (ps : List Place) → (0 < length rest → p.index ≤ length ids) → with_places (ids ++ rest) (p ∷ ps) ≡ with_places (insert ids (min p.index (length ids)) p.id ++ rest) ps
 put_step ids rest p ps h = ap (λ l. with_places l ps) (put_front ids rest p.index p.id h)
 
 pub kept_same : (xs ys ids : List ℕ) → is_in xs ≡ is_in ys → filter (λ id. not (is_in xs id)) ids ≡ filter (λ id. not (is_in ys id)) ids
 kept_same xs ys ids e = ap (λ h. filter (λ id. not (h id)) ids) e
 
--- ---- a change leads from the old result to the new one
+-- a change leads from the old result to the new one
 
+-- whether an id is among those of a list that pass, for one more of the list
 table : (a b c d : Bool) → (a ≡ true → b ≡ c) → cond b (a || (d && c)) (d && c) ≡ ((a || d) && c)
 table true true true d g = refl
 table true true false d g = absurd (true≢false (g refl))
@@ -49,6 +51,7 @@ pub or_right : (a b : Bool) → b ≡ true → (a || b) ≡ true
 or_right true b h = refl
 or_right false b h = h
 
+-- what is left without those that pass, taken from a longer list, are those that don't pass
 pub left_out : (test : ℕ → Bool) (all ids : List ℕ) → ((id : ℕ) → is_in ids id ≡ true → is_in all id ≡ true) → filter (λ id. not (is_in (filter test all) id)) ids ≡ filter (λ id. not (test id)) ids
 left_out test all [] h = refl
 left_out test all (x ∷ xs) h =
@@ -57,6 +60,7 @@ left_out test all (x ∷ xs) h =
     ap (λ t. cond (not t) (x ∷ filter (λ id. not (is_in (filter test all) id)) xs) (filter (λ id. not (is_in (filter test all) id)) xs)) same
     ∙ ap (λ l. cond (not (test x)) (x ∷ l) l) (left_out test all xs (λ id p. h id (or_right (x == id) (is_in xs id) p)))
 
+-- putting those that pass back in at their indexes gives the whole list
 pub put_back : (test : ℕ → Bool) (rest front : List ℕ) → with_places (front ++ filter (λ id. not (test id)) rest) (indexed test (length front) rest) ≡ front ++ rest
 put_back test [] front = refl
 put_back test (id ∷ rest) front =

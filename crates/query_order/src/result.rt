@@ -14,7 +14,7 @@ use std::alloc::{AllocError, Global};
 /// order, whichever way the comparators go (RFC 8620 section 5.5).
 ///
 /// Takes memory for the places and for the sort.
-#[tactic(auto, using(crate::proofs::Numbered::places_below))]
+#[tactic(auto, using(crate::proofs::Places::places_below))]
 pub fn result(alloc: Global, items: &[Item], order: &Order) -> Result<Ids, AllocError>
     ensures places { IfOk result (λ ids. ids ≡ places order.now items.now) }
     ensures below { IfOk result (λ ids. All (λ place. place < length items.now) ids) }
@@ -22,7 +22,7 @@ pub fn result(alloc: Global, items: &[Item], order: &Order) -> Result<Ids, Alloc
     Ok(Ids::new(sorted_places(alloc, items, order)?))
 }
 
-#[tactic(auto, using(crate::proofs::Numbered::places_is))]
+#[tactic(auto, using(crate::proofs::Places::places_is))]
 fn sorted_places(alloc: Global, items: &[Item], order: &Order) -> Result<Vec<u64>, AllocError>
     ensures { IfOk result (λ v. v.items ≡ places order.now items.now) }
 {

@@ -1,5 +1,5 @@
 use Rattle.std.proofs.Common.{◌∙◌}
-use Rattle.query_order.proofs.Membership.{found_is}
+use Rattle.query_order.proofs.BinarySearch.{found_is}
 use Rattle.query_order.proofs.change.is_in.Goals as goal
 
 pub returns : goal.returns

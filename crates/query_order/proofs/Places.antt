@@ -9,9 +9,9 @@ use Rattle.query_order.specs.InOrder.{by_item, ordered, ordered_numbers}
 use Rattle.std.proofs.lemmas.List.Elements.{All-nil, All-cons}
 use Rattle.std.proofs.lemmas.List.Sorted.{All-permutation, IsPermutation-map}
 use Rattle.query_order.proofs.Orders.{in_order_map}
-use Rattle.query_order.proofs.Totals.{by_all_total}
-use Rattle.query_order.proofs.Counts.{shuffled_in_order}
-use Rattle.query_order.proofs.Placing.{by_count_is, rising_from}
+use Rattle.query_order.proofs.TotalOrders.{by_all_total}
+use Rattle.query_order.proofs.Ranks.{shuffled_in_order}
+use Rattle.query_order.proofs.Rankings.{by_count_is, rising_from}
 use Rattle.std.proofs.lemmas.Cmp.{on_total}
 use Rattle.std.proofs.lemmas.Simd.{map-map}
 
@@ -19,7 +19,7 @@ use Rattle.std.proofs.lemmas.Simd.{map-map}
 pub places_is : (cs : List Comparator) (items : List Item) → places cs items ≡ ordered_numbers cs (enumerate_from 0 items)
 places_is cs items = ap (map (λ p. p.0)) (by_count_is (by_all cs) (by_all_total cs) (enumerate_from 0 items) (rising_from (by_all cs) (by_all_total cs) 0 items))
 
--- ---- places name the items of a list that is_in numbers of its own
+-- places name the items of a list that has numbers of its own
 
 at_front : (front : List (ℕ × Item)) (p : ℕ × Item) (ps : List (ℕ × Item)) → get_or (map (λ p. p.0) (front ++ p ∷ ps)) (length front) 0 ≡ p.0
 at_front [] p ps = refl
@@ -28,6 +28,7 @@ at_front (q ∷ front) p ps = at_front front p ps
 abbrev named : List (ℕ × Item) → ℕ × Item → ℕ × Item
 named ps q = (get_or (map (λ p. p.0) ps) q.0 0, q.1)
 
+-- the places of a numbered list, named by its numbers, are that list
 named_back : (ps front : List (ℕ × Item)) → map (named (front ++ ps)) (enumerate_from (length front) (map (λ p. p.1) ps)) ≡ ps
 named_back [] front = refl
 named_back (p ∷ ps) front =
@@ -45,7 +46,7 @@ named_places cs ps =
     ∙ sym (map-map (λ q. q.0) (named ps) (ordered cs numbered))
     ∙ ap (map (λ q. q.0)) (sym (in_order_map (named ps) (by_item cs) numbered) ∙ ap (ordered cs) (named_back ps []))
 
--- ---- each item is_in one place
+-- each item has one place
 
 numbers_of : (n : ℕ) (items : List Item) → map (λ p. p.0) (enumerate_from n items) ≡ range_with_len n (length items)
 numbers_of n [] = refl

@@ -14,7 +14,7 @@ use Rattle.model_query.specs.Comparing.{by_all}
 use Rattle.query_order.specs.InOrder.{in_order}
 use Rattle.query_order.specs.InOrder.{by_item}
 use Rattle.query_order.specs.Numbered.{numbered_item}
-use Rattle.query_order.proofs.Totals.{by_all_ranks}
+use Rattle.query_order.proofs.TotalOrders.{by_all_ranks}
 use Rattle.query_order.proofs.Orders.{is_in_order, in_order_map}
 
 pub sorted_in_order : (cs : List Comparator) {F : Type 0} {g : Mut F (Bor (ℕ × Bor Item) × (Bor (ℕ × Bor Item) × Unit {0})) Ordering} {f : F} (xs ys : List (ℕ × Bor Item))
