@@ -69,7 +69,7 @@ fn made_up_item(alloc: Global, place: u64, seed: u64) -> Result<Item, AllocError
     Ok(Item {
         start: start - start % 3600,
         uid: Text::from_string(format!(in alloc; "event-{place}@example.com")?),
-        title: made_up_title(alloc, scattered(place, seed + 10) % TITLES)?,
+        title: made_up_title(alloc, scattered(place, seed.wrapping_add(10)) % TITLES)?,
         created: start,
         updated: start,
     })

@@ -6,6 +6,7 @@ mod rounds;
 
 use events::Events;
 use rounds::Rounds;
+use std::alloc::{AllocError, Global};
 use std::{env, io};
 
 /// The words after the program's name, none where there aren't five numbers: how many events there are, how many of them are touched, and
@@ -23,16 +24,24 @@ fn numbers(rt: &HostRuntime) -> io::Result<Option<[u32; 5]>> {
     if count == 5 { Ok(Some(numbers)) } else { Ok(None) }
 }
 
-fn main(rt: HostRuntime) -> io::Result<()> {
-    let Some([events, touched, results, changes, splices]) = numbers(&rt)? else {
-        return println!(rt; "usage: order_bench EVENTS TOUCHED RESULTS CHANGES SPLICES");
-    };
-    let events = Events::made_up(rt.alloc(), events, touched)?;
+/// What comes of the work that five numbers ask for.
+fn worked(alloc: Global, numbers: [u32; 5]) -> Result<String, AllocError> {
+    let [events, touched, results, changes, splices] = numbers;
+    let events = Events::made_up(alloc, events, touched)?;
     let rounds = Rounds {
         results,
         changes,
         splices,
     };
-    let worked = rounds.work(rt.alloc(), &events)?;
-    println!(rt; "{worked}")
+    rounds.work(alloc, &events)
+}
+
+fn main(rt: HostRuntime) -> io::Result<()> {
+    match numbers(&rt)? {
+        Some(numbers) => {
+            let worked = worked(rt.alloc(), numbers)?;
+            println!(rt; "{worked}")
+        }
+        None => println!(rt; "usage: order_bench EVENTS TOUCHED RESULTS CHANGES SPLICES"),
+    }
 }
