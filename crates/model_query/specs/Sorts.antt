@@ -7,6 +7,7 @@ use Rattle.model_json.specs.Parts.{all_some, as_list, as_text, as_truth, is_null
 use Rattle.model_query.specs.declared.comparator.Property.{Property}
 use Rattle.model_query.specs.declared.comparator.Property.TheVariants.{Start, Uid, Title, Created, Updated}
 use Rattle.model_query.specs.declared.comparator.Comparator.{Comparator}
+use Rattle.model_query.specs.declared.comparator.TheConstants.{MOST_COMPARATORS}
 
 -- a member that is absent or null, or passes
 abbrev pub is_absent_or : (Data → Bool) → Option Data → Bool
@@ -62,10 +63,10 @@ abbrev pub known_sort : Option (List Comparator) → Sort
 known_sort None = unsupported_sort
 known_sort (Some cs) = by_comparators cs
 
--- a comparator of another shape, or more than 8, before one whose property or collation isn't known
+-- a comparator of another shape, or too many of them, before one whose property or collation isn't known
 abbrev pub sort_of : Option (List Data) → Sort
 sort_of None = bad_sort
-sort_of (Some ds) = if nat_le (length ds) 8 && list_all is_comparator ds then known_sort (all_some comparator_in ds) else bad_sort
+sort_of (Some ds) = if nat_le (length ds) MOST_COMPARATORS && list_all is_comparator ds then known_sort (all_some comparator_in ds) else bad_sort
 
 abbrev pub sort_in : Data → Sort
 sort_in d = sort_of (sort_items d)

@@ -1,5 +1,8 @@
 //! By what a query compares (RFC 8620 section 5.5).
 
+/// The most comparators of a query.
+pub const MOST_COMPARATORS: usize = 8;
+
 /// A property by which items are compared.
 #[derive(Clone, Copy)]
 pub enum Property {

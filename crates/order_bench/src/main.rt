@@ -21,7 +21,11 @@ fn numbers(rt: &HostRuntime) -> io::Result<Option<[u32; 5]>> {
         }
         count += 1;
     }
-    if count == 5 { Ok(Some(numbers)) } else { Ok(None) }
+    if count == 5 {
+        Ok(Some(numbers))
+    } else {
+        Ok(None)
+    }
 }
 
 /// What comes of the work that five numbers ask for.

@@ -25,7 +25,9 @@ impl Rounds {
         let worked = self.results(alloc, events)?
             && self.changes(alloc, events, &old, &new, &delta)?
             && self.splices(alloc, &old, &new, &delta)?;
-        format!(in alloc; "{removed} removed, {added} added, the later result: {is_later}, each round alike: {worked}")
+        format!(in alloc;
+            "{removed} removed, {added} added, the later result: {is_later}, each round alike: {worked}"
+        )
     }
 
     fn results(&self, alloc: Global, events: &Events) -> Result<bool, AllocError> {

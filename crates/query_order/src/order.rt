@@ -2,13 +2,10 @@
 ghost use Rattle.std.specs.Prelude.{◌≡◌, ◌≤◌, length};
 ghost use Rattle.model_query.specs.Comparing.{by_property, by_comparator, by_all};
 
-use model_query::comparator::{Comparator, Property};
+use model_query::comparator::{Comparator, MOST_COMPARATORS, Property};
 use model_query::item::Item;
 use std::cmp::Ordering;
 use std::marker::Model;
-
-/// The most comparators of an order.
-pub const MOST_COMPARATORS: usize = 8;
 
 /// An order by at most 8 comparators, of which the first that tells two items apart decides. Contracts see the list of them.
 #[derive(Drop)]
@@ -19,12 +16,13 @@ pub struct Order {
 impl Model for Order {
     ghost use Rattle.std.specs.Prelude.{List, ◌≤◌, length};
     ghost use Rattle.model_query.specs.declared.comparator.Comparator.{Comparator};
+    ghost use Rattle.model_query.specs.declared.comparator.TheConstants.{MOST_COMPARATORS};
 
     ghost Value = { List Comparator };
 
     ghost view = { λ a. a.comparators.items };
 
-    ghost invariant = { λ a. length a.comparators.items ≤ 8 };
+    ghost invariant = { λ a. length a.comparators.items ≤ MOST_COMPARATORS };
 }
 
 impl Order {

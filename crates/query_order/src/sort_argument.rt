@@ -7,10 +7,10 @@ ghost use Rattle.model_query.specs.Sorts.{by_comparators, comparator_in, is_asce
 ghost use Rattle.query_order.specs.Reports.{Reports};
 ghost use Rattle.query_order.specs.declared.sort_argument.SortError.TheVariants.{NoMemory};
 
-use crate::order::{MOST_COMPARATORS, Order};
+use crate::order::Order;
 use model_json::text::Text;
 use model_json::tree::Tree;
-use model_query::comparator::{Comparator, Property};
+use model_query::comparator::{Comparator, MOST_COMPARATORS, Property};
 use std::alloc::{AllocError, AllocFailed, Global};
 
 /// Why there is no order.
