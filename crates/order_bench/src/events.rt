@@ -1,4 +1,7 @@
 //! Made-up events, before and after some of them were touched.
+ghost use Rattle.std.specs.Prelude.{◌≡◌, [], ◌∷◌, IfOk, true, false};
+ghost use Rattle.model_query.specs.declared.comparator.Property.TheVariants.{Start, Title};
+
 use model_json::text::Text;
 use model_query::comparator::{Comparator, Property};
 use model_query::item::Item;
@@ -79,7 +82,10 @@ fn made_up_title(alloc: Global, number: u64) -> Result<Text, AllocError> {
     Ok(Text::from_string(format!(in alloc; "Weekly meeting of the group {number}")?))
 }
 
-fn by_start_and_title(alloc: Global) -> Result<Order, AllocError> {
+// By start, and those of one start by title, the last first.
+fn by_start_and_title(alloc: Global) -> Result<Order, AllocError>
+    ensures { IfOk result (λ order. order ≡ record { property = Start; ascending = true } ∷ record { property = Title; ascending = false } ∷ []) }
+{
     let start = Comparator {
         property: Property::Start,
         ascending: true,
