@@ -7,9 +7,14 @@ import tempfile
 from measure import contents, measured, options, run_program
 
 BINARY = "crates/order_bench/out/order_bench"
-ROUNDS = 10
-SIZES = ((5_000, 410), (50_000, 4_096), (500_000, 40_960))
+SIZES = {"jmapd": ((5_000, 410), (50_000, 4_096), (500_000, 40_960)), "Python": ((5_000, 410), (50_000, 4_096))}
 PARTS = ("result", "changes", "splice")
+
+
+def rounds_of(who, part, count):
+    """How often a part is done, so that it takes longer than one run differs from another."""
+    often = 1_000_000 // count
+    return 5 * often if who == "jmapd" and part != "result" else often
 
 
 def splice(old, removed, added):
@@ -73,13 +78,13 @@ def main():
 
     print("who      events touched  peak MB  " + "  ".join(f"ms a {part}" for part in PARTS))
     for who in ("jmapd", "Python"):
-        for count, touched in SIZES:
+        for count, touched in SIZES[who]:
             without, peak = seconds(who, count, touched, (0, 0, 0))
             line = f"{who:7} {count:7} {touched:7} {peak / 1e6:8.1f}"
-            for part, name in enumerate(PARTS):
-                rounds = [ROUNDS if part == other else 0 for other in range(3)]
-                taken = seconds(who, count, touched, rounds)[0] - without
-                line += f"  {taken / ROUNDS * 1e3:{len('ms a ' + name)}.2f}"
+            for part in PARTS:
+                rounds = rounds_of(who, part, count)
+                taken = seconds(who, count, touched, [rounds if part == other else 0 for other in PARTS])[0] - without
+                line += f"  {taken / rounds * 1e3:{len('ms a ' + part)}.2f}"
             print(line)
 
 
