@@ -43,14 +43,11 @@ fn ids_in_order(
 ) -> Result<Vec<u64>, AllocError> {
     let items = items_at(alloc, asked, key)?;
     let ids = ids_at(alloc, asked, key)?;
-    let places = result::result(alloc, &items, order)?;
-    let mut ordered = Vec::new(alloc);
-    for place in places.items() {
-        if let Some(id) = ids.get(*place as usize) {
-            ordered.push(*id)?;
-        }
+    if ids.len() != items.len() {
+        return Ok(Vec::new(alloc));
     }
-    Ok(ordered)
+    let places = result::result(alloc, &items, order)?;
+    result::numbers_at(alloc, &ids, places.items())
 }
 
 fn delta_tree(alloc: Global, delta: &Delta) -> Result<Tree, AllocError> {
