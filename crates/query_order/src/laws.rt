@@ -1,8 +1,8 @@
 //! Laws of results and of their changes.
 ghost use Rattle.std.specs.Prelude.{Option, ℕ, length, IsPermutation};
 ghost use Rattle.std.specs.List.{range_with_len};
-ghost use Rattle.model_json.specs.declared.tree.Tree.{Tree as GTree};
-ghost use Rattle.model_query.specs.declared.item.Item.{Item as GItem};
+ghost use Rattle.model_json.specs.declared.tree.Tree.{Tree as AnyTree};
+ghost use Rattle.model_query.specs.declared.item.Item.{Item as AnyItem};
 ghost use Rattle.model_query.specs.Matching.{result_at, result_of, touched_since};
 ghost use Rattle.model_query.specs.QueryChangesLead.{Lead, StandAlike};
 ghost use Rattle.model_query.specs.Results.{places};
@@ -24,10 +24,10 @@ pub fn changes_lead(old: &[u64], new: &[u64], touched: &[u64])
 /// What wasn't touched since a state of a history stands alike in the results of one filter, order and time zone at that state and at the
 /// end, whatever the filter says of an event's object.
 pub fn untouched_events_stand_alike(order: &Order, changes: &[Change])
-    ensures { (see : GTree → Option GItem) (k : ℕ) → StandAlike (result_at see order.now changes.now k) (result_of see order.now changes.now) (touched_since changes.now k) }
+    ensures { (see : AnyTree → Option AnyItem) (k : ℕ) → StandAlike (result_at see order.now changes.now k) (result_of see order.now changes.now) (touched_since changes.now k) }
 {}
 
 /// So the changes between these two results lead from the one to the other.
 pub fn results_lead(order: &Order, changes: &[Change])
-    ensures { (see : GTree → Option GItem) (k : ℕ) → Lead (result_at see order.now changes.now k) (result_of see order.now changes.now) (touched_since changes.now k) }
+    ensures { (see : AnyTree → Option AnyItem) (k : ℕ) → Lead (result_at see order.now changes.now k) (result_of see order.now changes.now) (touched_since changes.now k) }
 {}
