@@ -87,8 +87,8 @@ class Table:
         print(f"jmapd takes {jmapd / python:.2f} of Python's time on the larger")
 
 
-def options(description):
+def options(description, binary="crates/jmapd/out/jmapd"):
     parser = argparse.ArgumentParser(description=description)
-    parser.add_argument("binary", nargs="?", default="crates/jmapd/out/jmapd")
+    parser.add_argument("binary", nargs="?", default=binary)
     parser.add_argument("--rounds", type=int, default=5)
     return parser.parse_args()

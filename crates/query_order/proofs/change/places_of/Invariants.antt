@@ -1,0 +1,7 @@
+use Rattle.std.proofs.Common.{◌≡◌, ◌++◌, drop}
+use Rattle.model_history.specs.Pages.{is_in}
+use Rattle.model_query.specs.QueryChanges.{indexed}
+use Rattle.query_order.proofs.change.places_of.Given as goal
+
+abbrev pub invariant-loop-index : goal.invariant-loop-index
+invariant-loop-index l = l.found.items ++ indexed (is_in l.sorted) l.index (drop l.index l.ids) ≡ indexed (is_in l.sorted) 0 l.ids
