@@ -6,7 +6,7 @@ use Rattle.model_json.specs.Data.{Data, Pair}
 use Rattle.model_json.specs.ObjectKeys.{is_above, keys_rise}
 use Rattle.model_json.specs.TreeData.{pair_of}
 use Rattle.model_json.specs.declared.tree.Member.{Member}
-use Rattle.json_edge.specs.Entries.{Entry, wholes, firsts, is_next, last_key}
+use Rattle.json_edge.specs.FoundMembers.{Found, whole_pairs, first_of_each, is_next, last_key}
 
 pub last_pushed : (ps : List Pair) (p : Pair) → last_key (ps ++ p ∷ []) ≡ Some p.0
 last_pushed [] p = refl
@@ -21,18 +21,18 @@ last_at (m ∷ []) d (suc i) h = absurd (omega (arith, h))
 last_at (m ∷ n ∷ ms) d zero h = absurd (omega (arith, h))
 last_at (m ∷ n ∷ ms) d (suc i) h = last_at (n ∷ ms) d i (omega (arith, h))
 
-pub kept : (ps : List Pair) (k : List ℕ) (v : Data) (es : List Entry) → is_next (last_key ps) k ≡ true
-    → option_map (λ qs. ps ++ qs) (wholes (firsts (last_key ps) ((k, Some v) ∷ es))) ≡ option_map (λ qs. (ps ++ (k, v) ∷ []) ++ qs) (wholes (firsts (last_key (ps ++ (k, v) ∷ [])) es))
-kept ps k v es h = rw (h, last_pushed ps (k, v)) (grown (wholes (firsts (Some k) es)))
+pub kept : (ps : List Pair) (k : List ℕ) (v : Data) (es : List Found) → is_next (last_key ps) k ≡ true
+    → option_map (λ qs. ps ++ qs) (whole_pairs (first_of_each (last_key ps) ((k, Some v) ∷ es))) ≡ option_map (λ qs. (ps ++ (k, v) ∷ []) ++ qs) (whole_pairs (first_of_each (last_key (ps ++ (k, v) ∷ [])) es))
+kept ps k v es h = rw (h, last_pushed ps (k, v)) (grown (whole_pairs (first_of_each (Some k) es)))
   where
     grown : (o : Option (List Pair)) → option_map (λ qs. ps ++ qs) (option_map (λ qs. (k, v) ∷ qs) o) ≡ option_map (λ qs. (ps ++ (k, v) ∷ []) ++ qs) o
     grown None = refl
     grown (Some qs) = ap Some (sym (append_assoc ps ((k, v) ∷ []) qs))
 
-pub passed : (last : Option (List ℕ)) (e : Entry) (es : List Entry) → is_next last e.0 ≡ false → firsts last (e ∷ es) ≡ firsts last es
+pub passed : (last : Option (List ℕ)) (e : Found) (es : List Found) → is_next last e.0 ≡ false → first_of_each last (e ∷ es) ≡ first_of_each last es
 passed last e es h = rw h refl
 
-pub not_all : (last : Option (List ℕ)) (k : List ℕ) (es : List Entry) → is_next last k ≡ true → wholes (firsts last ((k, None) ∷ es)) ≡ None
+pub not_all : (last : Option (List ℕ)) (k : List ℕ) (es : List Found) → is_next last k ≡ true → whole_pairs (first_of_each last ((k, None) ∷ es)) ≡ None
 not_all last k es h = rw h refl
 
 -- a key that is above the last keeps keys in order

@@ -1,16 +1,19 @@
-//! Numbers of JSON, as `serde_json` reads them.
+//! Numbers of JSON (RFC 8259 section 6), as `serde_json` reads them.
 ghost use Rattle.std.specs.Prelude.{◌≡◌, ◌<◌, ◌==◌, option_map, true, false, IsTrue, slice_index, length};
-ghost use Rattle.model_json.specs.TreeData.{data_of};
 ghost use Rattle.model_json.specs.Json.{whole_number};
 ghost use Rattle.serde_json.specs.Read.{number_of, number_from, float_of};
+ghost use Rattle.json_edge.specs.FoundData.{read_as};
 
+use fast_float::Numeral;
+use json::Invalid;
 use model_json::num::Num;
 use model_json::tree::Tree;
-use fast_float::Numeral;
 
-/// The number that a token of JSON writes: None where it is too large for a float, and Some(None) where it is not whole.
-pub fn number(text: &str) -> Option<Option<Tree>>
-    ensures { option_map whole_number (number_of text.now) ≡ option_map (λ t. option_map data_of t) result }
+/// The number that a token writes, none where it isn't whole: with a fraction or an exponent, `-0`, or outside -2^63 to 2^64 - 1.
+///
+/// One that is too large for a float is no JSON. Takes no memory.
+pub fn number(text: &str) -> Result<Option<Tree>, Invalid>
+    ensures { option_map whole_number (number_of text.now) ≡ read_as result }
 {
     let bytes = text.as_bytes();
     if has_minus(bytes) {
@@ -27,32 +30,33 @@ fn has_minus(bytes: &[u8]) -> bool
     !bytes.is_empty() && bytes[0] == b'-'
 }
 
-fn unsigned(numeral: &Numeral<'_>) -> Option<Option<Tree>>
-    ensures { option_map whole_number (number_from false numeral.now) ≡ option_map (λ t. option_map data_of t) result }
+fn unsigned(numeral: &Numeral<'_>) -> Result<Option<Tree>, Invalid>
+    ensures { option_map whole_number (number_from false numeral.now) ≡ read_as result }
 {
     match numeral.to_u64() {
-        Some(n) => Some(Some(Tree::Whole(Num::new(n as i128)))),
-        None => nearest(false, numeral),
+        Some(n) => Ok(Some(Tree::Whole(Num::new(n as i128)))),
+        None => not_whole(false, numeral),
     }
 }
 
-fn negative(numeral: &Numeral<'_>) -> Option<Option<Tree>>
-    ensures { option_map whole_number (number_from true numeral.now) ≡ option_map (λ t. option_map data_of t) result }
+fn negative(numeral: &Numeral<'_>) -> Result<Option<Tree>, Invalid>
+    ensures { option_map whole_number (number_from true numeral.now) ≡ read_as result }
 {
     if let Some(n) = numeral.to_i64(true) {
         if n < 0 {
-            return Some(Some(Tree::Whole(Num::new(n as i128))));
+            return Ok(Some(Tree::Whole(Num::new(n as i128))));
         }
     }
-    nearest(true, numeral)
+    not_whole(true, numeral)
 }
 
-fn nearest(negative: bool, numeral: &Numeral<'_>) -> Option<Option<Tree>>
-    ensures { option_map whole_number (float_of negative numeral.now) ≡ option_map (λ t. option_map data_of t) result }
+// `serde_json` reads such a number as the nearest float, where there is one.
+fn not_whole(negative: bool, numeral: &Numeral<'_>) -> Result<Option<Tree>, Invalid>
+    ensures { option_map whole_number (float_of negative numeral.now) ≡ read_as result }
 {
     if numeral.to_float::<f64>(negative).is_finite() {
-        Some(None)
+        Ok(None)
     } else {
-        None
+        Err(Invalid)
     }
 }

@@ -3,8 +3,8 @@ use Rattle.std.proofs.lemmas.List.{map-append}
 use Rattle.std.specs.Vec.Iter.{into_iter_items}
 use Rattle.model_json.specs.ObjectKeys.{HasOrderedKeys}
 use Rattle.model_json.specs.TreeData.{data_of, pair_of}
-use Rattle.json_edge.specs.Entries.{is_next, last_key, wholes, firsts}
-use Rattle.json_edge.specs.FoundData.{entry_of}
+use Rattle.json_edge.specs.FoundMembers.{is_next, last_key, whole_pairs, first_of_each}
+use Rattle.json_edge.specs.FoundData.{found_of}
 use Rattle.json_edge.proofs.Distinct.{kept, rises_on}
 use Rattle.json_edge.proofs.object.distinct.Goals as goal
 
@@ -17,9 +17,9 @@ loop-key-preserved-in-Continue-branch-2 c =
     let rest : into_iter_items c.loop-key.key-iterator ≡ f ∷ more = search rules in
     let pushed : map pair_of c.push.new.self.items ≡ done ++ (f.key, data_of c.in-Some-value.value) ∷ [] = ap (map pair_of) c.in_ok-push-in-Some-value.ensures.items ∙ map-append pair_of c.loop-key.members.items _ in (
       c.loop-key.invariant.0
-          ∙ ap (λ it. option_map (λ qs. done ++ qs) (wholes (firsts (last_key done) (map entry_of it)))) rest
-          ∙ ap (λ v. option_map (λ qs. done ++ qs) (wholes (firsts (last_key done) ((f.key, option_map data_of v) ∷ map entry_of more)))) c.in-Some-value.is
-          ∙ kept done f.key (data_of c.in-Some-value.value) (map entry_of more) next
-          ∙ ap (λ ps. option_map (λ qs. ps ++ qs) (wholes (firsts (last_key ps) (map entry_of more)))) (sym pushed),
+          ∙ ap (λ it. option_map (λ qs. done ++ qs) (whole_pairs (first_of_each (last_key done) (map found_of it)))) rest
+          ∙ ap (λ v. option_map (λ qs. done ++ qs) (whole_pairs (first_of_each (last_key done) ((f.key, option_map data_of v) ∷ map found_of more)))) c.in-Some-value.is
+          ∙ kept done f.key (data_of c.in-Some-value.value) (map found_of more) next
+          ∙ ap (λ ps. option_map (λ qs. ps ++ qs) (whole_pairs (first_of_each (last_key ps) (map found_of more)))) (sym pushed),
       subst HasOrderedKeys (sym pushed) (rises_on done (f.key, data_of c.in-Some-value.value) c.loop-key.invariant.1 next),
     )
