@@ -15,7 +15,7 @@ use Rattle.serde_json.specs.Data.{put}
 use Rattle.serde_json.specs.Read.{of_json, of_members, converted}
 use Rattle.model_json.specs.Data.{Data, Pair, object, members_of}
 use Rattle.model_json.specs.Json.{whole_of, whole_members}
-use Rattle.json_edge.specs.FoundMembers.{Found, put_found, put_each, whole_pairs, object_from, first_of_each, is_next}
+use Rattle.json_edge.specs.FoundMembers.{Found, put_found, put_each, whole_pairs, object_found, first_of_each, is_next}
 use Rattle.json_edge.specs.InOrder.{put_in, in_order, key_below}
 use Rattle.json_edge.specs.Readings.{value_read, members_read}
 use Rattle.json_edge.proofs.Reading.{twice}
@@ -64,20 +64,20 @@ pairs_whole (json.member k j ms) old = by_value (of_json j) (λ d. pairs_whole m
 abbrev object_data : List Pair → Data
 object_data ps = object (members_of ps)
 
-object_of_whole : (ms : json.Members) → value_read (json.object ms) ≡ option_map object_from (members_read ms)
+object_of_whole : (ms : json.Members) → value_read (json.object ms) ≡ option_map object_found (members_read ms)
 object_of_whole ms = by_members (of_members ms serde.no_members) ∙ ap (option_map (option_map object_data)) (pairs_whole ms serde.no_members) ∙ once_more (members_read ms)
   where
     by_members : (o : Option serde.Members) → option_map whole_of (option_map serde.object o) ≡ option_map (option_map object_data) (option_map whole_members o)
     by_members None = refl
     by_members (Some ds) = refl
 
-    once_more : (o : Option (List Found)) → option_map (option_map object_data) (option_map (λ es. whole_pairs (put_each [] es)) o) ≡ option_map object_from o
+    once_more : (o : Option (List Found)) → option_map (option_map object_data) (option_map (λ es. whole_pairs (put_each [] es)) o) ≡ option_map object_found o
     once_more None = refl
     once_more (Some es) = refl
 
-pub converted_object : (o : Option (json.Members × List Token)) → converted value_read (parse_map json.object o) ≡ parse_map object_from (converted members_read o)
+pub converted_object : (o : Option (json.Members × List Token)) → converted value_read (parse_map json.object o) ≡ parse_map object_found (converted members_read o)
 converted_object None = refl
-converted_object (Some p) = ap (option_map (λ y. (y, p.1))) (object_of_whole p.0) ∙ twice object_from p.1 (members_read p.0)
+converted_object (Some p) = ap (option_map (λ y. (y, p.1))) (object_of_whole p.0) ∙ twice object_found p.1 (members_read p.0)
 
 -- ---- as they are sorted
 

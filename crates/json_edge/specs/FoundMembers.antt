@@ -23,8 +23,8 @@ whole_pairs [] = Some []
 whole_pairs (m ∷ ms) = option_and_then (λ d. option_map (λ ps. (m.0, d) ∷ ps) (whole_pairs ms)) m.1
 
 -- the object that its members make, none where a number of it isn't whole
-abbrev pub object_from : List Found → Option Data
-object_from ms = option_map (λ ps. object (members_of ps)) (whole_pairs (put_each [] ms))
+abbrev pub object_found : List Found → Option Data
+object_found ms = option_map (λ ps. object (members_of ps)) (whole_pairs (put_each [] ms))
 
 abbrev pub last_key : List Pair → Option (List ℕ)
 last_key [] = None

@@ -3,7 +3,7 @@ ghost use Rattle.std.specs.Prelude.{◌≡◌, [], IfOk, IfErr, OnOk, IfSome, ma
 ghost use Rattle.model_json.specs.TreeData.{data_of, pair_of};
 ghost use Rattle.model_json.specs.ObjectKeys.{HasOrderedKeys};
 ghost use Rattle.json_edge.specs.declared.error.ReadError.TheVariants.{NoMemory};
-ghost use Rattle.json_edge.specs.FoundMembers.{object_from, whole_pairs, first_of_each, is_next, last_key};
+ghost use Rattle.json_edge.specs.FoundMembers.{object_found, whole_pairs, first_of_each, is_next, last_key};
 ghost use Rattle.json_edge.specs.InOrder.{in_order, key_below};
 ghost use Rattle.json_edge.specs.FoundData.{found_of};
 
@@ -23,7 +23,7 @@ pub struct FoundMember {
 ///
 /// Takes memory for the object, and until it returns for sorting.
 pub fn object(alloc: Global, found: Vec<FoundMember>) -> Result<Option<Tree>, ReadError>
-    ensures ok { IfOk result (λ t. object_from (map found_of found.items) ≡ option_map data_of t) }
+    ensures ok { IfOk result (λ t. object_found (map found_of found.items) ≡ option_map data_of t) }
     ensures err { IfErr result (λ e. e ≡ NoMemory) }
 {
     let mut found = found;

@@ -157,9 +157,7 @@ fn list(
     ensures err { IfErr result (λ e. e ≡ NoMemory) }
 {
     match found {
-        Some(items) => Ok(Some(Tree::List(TreeList::new(fitted(
-            alloc, spare, items,
-        )?)))),
+        Some(items) => Ok(Some(Tree::List(TreeList::new(fitted(alloc, spare, items)?)))),
         None => Ok(None),
     }
 }

@@ -10,7 +10,7 @@ use Rattle.json_edge.specs.Readings.{value_read, items_read, members_read, one_i
 use Rattle.json_edge.specs.FoundData.{found_of, all_data}
 use Rattle.json_edge.proofs.Reading.{next_item, item_refused, items_over, next_member, member_refused, key_refused, members_over, number_read, one_more_item, no_item_yet, after_all, one_more_member, no_member_yet, converted_array}
 use Rattle.json_edge.proofs.Settling.{converted_object}
-use Rattle.json_edge.specs.FoundMembers.{object_from}
+use Rattle.json_edge.specs.FoundMembers.{object_found}
 use Rattle.std.proofs.lemmas.Result.{IfOk-weaker}
 use Rattle.model_json.specs.Data.{text}
 use Rattle.json_edge.proofs.read.+read.Goals as goal
@@ -134,7 +134,7 @@ pub read-returns-in_err-read_members-in-BeginObject-clause-refused : goal.read-r
 read-returns-in_err-read_members-in-BeginObject-clause-refused t c refused =
     let first : c.args.reader.now ≡ token_of c.in_ok-token.token ∷ c.next.new.self = grind arith in
     let opened = ap (converted value_read) (ap (value c.args.depth) (first ∙ ap (λ k. token_of k ∷ c.next.new.self) c.in-BeginObject.is) ∙ value-begin_object c.args.depth c.next.new.self (omega arith)) ∙ converted_object (members (value (c.args.depth - 1)) (length c.next.new.self) c.next.new.self) in
-    opened ∙ ap (parse_map object_from) (c.read_members.ensures.refused (grind arith))
+    opened ∙ ap (parse_map object_found) (c.read_members.ensures.refused (grind arith))
 
 pub read-returns-in_ok-from_str-in-String-clause-ok : goal.read-returns-in_ok-from_str-in-String-clause-ok
 read-returns-in_ok-from_str-in-String-clause-ok t c =
@@ -173,7 +173,7 @@ read-returns-in_ok-read_members-in-BeginObject-clause-ok t c =
     let first : c.args.reader.now ≡ token_of c.in_ok-token.token ∷ c.next.new.self = grind arith in
     let opened = ap (converted value_read) (ap (value c.args.depth) (first ∙ ap (λ k. token_of k ∷ c.next.new.self) c.in-BeginObject.is) ∙ value-begin_object c.args.depth c.next.new.self (omega arith)) ∙ converted_object (members (value (c.args.depth - 1)) (length c.next.new.self) c.next.new.self) in
     let found = c.in_ok-read_members-in-BeginObject in
-    IfOk-weaker c.object.result _ _ (λ o is. opened ∙ ap (parse_map object_from) found.ensures.ok ∙ ap (λ d. Some (d, c.read_members.new.reader)) is) c.object.ensures.ok
+    IfOk-weaker c.object.result _ _ (λ o is. opened ∙ ap (parse_map object_found) found.ensures.ok ∙ ap (λ d. Some (d, c.read_members.new.reader)) is) c.object.ensures.ok
 
 pub read-returns-in_ok-number-in-Number-clause-ok : goal.read-returns-in_ok-number-in-Number-clause-ok
 read-returns-in_ok-number-in-Number-clause-ok t c =
