@@ -28,8 +28,8 @@ def run_python(text, copy):
     copy.write(compact(json.loads(contents(text))))
 
 
-def apart(work, *arguments):
-    """Does the work in a process of its own, and gives what that process used.
+def apart(work, *arguments, wanted=0):
+    """Does the work in a process of its own, which has to end with the wanted status, and gives what that process used.
 
     A new process's peak counts what its parent held when it began, so this one never holds a request.
     """
@@ -44,19 +44,19 @@ def apart(work, *arguments):
             print(f"{work.__name__}: {error}", file=sys.stderr)
         os._exit(status)
     _, status, usage = os.wait4(child, 0)
-    if status != 0:
+    if os.waitstatus_to_exitcode(status) != wanted:
         sys.exit(f"{work.__name__} failed")
     return usage
 
 
-def measured(work, rounds, given, check=None):
-    """The least seconds of processor and the greatest peak memory in bytes of some rounds."""
+def measured(work, rounds, given, check=None, wanted=0):
+    """The least seconds of processor and the greatest peak memory in bytes of some rounds, each with the wanted status."""
     unit = 1 if sys.platform == "darwin" else 1024
     seconds, peaks = [], []
     for _ in range(rounds):
         with tempfile.TemporaryFile() as made:
             os.lseek(given.fileno(), 0, os.SEEK_SET)
-            usage = apart(work, given, made)
+            usage = apart(work, given, made, wanted=wanted)
             if check:
                 apart(check, given, made)
         seconds.append(usage.ru_utime + usage.ru_stime)

@@ -1,136 +1,192 @@
-//! Trees from JSON texts.
-ghost use Rattle.std.specs.Prelude.{◌≡◌, ◌≢◌, IfOk, IfErr, map};
-ghost use Rattle.model_json.specs.Data.{Data};
-ghost use Rattle.model_json.specs.TreeData.{data_of, pair_of};
-ghost use Rattle.model_json.specs.ObjectKeys.{HasOrderedKeys};
-ghost use Rattle.serde_json.specs.View.{view, number_view, items_view, members_view};
-ghost use Rattle.serde_json.specs.Errors.{IsMemory};
-ghost use Rattle.model_json.specs.Json.{whole_of, whole_items, whole_members, whole_number, reading, not_json, not_whole, value};
-ghost use Rattle.json_edge.specs.declared.read.ReadError.TheVariants.{NotJson, NotWhole, NoMemory};
+//! Trees from JSON texts, token by token.
+ghost use Rattle.std.specs.Prelude.{◌≡◌, ◌≢◌, ◌<◌, [], length, Some, None, Err, IfOk, IfErr, OnOk, map, option_map};
+ghost use Rattle.json.specs.Json.{value as json_value, items, members};
+ghost use Rattle.serde_json.specs.Read.{converted, read as read_text};
+ghost use Rattle.model_json.specs.Json.{reading, whole_of, not_json, not_whole, value};
+ghost use Rattle.model_json.specs.TreeData.{data_of};
+ghost use Rattle.json_edge.specs.declared.error.ReadError.TheVariants.{NotJson, NotWhole, NoMemory};
+ghost use Rattle.json_edge.specs.Readings.{value_read, items_read, members_read, one_item, and_items, list_data};
+ghost use Rattle.json_edge.specs.FoundData.{found_of, all_data};
 
-use model_json::num::Num;
+pub use crate::error::ReadError;
+use crate::number::number;
+use crate::object::{FoundMember, object};
+use json::{Reader, Scratch, Token};
 use model_json::text::Text;
-use model_json::tree::{Member, Tree, TreeList, TreeObject};
-use serde_json::{Error, Map, Number, Value};
-use std::alloc::{AllocError, AllocFailed, Global};
+use model_json::tree::{Tree, TreeList};
+use std::alloc::Global;
 
-/// Why bytes were not read as a tree.
-#[derive(Clone, Copy, Debug, PartialEq, Eq)]
-pub enum ReadError {
-    /// The bytes are no JSON: not UTF-8, outside the grammar, nested more than 127 deep, with half of a surrogate pair,
-    /// or with a number too large for a float.
-    NotJson,
-    /// A number of the value is not whole: it has a fraction or an exponent, is `-0`, or lies outside -2^63 to 2^64 - 1.
-    NotWhole,
-    /// There was no memory.
-    NoMemory,
-}
+/// How deep arrays and objects may nest, as in `serde_json`.
+const MAX_DEPTH: usize = 127;
 
-impl From<AllocError> for ReadError {
-    ghost from_gives = { λ _ e. e ≡ NoMemory };
-
-    fn from(_: AllocError) -> Self {
-        ReadError::NoMemory
-    }
-}
-
-impl<T: Drop> From<AllocFailed<T>> for ReadError {
-    ghost from_gives = { λ _ e. e ≡ NoMemory };
-
-    fn from(_: AllocFailed<T>) -> Self {
-        ReadError::NoMemory
-    }
-}
-
-fn whole_tree(n: &Number) -> Result<Tree, ReadError>
-    ensures ok { IfOk result (λ t. whole_number (number_view n.now) ≡ Some (data_of t)) }
-    ensures float { result ≡ Err NotWhole → whole_number (number_view n.now) ≡ None }
-    ensures other { IfErr result (λ e. e ≡ NotWhole) }
-{
-    if let Some(n) = n.as_u64() {
-        return Ok(Tree::Whole(Num::new(n as i128)));
-    }
-    match n.as_i64() {
-        Some(n) => Ok(Tree::Whole(Num::new(n as i128))),
-        None => Err(ReadError::NotWhole),
-    }
-}
-
-// Each text is moved into the tree, and each list and object of the value is freed once it was gone through.
-#[cycle(convert)]
-#[tactic(auto, using(model_json::proofs::Appending::push_option))]
-fn convert(alloc: Global, value: Value) -> Result<Tree, ReadError>
-    ensures ok { IfOk result (λ t. whole_of (view value) ≡ Some (data_of t)) }
-    ensures float { result ≡ Err NotWhole → whole_of (view value) ≡ None }
-    ensures other { IfErr result (λ e. e ≢ NotJson) }
-{
-    match value {
-        Value::Null => Ok(Tree::Null),
-        Value::Bool(truth) => Ok(Tree::Truth(truth)),
-        Value::Number(number) => whole_tree(&number),
-        Value::String(text) => Ok(Tree::Text(Text::from_string(text))),
-        Value::Array(items) => Ok(Tree::List(TreeList::new(convert_items(alloc, items)?))),
-        Value::Object(members) => Ok(Tree::Object(TreeObject::new(convert_members(
-            alloc, members,
-        )?))),
-    }
-}
-
-#[cycle(convert)]
-#[tactic(auto, using(model_json::proofs::Appending::push_option))]
-fn convert_items(alloc: Global, items: Vec<Value>) -> Result<Vec<Tree>, ReadError>
-    ensures ok { IfOk result (λ v. whole_items (items_view items.items) ≡ Some (map data_of v.items)) }
-    ensures float { result ≡ Err NotWhole → whole_items (items_view items.items) ≡ None }
-    ensures other { IfErr result (λ e. e ≢ NotJson) }
-{
-    let mut trees = Vec::with_capacity(alloc, items.len())?;
-    for item in items {
-        trees.push(convert(alloc, item)?)?;
-    }
-    Ok(trees)
-}
-
-#[cycle(convert)]
-#[tactic(auto, using(model_json::proofs::Appending::push_option))]
-fn convert_members(alloc: Global, members: Map<String, Value>) -> Result<Vec<Member>, ReadError>
-    ensures ok { IfOk result (λ v. whole_members (members_view members.entries) ≡ Some (map pair_of v.items)) }
-    ensures ordered { IfOk result (λ v. HasOrderedKeys (map pair_of v.items)) }
-    ensures float { result ≡ Err NotWhole → whole_members (members_view members.entries) ≡ None }
-    ensures other { IfErr result (λ e. e ≢ NotJson) }
-{
-    let mut all = Vec::with_capacity(alloc, members.len())?;
-    for (key, member) in members {
-        let key = Text::from_string(key);
-        let value = convert(alloc, member)?;
-        all.push(Member { key, value })?;
-    }
-    Ok(all)
-}
-
-fn failure(e: &Error) -> ReadError
-    ensures memory { IsMemory e.now → result ≡ NoMemory }
-    ensures text { ¬ IsMemory e.now → result ≡ NotJson }
-{
-    if e.is_memory() {
-        ReadError::NoMemory
-    } else {
-        ReadError::NotJson
-    }
-}
+/// A list of so many items keeps the block in which it grew.
+const LONG: usize = 4096;
 
 /// Reads the value that a JSON text is, as `serde_json` reads it (RFC 8259, RFC 8620 section 1.5).
 ///
 /// An object has its members in byte order of their keys. Of a key that comes twice the last value counts, and a number
-/// that isn't whole in an earlier value of it doesn't matter. Takes memory for the tree, and until it returns for
-/// `serde_json`'s own value and for as many bytes as the text has.
-#[tactic(auto, using(crate::proofs::Steps::reading_none, crate::proofs::Steps::reading_some))]
+/// that isn't whole in an earlier value of it doesn't matter. Takes memory for the tree, and until it returns for as many
+/// bytes as the text has and for the items and members of the arrays and objects that are open.
+#[tactic(auto, using(crate::proofs::Reading::reading_text, crate::proofs::Reading::reading_no_text))]
 pub fn read_tree(alloc: Global, bytes: &[u8]) -> Result<Tree, ReadError>
     ensures ok { IfOk result (λ t. reading bytes.now ≡ value (data_of t)) }
     ensures not_json { result ≡ Err NotJson → reading bytes.now ≡ not_json }
     ensures not_whole { result ≡ Err NotWhole → reading bytes.now ≡ not_whole }
 {
-    match Value::from_slice(alloc, bytes) {
-        Ok(value) => convert(alloc, value),
-        Err(e) => Err(failure(&e)),
+    match simdutf8::compat::from_utf8(bytes) {
+        Ok(text) => match read_all(alloc, text)? {
+            Some(tree) => Ok(tree),
+            None => Err(ReadError::NotWhole),
+        },
+        Err(_) => Err(ReadError::NotJson),
     }
+}
+
+fn read_all(alloc: Global, text: &str) -> Result<Option<Tree>, ReadError>
+    ensures ok { IfOk result (λ t. option_map whole_of (read_text text.now) ≡ Some (option_map data_of t)) }
+    ensures refused { result ≡ Err NotJson → option_map whole_of (read_text text.now) ≡ None }
+    ensures other { result ≢ Err NotWhole }
+{
+    let mut scratch = Scratch::new(alloc);
+    let mut reader = Reader::new(text, &mut scratch)?;
+    let mut spare = Vec::new(alloc);
+    let tree = read(alloc, &mut reader, &mut spare, MAX_DEPTH)?;
+    if reader.next().is_some() {
+        return Err(ReadError::NotJson);
+    }
+    Ok(tree)
+}
+
+// A value, none where a number of it isn't whole; `depth` levels may begin in it.
+#[cycle(read)]
+fn read(
+    alloc: Global,
+    reader: &mut Reader<'_>,
+    spare: &mut Vec<Vec<Tree>>,
+    depth: usize,
+) -> Result<Option<Tree>, ReadError>
+    ensures ok { IfOk result (λ t. converted value_read (json_value depth reader.old) ≡ Some (option_map data_of t, reader.new)) }
+    ensures shorter { OnOk result (length reader.new < length reader.old) }
+    ensures refused { result ≡ Err NotJson → converted value_read (json_value depth reader.old) ≡ None }
+    ensures other { result ≢ Err NotWhole }
+{
+    let token = reader.next().ok_or(ReadError::NotJson)?;
+    match token {
+        Token::String(text) => Ok(Some(Tree::Text(Text::from_str(alloc, text)?))),
+        Token::Number(text) => Ok(number(text)?),
+        Token::Bool(b) => Ok(Some(Tree::Truth(b))),
+        Token::Null => Ok(Some(Tree::Null)),
+        Token::EndObject | Token::EndArray | Token::Key(_) | Token::Bad => Err(ReadError::NotJson),
+        Token::BeginArray => {
+            if depth == 0 {
+                return Err(ReadError::NotJson);
+            }
+            let found = read_items(alloc, reader, spare, depth - 1)?;
+            list(alloc, spare, found)
+        }
+        Token::BeginObject => {
+            if depth == 0 {
+                return Err(ReadError::NotJson);
+            }
+            object(alloc, read_members(alloc, reader, spare, depth - 1)?)
+        }
+    }
+}
+
+#[cycle(read)]
+fn read_items(
+    alloc: Global,
+    reader: &mut Reader<'_>,
+    spare: &mut Vec<Vec<Tree>>,
+    depth: usize,
+) -> Result<Option<Vec<Tree>>, ReadError>
+    ensures ok { IfOk result (λ v. converted items_read (items (json_value depth) (length reader.old) reader.old) ≡ Some (all_data v, reader.new)) }
+    ensures shorter { OnOk result (length reader.new < length reader.old) }
+    ensures refused { result ≡ Err NotJson → converted items_read (items (json_value depth) (length reader.old) reader.old) ≡ None }
+    ensures other { result ≢ Err NotWhole }
+{
+    let mut found = Some(gathering(alloc, spare));
+    'items: while !reader.take_end_array() {
+        let item = read(alloc, reader, spare, depth)?;
+        found = keep(found, item)?;
+    }
+    Ok(found)
+}
+
+#[cycle(read)]
+fn read_members(
+    alloc: Global,
+    reader: &mut Reader<'_>,
+    spare: &mut Vec<Vec<Tree>>,
+    depth: usize,
+) -> Result<Vec<FoundMember>, ReadError>
+    ensures ok { IfOk result (λ v. converted members_read (members (json_value depth) (length reader.old) reader.old) ≡ Some (map found_of v.items, reader.new)) }
+    ensures shorter { OnOk result (length reader.new < length reader.old) }
+    ensures refused { result ≡ Err NotJson → converted members_read (members (json_value depth) (length reader.old) reader.old) ≡ None }
+    ensures other { result ≢ Err NotWhole }
+{
+    let mut found = Vec::new(alloc);
+    'members: while let Some(name) = reader.next_key()? {
+        let key = Text::from_str(alloc, name)?;
+        let value = read(alloc, reader, spare, depth)?;
+        found.push(FoundMember { key, value })?;
+    }
+    Ok(found)
+}
+
+// One more item, where all are whole.
+fn keep(found: Option<Vec<Tree>>, item: Option<Tree>) -> Result<Option<Vec<Tree>>, ReadError>
+    ensures ok { IfOk result (λ v. all_data v ≡ and_items (all_data found) (one_item (option_map data_of item))) }
+    ensures err { IfErr result (λ e. e ≡ NoMemory) }
+{
+    match (found, item) {
+        (Some(mut items), Some(item)) => {
+            items.push(item)?;
+            Ok(Some(items))
+        }
+        _ => Ok(None),
+    }
+}
+
+fn list(
+    alloc: Global,
+    spare: &mut Vec<Vec<Tree>>,
+    found: Option<Vec<Tree>>,
+) -> Result<Option<Tree>, ReadError>
+    ensures ok { IfOk result (λ t. option_map data_of t ≡ option_map list_data (all_data found)) }
+    ensures err { IfErr result (λ e. e ≡ NoMemory) }
+{
+    match found {
+        Some(items) => Ok(Some(Tree::List(TreeList::new(fitted(alloc, spare, items)?)))),
+        None => Ok(None),
+    }
+}
+
+// Each open list gathers its items in a vector that a list before left behind. Blocks in which lists grow, and which are cut or freed
+// when a list ends, leave rests that no later list can use: a text of `[0,[0,..` would take half as much again.
+fn gathering(alloc: Global, spare: &mut Vec<Vec<Tree>>) -> Vec<Tree>
+    ensures { result.items ≡ [] }
+{
+    let mut items = spare.pop().unwrap_or(Vec::new(alloc));
+    items.clear();
+    items
+}
+
+// The same items in no more memory than they need. Of a long list's block the rest was never touched, so it takes none.
+fn fitted(
+    alloc: Global,
+    spare: &mut Vec<Vec<Tree>>,
+    items: Vec<Tree>,
+) -> Result<Vec<Tree>, ReadError>
+    ensures ok { IfOk result (λ v. v.items ≡ items.items) }
+    ensures err { IfErr result (λ e. e ≡ NoMemory) }
+{
+    let mut items = items;
+    if items.len() >= LONG {
+        return Ok(items);
+    }
+    let mut exact = Vec::with_capacity(alloc, items.len())?;
+    exact.append(&mut items)?;
+    spare.push(items)?;
+    Ok(exact)
 }
