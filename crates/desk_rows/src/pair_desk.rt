@@ -8,6 +8,7 @@ use model_history::book::Book;
 use model_call::call::{Call, Reply};
 use model_batch::desk::{Desk, DeskError};
 use model_json::text::Text;
+use model_time::moment::Moment;
 use std::alloc::{AllocError, Global};
 use std::sync::Arc;
 
@@ -50,7 +51,7 @@ impl Desk for PairDesk {
         2
     }
 
-    fn call(&mut self, account: u32, call: &Call, moment: i64) -> Result<Reply, DeskError> {
+    fn call(&mut self, account: u32, call: &Call, moment: Moment) -> Result<Reply, DeskError> {
         if self.calls_left == 0 {
             return Err(DeskError::PassSpent);
         }

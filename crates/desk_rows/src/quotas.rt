@@ -9,6 +9,7 @@ use model_json::text::Text;
 use model_json::tree::Tree;
 use json_edge::read::read_tree;
 use json_edge::write::tree_text;
+use model_time::moment::Moment;
 use std::alloc::{AllocError, Global};
 use std::process::Abort;
 use std::test::Fail;
@@ -86,7 +87,7 @@ fn assert_reply(
     call: &Call,
     reply: &str,
 ) -> Result<(), Fail> {
-    let replied = account.act(0, 50_001, call, MOMENT)?;
+    let replied = account.act(0, 50_001, call, Moment::clamped(MOMENT))?;
     let text = tree_text(alloc, &replied.arguments)?;
     assert_eq!(rt; text.as_slice(), reply.as_bytes());
     Ok(())
