@@ -9,23 +9,23 @@ use Rattle.model_batch.specs.declared.desk.DeskError.TheVariants.{NoMemory, Pass
 use Rattle.model_batch.specs.declared.desk.Front.{Front}
 use Rattle.batch_exec.specs.Stepping.{IsDeskReply, IsUnanswered, Makes}
 
-pub asking_ok : {fronts fronts' : List Front} {s t : Shown} {account : ℕ} {call : Call} {reply : Reply} (moment w : ℤ) → Called s t account call w (Ok reply) → w ≡ moment
+pub asking_ok : {fronts fronts' : List Front} {s t : Shown} {account : ℕ} {call : Call} {reply : Reply} (moment : ℤ) → Called s t account call moment (Ok reply)
     → fronts' ≡ fronts ++ record { account = account; place = reply.place } ∷ [] → IsDeskReply fronts fronts' s t account call moment (Ok reply)
-asking_ok {fronts} {fronts'} {s} {t} {account} {call} {reply} moment w called is front = (
-  made_of t account call w reply,
+asking_ok {fronts} {fronts'} {s} {t} {account} {call} {reply} moment called front = (
+  made_of t account call moment reply,
   record {
     makes = record { chain = (t, (called, refl), refl); fronts_grew = front };
     on_account = refl;
     asked = refl;
-    at_moment = is;
+    at_moment = refl;
   },
   refl,
 )
 
-pub asking_err : {fronts fronts' : List Front} (s t : Shown) (account : ℕ) (call : Call) (moment w : ℤ) (e : DeskError) → Called s t account call w (Err e)
+pub asking_err : {fronts fronts' : List Front} (s t : Shown) (account : ℕ) (call : Call) (moment : ℤ) (e : DeskError) → Called s t account call moment (Err e)
     → fronts' ≡ fronts → IsDeskReply fronts fronts' s t account call moment (Err e)
-asking_err s t account call moment w NoMemory called same = (same, inr (account, called.0, called.1))
-asking_err s t account call moment w PassSpent called same = (same, called)
+asking_err s t account call moment NoMemory called same = (same, inr (account, called.0, called.1))
+asking_err s t account call moment PassSpent called same = (same, called)
 
 -- no desk was asked
 pub unasked : {fronts fronts' : List Front} {s t : Shown} → t ≡ s → fronts' ≡ fronts → Makes fronts fronts' s t []

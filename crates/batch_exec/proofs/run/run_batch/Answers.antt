@@ -1,14 +1,10 @@
-use Rattle.std.proofs.Common.{◌≡◌, rules, w64, to_z, of_z, subst, ℤ}
 use Rattle.model_json.specs.TreeData.{data_of}
-use Rattle.batch_exec.specs.Answering.{IsRequestAnswered}
 use Rattle.batch_exec.proofs.Finishing.{batch_of_request}
 use Rattle.batch_exec.proofs.run.run_batch.Goals as goal
 
 pub returns : goal.returns
 returns g c =
     let a = c.args in
-    let same : to_z w64 (of_z w64 a.moment) ≡ a.moment = search rules in
     let s = g.D.Desk.shown a.desk.now in
     let t = g.D.Desk.shown c.answer_request.new.desk in
-    batch_of_request a.user.now c.in-Ok.request a.moment a.fronts.now.items c.answer_request.new.fronts.items s t (data_of a.request) c.in-Ok.ensures.ok c.answer_request.result
-    (subst (λ (m : ℤ). IsRequestAnswered a.user.now c.in-Ok.request m a.fronts.now.items c.answer_request.new.fronts.items s t c.answer_request.result) same c.answer_request.ensures)
+    batch_of_request a.user.now c.in-Ok.request a.moment a.fronts.now.items c.answer_request.new.fronts.items s t (data_of a.request) c.in-Ok.ensures.ok c.answer_request.result c.answer_request.ensures

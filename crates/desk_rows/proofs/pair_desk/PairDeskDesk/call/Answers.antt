@@ -1,4 +1,4 @@
-use Rattle.std.proofs.Common.{◌≡◌, ◌≢◌, ◌-◌, ◌<◌, ◌^◌, ℕ, ℤ, rules, subst, sym, w64, to_z, of_z, Result}
+use Rattle.std.proofs.Common.{◌≡◌, ◌≢◌, ◌-◌, ◌<◌, ◌^◌, ℕ, rules, subst, sym, Result}
 use Rattle.model_batch.specs.Chain.{Called}
 use Rattle.model_history.specs.MostTurns.{most_turns}
 use Rattle.model_call.specs.declared.call.Reply.{Reply}
@@ -15,9 +15,8 @@ returns-else-account-eq0 c =
     let e = act.ensures in
     let some : 0 < d.calls_left = search rules in
     let few : d.calls_left < 2 ^ 32 = search rules in
-    let same : to_z w64 (of_z w64 c.args.moment) ≡ c.args.moment = search rules in
-    let stamp : Stamp = record { author = 0; turn = most_turns - c.from-turn.result; moment = to_z w64 (of_z w64 c.args.moment) } in
-    let next : stamp ≡ stamp_next d.calls_left c.args.moment = λ i. record { author = 0; turn = most_turns - c.from-turn.ensures i; moment = same i } in
+    let stamp : Stamp = record { author = 0; turn = most_turns - c.from-turn.result; moment = c.args.moment } in
+    let next : stamp ≡ stamp_next d.calls_left c.args.moment = λ i. record { author = 0; turn = most_turns - c.from-turn.ensures i; moment = c.args.moment } in
     record {
       called =
           subst (λ (r : Result Reply DeskError). Called (pair_shown d.first d.second d.calls_left) (pair_shown d.first act.new.self (d.calls_left - 1)) c.args.account c.args.call.now c.args.moment r) (sym c.as_of_desk-else-account-eq0.ensures)
