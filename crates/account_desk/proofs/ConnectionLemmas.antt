@@ -1,7 +1,8 @@
 -- Equal messages on histories with equal changes have equal responses.
 use Rattle.std.proofs.Common.{◌≡◌, ℕ, ℤ, zero, suc, List, [], ◌∷◌, ◌++◌, Bool, Option, Some, None, refl, sym, ap, ◌∙◌, subst}
-use Rattle.model_history.specs.Base.{Base}
-use Rattle.model_batch.specs.Reply.{Replies, asked_in, clamped}
+use Rattle.model_history.specs.Base.{Base, no_base}
+use Rattle.model_batch.specs.Reply.{Replies, asked_in}
+use Rattle.model_time.specs.Moments.{clamped}
 use Rattle.model_batch.specs.Chain.{Made}
 use Rattle.account_desk.specs.FreshDesk.{fresh_desk}
 use Rattle.model_history.specs.History.{changes_of}

@@ -3,8 +3,8 @@ use Rattle.std.proofs.Common.{◌≡◌, ℕ, ◌+◌, ◌<◌, ◌≤◌, ◌^�
 use Rattle.std.proofs.lemmas.List.{length-map, map_more, take_all, get_or-map as get_or-map_within}
 use Rattle.std.proofs.lemmas.List.Elements.{All-from_get_or}
 use Rattle.std.proofs.Math.ListN.{get_or-map}
-use Rattle.model_history.specs.Base.{Base}
-use Rattle.account_desk.specs.FreshDesk.{account_rules, bases, fresh_desk, no_base}
+use Rattle.model_history.specs.Base.{Base, no_base}
+use Rattle.account_desk.specs.FreshDesk.{account_rules, bases, fresh_desk}
 use Rattle.model_history.specs.Signed.{written_by}
 use Rattle.model_site.specs.Configuration.{Site, SiteAccount}
 use Rattle.model_history.specs.declared.entry.Entry.{Entry}

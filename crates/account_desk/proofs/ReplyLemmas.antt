@@ -35,8 +35,8 @@ same_longer true h h' more more' same same_more =
 same_longer false h h' more more' same same_more = same
 
 -- what the step led to: the response, the created ids, and the calls
-abbrev created_by : Option Made → List (List ℕ × List ℕ)
-created_by o = flat_map (λ (m : Made). m.reply.created) (some_of o)
+abbrev created_in_call : Option Made → List (List ℕ × List ℕ)
+created_in_call o = flat_map (λ (m : Made). m.reply.created) (some_of o)
 
 module _ (base : ℕ → Base) where
   module _ (now now' : ℕ → List Entry) (same : SameChanges now now') where
@@ -67,12 +67,12 @@ module _ (base : ℕ → Base) where
     -- what two steps led to, where they were made from these histories
     record Alike (s s' : Step) : Type 0 where
       pub response : s.response ≡ s'.response
-      pub created : created_by s.made ≡ created_by s'.made
+      pub created : created_in_call s.made ≡ created_in_call s'.made
       pub same_after : SameChanges (after base now (some_of s.made)) (after base now' (some_of s'.made))
 
     -- what calls that were made, or none, led to
     abbrev AlikeCalls : Option Made → Option Made → Type 0
-    AlikeCalls o o' = (created_by o ≡ created_by o') × SameChanges (after base now (some_of o)) (after base now' (some_of o'))
+    AlikeCalls o o' = (created_in_call o ≡ created_in_call o') × SameChanges (after base now (some_of o)) (after base now' (some_of o'))
 
     both_led : (o o' x x' : Option Made) → o ≡ x → o' ≡ x' → AlikeCalls x x' → AlikeCalls o o'
     both_led o o' x x' is is' led = subst (λ (q : Option Made). AlikeCalls q o') (sym is) (subst (λ (q : Option Made). AlikeCalls x q) (sym is') led)
@@ -109,10 +109,10 @@ created_split xs ys =
     ap (flat_map (λ (m : Made). m.reply.created)) (flat_map-append (λ (t : Step). some_of t.made) xs ys)
     ∙ flat_map-append (λ (m : Made). m.reply.created) (made_in xs) (made_in ys)
 
-created_one : (s : Step) → created_by (s ∷ []) ≡ created_by s.made
+created_one : (s : Step) → created_by (s ∷ []) ≡ created_in_call s.made
 created_one s = ap (flat_map (λ (m : Made). m.reply.created)) (append-nil (some_of s.made))
 
-created_first : (s : Step) (ss : List Step) → created_by (s ∷ ss) ≡ created_by s.made ++ created_by ss
+created_first : (s : Step) (ss : List Step) → created_by (s ∷ ss) ≡ created_in_call s.made ++ created_by ss
 created_first s ss = flat_map-append (λ (m : Made). m.reply.created) (some_of s.made) (made_in ss)
 
 module _ (base : ℕ → Base) (user : User) (request : Request) (moment : ℤ) where

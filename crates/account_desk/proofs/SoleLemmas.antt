@@ -7,9 +7,8 @@ use native.Mathlib.Decide.{ℕ_discrete}
 use Rattle.model_batch.proofs.Chains.{all_written_by}
 use Rattle.cal_model.specs.AddedEntries.{added_signed}
 use Rattle.cal_model.specs.Answer.{answer, added}
-use Rattle.model_history.specs.Base.{Base}
+use Rattle.model_history.specs.Base.{Base, no_base}
 use Rattle.model_batch.specs.Chain.{Called, StaysBeside}
-use Rattle.account_desk.specs.FreshDesk.{no_base}
 use Rattle.model_history.specs.MostTurns.{most_turns}
 use Rattle.model_history.specs.Signed.{written_by}
 use Rattle.model_call.specs.declared.call.Call.{Call}

@@ -1,8 +1,8 @@
 -- What contracts see of a desk that has its accounts for itself.
 use Rattle.std.specs.Prelude.{◌≡◌, ◌≤◌, ◌<◌, ◌^◌, ℕ, List, [], All, Result, Ok, Err, length, slice_index_or}
-use Rattle.model_history.specs.Base.{Base}
+use Rattle.model_history.specs.Base.{Base, no_base}
 use Rattle.model_batch.specs.Chain.{Shown}
-use Rattle.account_desk.specs.FreshDesk.{account_rules, bases, no_base}
+use Rattle.account_desk.specs.FreshDesk.{account_rules, bases}
 use Rattle.model_history.specs.MostTurns.{most_turns}
 use Rattle.model_history.specs.Signed.{written_by}
 use Rattle.model_site.specs.Configuration.{Site}

@@ -1,8 +1,7 @@
 use Rattle.std.proofs.Common.{◌≡◌, ◌<◌, ◌+◌, ℕ, ℤ, List, [], Result, arith, rules, subst, sym, length, set, w64, to_z, of_z}
 use Rattle.std.proofs.lemmas.List.{get_or_read}
-use Rattle.model_history.specs.Base.{Base}
+use Rattle.model_history.specs.Base.{Base, no_base}
 use Rattle.model_batch.specs.Chain.{Called}
-use Rattle.account_desk.specs.FreshDesk.{no_base}
 use Rattle.model_history.specs.MostTurns.{most_turns}
 use Rattle.model_call.specs.declared.call.Reply.{Reply}
 use Rattle.model_batch.specs.declared.desk.DeskError.{DeskError}
