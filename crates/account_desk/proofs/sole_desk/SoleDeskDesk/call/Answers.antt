@@ -1,4 +1,4 @@
-use Rattle.std.proofs.Common.{◌≡◌, ◌<◌, ◌+◌, ℕ, ℤ, List, [], Result, arith, rules, subst, sym, length, set, w64, to_z, of_z}
+use Rattle.std.proofs.Common.{◌≡◌, ◌<◌, ◌+◌, ℕ, List, [], Result, arith, rules, subst, sym, length, set}
 use Rattle.std.proofs.lemmas.List.{get_or_read}
 use Rattle.model_history.specs.Base.{Base, no_base}
 use Rattle.model_batch.specs.Chain.{Called}
@@ -17,7 +17,7 @@ invariant_of-self c =
     let there : c.args.account < length d.accounts.items = search rules in
     let e = c.act-reply.ensures in
     let old = c.index_mut.result.now in
-    still_sole d.accounts.items d.turns c.args.account c.act-reply.new.self c.args.call.now (to_z w64 (of_z w64 c.args.moment)) there c.act-reply.result old
+    still_sole d.accounts.items d.turns c.args.account c.act-reply.new.self c.args.call.now c.args.moment there c.act-reply.result old
     (get_or_read d.accounts.items c.args.account old there c.index_mut.ensures.value (no_base, []))
     (record { base = e.base; reply = e.reply; grown = e.grown; unchanged = e.unchanged }) few c.self.invariant
 
@@ -29,15 +29,13 @@ returns c =
     let e = c.act-reply.ensures in
     let old = c.index_mut.result.now in
     let moment = c.args.moment in
-    let same : to_z w64 (of_z w64 moment) ≡ moment = search rules in
     let after = shown_of (set d.accounts.items c.args.account c.act-reply.new.self, d.turns + 1) in
-    let called : Called (shown_of (d.accounts.items, d.turns)) after c.args.account c.args.call.now (to_z w64 (of_z w64 moment)) (of_desk c.act-reply.result) =
-    sole_called d.accounts.items d.turns c.args.account c.act-reply.new.self c.args.call.now (to_z w64 (of_z w64 moment)) there c.act-reply.result old
+    let called : Called (shown_of (d.accounts.items, d.turns)) after c.args.account c.args.call.now moment (of_desk c.act-reply.result) =
+    sole_called d.accounts.items d.turns c.args.account c.act-reply.new.self c.args.call.now moment there c.act-reply.result old
     (get_or_read d.accounts.items c.args.account old there c.index_mut.ensures.value (no_base, []))
     (record { base = e.base; reply = e.reply; grown = e.grown; unchanged = e.unchanged }) few in
     record {
       called =
           subst (λ (y : List (Base × List Entry) × ℕ). Called (shown_of y) after c.args.account c.args.call.now moment c.as_of_desk.result) c.self.view_is
-          (subst (λ (r : Result Reply DeskError). Called (shown_of (d.accounts.items, d.turns)) after c.args.account c.args.call.now moment r) (sym c.as_of_desk.ensures)
-          (subst (λ (m : ℤ). Called (shown_of (d.accounts.items, d.turns)) after c.args.account c.args.call.now m (of_desk c.act-reply.result)) same called));
+          (subst (λ (r : Result Reply DeskError). Called (shown_of (d.accounts.items, d.turns)) after c.args.account c.args.call.now moment r) (sym c.as_of_desk.ensures) called);
     }
