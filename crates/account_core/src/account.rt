@@ -20,12 +20,12 @@ use crate::replay::live;
 use crate::reply::refusal;
 use crate::set_reply::set_reply;
 use crate::tally::Tally;
-use model_history::book::Book;
 use model_call::call::{Asks, Call, MethodError, Reply};
-use model_history::entry::{Entry, Kind};
-use model_json::lists::{Pairs, Texts};
 use model_core::limits::MAX_OBJECTS_IN_GET;
+use model_history::book::Book;
+use model_history::entry::{Entry, Kind};
 use model_history::stamp::Stamp;
+use model_json::lists::{Pairs, Texts};
 use model_json::text::Text;
 use model_json::tree::Member;
 use model_time::moment::Moment;
@@ -217,7 +217,8 @@ impl Book for Account {
                 }
             }
             Asks::Get {
-                kind: Kind::Event, ..
+                kind: Kind::Event,
+                ..
             }
             | Asks::Set { .. }
             | Asks::Changes { .. }

@@ -10,9 +10,9 @@ use crate::calendar::creation;
 use crate::outcome::Outcome;
 use crate::tally::Tally;
 use cal_model::set_error::SetError;
+use json_edge::write::tree_text;
 use model_history::entry::Change;
 use model_json::tree::Member;
-use json_edge::write::tree_text;
 use std::alloc::{AllocError, Global};
 
 fn size_of_change(alloc: Global, change: &Change) -> Result<usize, AllocError>

@@ -8,14 +8,14 @@ ghost use Rattle.batch_exec.specs.Answering.{HasAnswered};
 ghost use Rattle.batch_exec.specs.Stepping.{IsCallResponse, IsDeskReply, IsResponse};
 
 use crate::meaning::{Judgement, judge};
-use model_call::call::{Call, MethodError, Reply};
 use model_batch::desk::{Desk, DeskError, Front};
-use model_json::lists::{Pairs, Texts};
-use model_batch::request::{Invocation, Invocations};
 use model_batch::method_response::MethodResponse;
+use model_batch::request::{Invocation, Invocations};
+use model_call::call::{Call, MethodError, Reply};
+use model_core::user::User;
+use model_json::lists::{Pairs, Texts};
 use model_json::text::Text;
 use model_json::tree::{Member, Tree, TreeObject};
-use model_core::user::User;
 use model_time::moment::Moment;
 use std::alloc::{AllocError, Global};
 

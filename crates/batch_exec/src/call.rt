@@ -7,13 +7,13 @@ ghost use Rattle.model_batch.specs.Meaning.{grant_of};
 ghost use Rattle.model_json.specs.Parts.{as_object, as_text, as_texts};
 
 use model_call::call::{Asks, Call};
+use model_call::method::Method;
+use model_core::user::{Grant, Grants};
 use model_history::entry::Kind;
 use model_json::lists::{Pairs, Texts};
-use model_call::method::Method;
 use model_json::num::Num;
 use model_json::text::Text;
 use model_json::tree::{Tree, TreeObject};
-use model_core::user::{Grant, Grants};
 use std::alloc::{AllocError, Global};
 
 /// The time zone where a call names none.
@@ -80,11 +80,7 @@ fn asks_from(alloc: Global, method: Method, arguments: TreeObject) -> Result<Ask
     }
 }
 
-fn get_asks(
-    alloc: Global,
-    kind: Kind,
-    mut arguments: TreeObject,
-) -> Result<Asks, AllocError>
+fn get_asks(alloc: Global, kind: Kind, mut arguments: TreeObject) -> Result<Asks, AllocError>
     ensures { IfOk result (λ asks. asks ≡ get_asks arguments kind) }
 {
     Ok(Asks::Get {
@@ -138,10 +134,7 @@ fn query_asks(alloc: Global, mut arguments: TreeObject) -> Result<Asks, AllocErr
     })
 }
 
-fn query_changes_asks(
-    alloc: Global,
-    mut arguments: TreeObject,
-) -> Result<Asks, AllocError>
+fn query_changes_asks(alloc: Global, mut arguments: TreeObject) -> Result<Asks, AllocError>
     ensures { IfOk result (λ asks. asks ≡ query_changes_asks arguments) }
 {
     Ok(Asks::QueryChanges {
@@ -156,10 +149,7 @@ fn query_changes_asks(
     })
 }
 
-fn availability_asks(
-    alloc: Global,
-    mut arguments: TreeObject,
-) -> Result<Asks, AllocError>
+fn availability_asks(alloc: Global, mut arguments: TreeObject) -> Result<Asks, AllocError>
     ensures { IfOk result (λ asks. asks ≡ availability_asks arguments) }
 {
     Ok(Asks::Availability {
@@ -240,5 +230,8 @@ fn take_sort(arguments: &mut TreeObject) -> Option<Tree>
     ensures value { result ≡ argument arguments.old list_tree (codes "sort") }
     ensures others { ChangesOnlyAt (codes "sort") arguments.old arguments.new }
 {
-    arguments.take("sort").and_then(Tree::into_list).map(Tree::List)
+    arguments
+        .take("sort")
+        .and_then(Tree::into_list)
+        .map(Tree::List)
 }

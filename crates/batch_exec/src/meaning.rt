@@ -7,13 +7,13 @@ ghost use Rattle.batch_exec.specs.Judgements.{account_is_below, created_with, me
 
 use crate::arguments::are_well_given;
 use crate::call::{call_from, grant_of};
-use model_call::call::{Call, MethodError};
-use model_json::lists::Pairs;
-use model_call::method::Method;
 use model_batch::method_response::MethodResponse;
+use model_call::call::{Call, MethodError};
+use model_call::method::Method;
+use model_core::user::User;
+use model_json::lists::Pairs;
 use model_json::text::Text;
 use model_json::tree::TreeObject;
-use model_core::user::User;
 use result_refs::{ReferenceError, resolve};
 use std::alloc::{AllocError, Global};
 

@@ -4,8 +4,8 @@ ghost use Rattle.model_json.specs.Data.{text};
 ghost use Rattle.model_batch.specs.Problem.{limit_name, problem, problem_detail, problem_type};
 ghost use Rattle.model_json.specs.TreeData.{data_of};
 
-use model_json::num::Num;
 use model_batch::request::{Limit, RequestError};
+use model_json::num::Num;
 use model_json::text::Text;
 use model_json::tree::Tree;
 use std::alloc::{AllocError, Global};

@@ -8,12 +8,12 @@ ghost use Rattle.model_json.specs.Parts.{all_some, as_list, as_text};
 ghost use Rattle.model_batch.specs.Requests.{created_ids_of, invocation_of, invocation_with, is_id_pair, request_of, request_with};
 ghost use Rattle.model_json.specs.TreeData.{data_of, pair_of};
 
-use model_json::lists::Texts;
-use model_core::capability::{AVAILABILITY, CALENDARS, CORE};
 use model_batch::request::{BatchError, Invocation, Invocations, Limit, Request, RequestError};
+use model_core::capability::{AVAILABILITY, CALENDARS, CORE};
+use model_core::limits::MAX_CALLS_IN_REQUEST;
+use model_json::lists::Texts;
 use model_json::text::Text;
 use model_json::tree::{Member, Tree, TreeObject};
-use model_core::limits::MAX_CALLS_IN_REQUEST;
 use std::alloc::{AllocError, Global};
 use time_text::read_id;
 
@@ -101,7 +101,11 @@ fn invocation_from(tree: Tree) -> Option<Invocation>
 {
     let list = tree.into_list()?;
     let (name, arguments, call_id) = three_of(list.into_items())?;
-    invocation(name.into_text(), arguments.into_object(), call_id.into_text())
+    invocation(
+        name.into_text(),
+        arguments.into_object(),
+        call_id.into_text(),
+    )
 }
 
 // The items, where there are three.

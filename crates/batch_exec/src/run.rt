@@ -9,8 +9,8 @@ use crate::request::request_from;
 use crate::response::response_tree;
 use model_batch::desk::{Desk, DeskError, Front};
 use model_batch::request::{BatchError, Request};
-use model_json::tree::{Tree, TreeObject};
 use model_core::user::User;
+use model_json::tree::{Tree, TreeObject};
 use model_time::moment::Moment;
 use std::alloc::{AllocError, Global};
 

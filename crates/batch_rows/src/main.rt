@@ -3,12 +3,12 @@
 
 ghost use Rattle.std.specs.Prelude.{◌≡◌, true, false};
 
-use jmapd_run::status::Status;
 use io_edge::memory_clock::StillClock;
 use io_edge::memory_opener::SureOpener;
 use io_edge::memory_sink::MemSink;
 use io_edge::memory_source::MemSource;
 use jmapd_run::run::run;
+use jmapd_run::status::Status;
 use row_table::line::unrolled;
 use row_table::row::{Row, read_rows};
 use row_table::tally::RowTally;

@@ -7,11 +7,11 @@ ghost use Rattle.http_edge.specs.Reading.{message_shown, response_shown};
 
 use crate::reply::{RequestOutcome, reply_to};
 use crate::route::{Route, route_of, success, with_problem};
-use model_time::moment::Moment;
-use model_batch::desk::{Desk, DeskError, Front};
 use http_edge::message::Message;
 use http_edge::response::response_bytes;
 use io_edge::clock::Clock;
+use model_batch::desk::{Desk, DeskError, Front};
+use model_time::moment::Moment;
 use session_doc::Site;
 use std::alloc::{AllocError, Global};
 

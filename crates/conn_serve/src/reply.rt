@@ -7,13 +7,13 @@ ghost use Rattle.conn_serve.specs.Answering.{IsProblem, IsOutcome};
 
 use batch_exec::problem::problem_tree;
 use batch_exec::run::run_batch;
+use json_edge::read::{ReadError, read_tree};
 use model_batch::desk::{Desk, DeskError, Front};
 use model_batch::request::{BatchError, Limit, RequestError};
-use model_json::tree::Tree;
 use model_core::limits::MAX_SIZE_REQUEST;
 use model_core::user::User;
+use model_json::tree::Tree;
 use model_time::moment::Moment;
-use json_edge::read::{ReadError, read_tree};
 use std::alloc::Global;
 
 /// What a request came to.

@@ -8,12 +8,12 @@ ghost use Rattle.model_json.specs.TreeData.{data_of};
 ghost use Rattle.conn_serve.specs.Answering.{IsRouteIn, route_shown};
 ghost use Rattle.http_edge.specs.Reading.{message_shown, response_shown};
 
-use model_json::text::Text;
-use model_json::tree::Tree;
 use http_edge::bytes::Bytes;
 use http_edge::message::Message;
 use http_edge::response::Response;
 use json_edge::write::tree_text;
+use model_json::text::Text;
+use model_json::tree::Tree;
 use session_doc::Site;
 use std::alloc::{AllocError, Global};
 

@@ -7,8 +7,6 @@ ghost use Rattle.http_edge.specs.Reading.{message_shown};
 ghost use Rattle.conn_serve.specs.Ending.{IsRefusalEnd, end_for};
 
 use crate::answer::answer;
-use model_batch::desk::{Desk, DeskError, Front};
-use model_connection::served::{ConnEnd, Served};
 use http_edge::bytes::Bytes;
 use http_edge::kept::Kept;
 use http_edge::message::Message;
@@ -17,6 +15,8 @@ use http_edge::response::{Response, response_bytes};
 use io_edge::clock::Clock;
 use io_edge::sink::{Sink, put_all};
 use io_edge::source::Source;
+use model_batch::desk::{Desk, DeskError, Front};
+use model_connection::served::{ConnEnd, Served};
 use session_doc::Site;
 use std::alloc::{AllocError, Global};
 

@@ -1,6 +1,6 @@
 //! A row as it is read: how the program is run, and what is wanted of it.
-use model_json::tree::{Tree, TreeObject};
 use json_edge::write::tree_text;
+use model_json::tree::{Tree, TreeObject};
 use std::alloc::{AllocError, Global};
 
 /// A run of the program, and what is wanted of it.

@@ -5,8 +5,8 @@ mod case;
 mod runs;
 mod trials;
 
-use model_json::tree::Tree;
 use case::{Case, bytes_of};
+use model_json::tree::Tree;
 use row_table::line::tree_in;
 use row_table::row::{Row, read_rows};
 use row_table::tally::RowTally;

@@ -2,12 +2,12 @@
 ghost use Rattle.std.specs.Prelude.{◌<◌};
 
 use crate::case::Case;
-use jmapd_run::status::Status;
 use io_edge::memory_clock::StillClock;
 use io_edge::memory_opener::MemOpener;
 use io_edge::memory_sink::MemSink;
 use io_edge::memory_source::MemSource;
 use jmapd_run::run::run;
+use jmapd_run::status::Status;
 use std::alloc::{AllocError, Global};
 
 /// 2024-01-01T00:00:00Z.

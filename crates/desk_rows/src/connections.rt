@@ -1,11 +1,11 @@
 //! How a connection ends where its desk makes no more calls.
 use crate::pair_desk::PairDesk;
-use model_connection::served::{ConnEnd, Served};
-use model_json::text::Text;
 use conn_serve::serve::serve_connection;
 use io_edge::memory_clock::StillClock;
 use io_edge::memory_sink::SureSink;
 use io_edge::memory_source::SureSource;
+use model_connection::served::{ConnEnd, Served};
+use model_json::text::Text;
 use session_doc::Site;
 use std::alloc::Global;
 use std::process::Abort;

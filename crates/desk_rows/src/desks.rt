@@ -3,13 +3,13 @@ ghost use Rattle.std.specs.Prelude.{◌<◌, All, IfOk};
 
 use crate::pair_desk::PairDesk;
 use batch_exec::run::run_batch;
-use model_batch::desk::Front;
-use model_batch::request::BatchError;
-use model_json::text::Text;
-use model_json::tree::Tree;
-use model_core::user::{Grant, Grants, User};
 use json_edge::read::read_tree;
 use json_edge::write::tree_text;
+use model_batch::desk::Front;
+use model_batch::request::BatchError;
+use model_core::user::{Grant, Grants, User};
+use model_json::text::Text;
+use model_json::tree::Tree;
 use model_time::moment::Moment;
 use std::alloc::{AllocError, Global};
 use std::test::Fail;
@@ -58,7 +58,14 @@ fn outcome_of(alloc: Global, calls: &str, most: u32) -> Result<Outcome, Fail> {
         most,
     )?;
     let mut fronts = Vec::new(alloc);
-    let response = match run_batch(alloc, request, &user, &mut desk, Moment::clamped(MOMENT), &mut fronts) {
+    let response = match run_batch(
+        alloc,
+        request,
+        &user,
+        &mut desk,
+        Moment::clamped(MOMENT),
+        &mut fronts,
+    ) {
         Ok(response) => Ok(tree_text(alloc, &response)?),
         Err(error) => Err(error),
     };

@@ -4,9 +4,9 @@ ghost use Rattle.account_desk.specs.SoleDesk.{of_desk};
 
 use crate::zones::no_zones;
 use account_core::account::Account;
-use model_history::book::Book;
-use model_call::call::{Call, Reply};
 use model_batch::desk::{Desk, DeskError};
+use model_call::call::{Call, Reply};
+use model_history::book::Book;
 use model_json::text::Text;
 use model_time::moment::Moment;
 use std::alloc::{AllocError, Global};

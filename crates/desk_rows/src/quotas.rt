@@ -1,14 +1,14 @@
 //! How much an account holds (RFC 8620 section 5.3, `overQuota`).
 use crate::zones::no_zones;
 use account_core::account::Account;
-use model_history::book::Book;
+use json_edge::read::read_tree;
+use json_edge::write::tree_text;
 use model_call::call::{Asks, Call};
+use model_history::book::Book;
 use model_history::entry::Kind;
 use model_json::lists::Pairs;
 use model_json::text::Text;
 use model_json::tree::Tree;
-use json_edge::read::read_tree;
-use json_edge::write::tree_text;
 use model_time::moment::Moment;
 use std::alloc::{AllocError, Global};
 use std::process::Abort;

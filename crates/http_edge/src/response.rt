@@ -6,8 +6,8 @@ ghost use Rattle.model_http.specs.Responses.{IsStatus, response_text};
 ghost use Rattle.http_edge.specs.Reading.{response_shown};
 
 use crate::bytes::Bytes;
-use model_json::text::Text;
 use http::StatusCode;
+use model_json::text::Text;
 use std::alloc::{AllocError, Global};
 
 /// A response.

@@ -4,12 +4,12 @@
 ghost use Rattle.std.specs.Prelude.{◌≡◌};
 ghost use Rattle.jmapd_run.specs.Statuses.{exit_status};
 
-use model_site::field::Field;
-use jmapd_run::status::Status;
 use io_edge::streams::{ReaderSource, WriterSink};
 use io_edge::system_clock::SystemClock;
 use io_edge::system_files::SystemFiles;
 use jmapd_run::run::run;
+use jmapd_run::status::Status;
+use model_site::field::Field;
 use std::alloc::Global;
 use std::process::ExitCode;
 use std::{env, io};

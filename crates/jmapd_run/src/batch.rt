@@ -5,16 +5,16 @@ ghost use Rattle.model_json.specs.Json.{text_of};
 ghost use Rattle.model_json.specs.TreeData.{data_of};
 ghost use Rattle.jmapd_run.specs.Runs.{RunsBatch};
 
-use account_desk::sole_desk::SoleDesk;
-use model_batch::desk::DeskError;
 use crate::status::Status;
+use account_desk::sole_desk::SoleDesk;
 use conn_serve::reply::{RequestOutcome, reply_to};
-use model_core::limits::MAX_SIZE_REQUEST;
-use model_time::moment::Moment;
 use io_edge::clock::Clock;
 use io_edge::sink::{Sink, put_all};
 use io_edge::source::{InputError, Source, read_up_to};
 use json_edge::write::tree_text;
+use model_batch::desk::DeskError;
+use model_core::limits::MAX_SIZE_REQUEST;
+use model_time::moment::Moment;
 use session_doc::Site;
 use std::alloc::{AllocError, Global};
 

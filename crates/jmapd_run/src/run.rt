@@ -4,8 +4,8 @@ ghost use Rattle.jmapd_run.specs.Runs.{Runs};
 
 use crate::batch::run_batch;
 use crate::start::{Start, start_from};
-use crate::stdio::run_stdio;
 use crate::status::Status;
+use crate::stdio::run_stdio;
 use io_edge::clock::Clock;
 use io_edge::opener::Opener;
 use io_edge::sink::Sink;

@@ -3,13 +3,13 @@ ghost use Rattle.std.specs.Prelude.{◌≡◌, ◌≢◌, ◌⊎◌, Some};
 ghost use Rattle.jmapd_run.specs.declared.status.Status.TheVariants.{NoMemory};
 ghost use Rattle.jmapd_run.specs.Runs.{LeavesAll, RunsStdio, status_of};
 
-use account_desk::sole_desk::SoleDesk;
-use model_connection::served::ConnEnd;
 use crate::status::Status;
+use account_desk::sole_desk::SoleDesk;
 use conn_serve::serve::serve_connection;
 use io_edge::clock::Clock;
 use io_edge::sink::Sink;
 use io_edge::source::Source;
+use model_connection::served::ConnEnd;
 use session_doc::Site;
 use std::alloc::Global;
 

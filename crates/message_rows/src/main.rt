@@ -6,10 +6,10 @@ mod given;
 mod messages;
 mod responses;
 
-use model_json::tree::Tree;
 use findings::Findings;
 use given::named_in;
 use messages::try_input;
+use model_json::tree::Tree;
 use responses::try_response;
 use row_table::line::tree_in;
 use row_table::row::{Row, read_rows};

@@ -4,10 +4,10 @@ ghost use Rattle.model_http.specs.Responses.{IsStatus};
 
 use crate::findings::Findings;
 use crate::given::{is_true_at, text_at};
-use model_json::text::Text;
-use model_json::tree::{Tree, TreeObject};
 use http_edge::bytes::Bytes;
 use http_edge::response::{Response, response_bytes};
+use model_json::text::Text;
+use model_json::tree::{Tree, TreeObject};
 use std::alloc::{AllocError, Global};
 
 /// The statuses of responses.

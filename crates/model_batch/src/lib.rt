@@ -2,5 +2,5 @@
 #![tactic(auto)]
 
 pub mod desk;
-pub mod request;
 pub mod method_response;
+pub mod request;

@@ -111,7 +111,11 @@ fn values_of(
     Ok(TreeObject::new(values))
 }
 
-fn value_of(alloc: Global, reference: &Tree, responses: &[MethodResponse]) -> Result<Tree, ReferenceError>
+fn value_of(
+    alloc: Global,
+    reference: &Tree,
+    responses: &[MethodResponse],
+) -> Result<Tree, ReferenceError>
     ensures ok { IfOk result (λ t. value_of_reference responses.now (data_of reference.now) ≡ Some (data_of t)) }
     ensures err { IfErr result (λ error. ReportsNone error (value_of_reference responses.now (data_of reference.now))) }
 {

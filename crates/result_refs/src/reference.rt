@@ -57,7 +57,10 @@ fn text_at<'a>(reference: &'a Tree, key: &str) -> Option<&'a str>
 }
 
 // The first response to a call of this id.
-fn response_with_id<'a>(responses: &'a [MethodResponse], call_id: &str) -> Option<&'a MethodResponse>
+fn response_with_id<'a>(
+    responses: &'a [MethodResponse],
+    call_id: &str,
+) -> Option<&'a MethodResponse>
     ensures { option_map (λ r. r.now) result ≡ find (λ r. bytes_eq r.call_id call_id.now) responses.now }
 {
     responses

@@ -1,9 +1,9 @@
 //! Patches and pointers, worked out by hand from the rules of RFC 8620 section 5.3 and RFC 6901 section 3.
 
-use model_json::text::Text;
-use model_json::tree::Tree;
 use json_edge::read::read_tree;
 use json_edge::write::tree_text;
+use model_json::text::Text;
+use model_json::tree::Tree;
 use patch_object::{PatchError, Pointer, PointerError, apply, lookup};
 use std::alloc::Global;
 use std::process::Abort;

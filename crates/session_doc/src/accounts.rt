@@ -6,12 +6,12 @@ ghost use Rattle.model_json.specs.TreeData.{data_of};
 ghost use Rattle.model_site.specs.declared.field.Field.TheVariants.{Accounts};
 ghost use Rattle.session_doc.specs.Reports.{ReportsField};
 
-use model_site::limits::MAX_ACCOUNTS;
 use crate::account::Account;
 use crate::configuration_error::{ConfigurationError, bad};
-use model_site::field::Field;
 use model_json::text::Text;
 use model_json::tree::Tree;
+use model_site::field::Field;
+use model_site::limits::MAX_ACCOUNTS;
 use std::alloc::{AllocError, Global};
 use time_text::read_id;
 

@@ -5,7 +5,9 @@ ghost use Rattle.model_site.specs.SessionObject.{account_capabilities, capabilit
 ghost use Rattle.model_json.specs.TreeData.{data_of};
 
 use model_core::capability::{AVAILABILITY, CALENDARS, CORE};
-use model_core::limits::{MAX_CALLS_IN_REQUEST, MAX_OBJECTS_IN_GET, MAX_OBJECTS_IN_SET, MAX_SIZE_REQUEST};
+use model_core::limits::{
+    MAX_CALLS_IN_REQUEST, MAX_OBJECTS_IN_GET, MAX_OBJECTS_IN_SET, MAX_SIZE_REQUEST,
+};
 use model_json::num::Num;
 use model_json::text::Text;
 use model_json::tree::{Tree, TreeList, TreeObject};

@@ -5,16 +5,16 @@ ghost use Rattle.model_site.specs.Configuration.{configured, site_in, site_read}
 ghost use Rattle.model_json.specs.TreeData.{data_of};
 ghost use Rattle.session_doc.specs.Reports.{Reports};
 
-use model_site::limits::MAX_CONFIGURATION_BYTES;
 use crate::accounts::read_accounts;
 use crate::base_url::read_base_url;
 use crate::configuration_error::{ConfigurationError, bad};
 use crate::site::Site;
 use crate::users::read_users;
 use crate::zones::read_zones;
-use model_site::field::Field;
-use model_json::tree::Tree;
 use json_edge::read::{ReadError, read_tree};
+use model_json::tree::Tree;
+use model_site::field::Field;
+use model_site::limits::MAX_CONFIGURATION_BYTES;
 use std::alloc::Global;
 use std::sync::Arc;
 

@@ -9,9 +9,9 @@ ghost use Rattle.model_json.specs.TreeData.{data_of};
 
 use crate::account::Account;
 use crate::optional_list::optional_list_at;
+use model_core::user::{Grant, Grants};
 use model_json::text::Text;
 use model_json::tree::Tree;
-use model_core::user::{Grant, Grants};
 use std::alloc::{AllocError, Global};
 
 /// The grants of a user, in the order of `accounts`, a list of distinct ids; `readOnly` may name some of these, each once.

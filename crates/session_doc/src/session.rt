@@ -9,9 +9,9 @@ use crate::capabilities::capabilities;
 use crate::session_accounts::accounts_object;
 use crate::site::Site;
 use model_core::capability::{AVAILABILITY, CALENDARS};
+use model_core::user::Grant;
 use model_json::text::Text;
 use model_json::tree::{Tree, TreeObject};
-use model_core::user::Grant;
 use std::alloc::{AllocError, Global};
 
 impl Site {

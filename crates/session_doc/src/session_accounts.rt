@@ -6,8 +6,8 @@ ghost use Rattle.model_json.specs.TreeData.{data_of};
 
 use crate::capabilities::account_capabilities;
 use crate::site::Site;
-use model_json::tree::{Tree, TreeObject};
 use model_core::user::Grant;
+use model_json::tree::{Tree, TreeObject};
 use std::alloc::{AllocError, Global};
 
 /// The granted accounts by id, of which the first is the user's own. Takes memory for them.

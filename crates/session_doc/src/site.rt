@@ -7,8 +7,8 @@ ghost use Rattle.model_site.specs.Configuration.{HasItsAccounts, SiteAccount, us
 
 use crate::account::Account;
 use crate::site_user::SiteUser;
-use model_json::text::Text;
 use model_core::user::User;
+use model_json::text::Text;
 use std::marker::Model;
 use std::sync::Arc;
 use zone_table::Zones;

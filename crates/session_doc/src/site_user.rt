@@ -1,8 +1,8 @@
 //! A user of a site.
 ghost use Rattle.std.specs.Prelude.{◌≡◌};
 
-use model_json::text::Text;
 use model_core::user::User;
+use model_json::text::Text;
 use std::marker::Model;
 
 /// A user, with the bearer token that shows a request to be of theirs (RFC 6750 section 2.1).

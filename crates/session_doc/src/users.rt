@@ -12,16 +12,16 @@ ghost use Rattle.model_json.specs.TreeData.{data_of};
 ghost use Rattle.model_site.specs.declared.field.Field.TheVariants.{Users};
 ghost use Rattle.session_doc.specs.Reports.{ReportsField};
 
-use model_core::names::{is_name, is_token};
-use model_site::limits::MAX_USERS;
 use crate::account::Account;
 use crate::configuration_error::{ConfigurationError, bad};
 use crate::grants::read_grants;
 use crate::site_user::SiteUser;
-use model_site::field::Field;
+use model_core::names::{is_name, is_token};
+use model_core::user::User;
 use model_json::text::Text;
 use model_json::tree::Tree;
-use model_core::user::User;
+use model_site::field::Field;
+use model_site::limits::MAX_USERS;
 use std::alloc::{AllocError, Global};
 
 /// The users: 1 to 64, each with a name of 1 to 255 bytes and a token of 1 to 255 bytes from `!` to `~`, both of no

@@ -6,12 +6,12 @@ ghost use Rattle.model_json.specs.TreeData.{data_of};
 ghost use Rattle.session_doc.specs.LeadingZones.{leading_zones};
 ghost use Rattle.session_doc.specs.Reports.{ReportsField};
 
-use model_site::limits::MAX_ZONES;
 use crate::configuration_error::{ConfigurationError, bad};
 use crate::optional_list::optional_list_at;
-use model_site::field::Field;
 use model_json::text::Text;
 use model_json::tree::Tree;
+use model_site::field::Field;
+use model_site::limits::MAX_ZONES;
 use std::alloc::{AllocError, Global};
 use zone_table::{ZoneError, Zones};
 

@@ -4,8 +4,8 @@ ghost use Rattle.std.specs.Option.{SomeIff};
 ghost use Rattle.jiff_tz.specs.PosixReader.{read_whole};
 ghost use Rattle.jiff_tz.specs.PosixText.{tz_view};
 
-use model_json::text::Text;
 use jiff_tz::posix::TimeZone;
+use model_json::text::Text;
 use std::alloc::AllocError;
 use std::marker::Model;
 

@@ -9,8 +9,8 @@ ghost use Rattle.model_core.specs.Names.{is_name};
 ghost use Rattle.model_site.specs.TimeZones.{first_bad_zone, has_zone, is_good_zone};
 ghost use Rattle.zone_table.specs.declared.zones.ZoneError.TheVariants.{NoMemory};
 
-use model_core::names::is_name;
 use crate::zone::Zone;
+use model_core::names::is_name;
 use model_json::text::Text;
 use std::alloc::{AllocError, AllocFailed, Global};
 use std::marker::Model;
