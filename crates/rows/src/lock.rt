@@ -65,11 +65,6 @@ fn a_pass_sees_the_calls_before_its_own(rt: HostRuntime) {
         last: Some(Signature { author: 0, turn: 4 }),
         ..two
     };
-    let of_first = [
-        (Question::Add(0), Answer::Sum(7)),
-        (Question::Tell(0), Answer::Told(two)),
-        (Question::Add(1), Answer::Sum(8)),
-    ];
     assert_eq!(rt;
         lock.call(&rt, &mut first, &Question::Add(5), moment),
         Ok(Answer::Sum(5))
@@ -82,9 +77,18 @@ fn a_pass_sees_the_calls_before_its_own(rt: HostRuntime) {
         lock.call(&rt, &mut second, &Question::Tell(1), moment),
         Ok(Answer::Told(two))
     );
-    for (question, answer) in &of_first {
-        assert_eq!(rt; lock.call(&rt, &mut first, question, moment), Ok(*answer));
-    }
+    assert_eq!(rt;
+        lock.call(&rt, &mut first, &Question::Add(0), moment),
+        Ok(Answer::Sum(7))
+    );
+    assert_eq!(rt;
+        lock.call(&rt, &mut first, &Question::Tell(0), moment),
+        Ok(Answer::Told(two))
+    );
+    assert_eq!(rt;
+        lock.call(&rt, &mut first, &Question::Add(1), moment),
+        Ok(Answer::Sum(8))
+    );
     assert_eq!(rt;
         lock.call(&rt, &mut second, &Question::Tell(0), moment),
         Ok(Answer::Told(three))
@@ -155,6 +159,26 @@ fn add_in_four_threads<R: Threads + Wait + Sync>(
     [a, b, c, d]
 }
 
+// Whether all calls of four threads are seen, and the author's among them.
+fn sees_all<R: Wait>(
+    rt: &R,
+    lock: &Locked<ReportingBook>,
+    pass: &mut Pass<ReportingBook>,
+    author: u32,
+) -> bool
+    requires { pass.old.lock ≡ lock.now }
+    ensures { pass.new.lock ≡ lock.now }
+{
+    match lock.call(rt, pass, &Question::Tell(author), Moment::new(0)) {
+        Ok(Answer::Told(report)) => {
+            report.entries == 4 * TIMES
+                && report.of_author == TIMES
+                && report.last.map(|signature| signature.turn) == Some(TIMES)
+        }
+        _ => false,
+    }
+}
+
 #[test]
 fn four_threads_write_one_history(rt: HostRuntime) {
     let alloc = rt.alloc();
@@ -166,18 +190,14 @@ fn four_threads_write_one_history(rt: HostRuntime) {
     let c = pop_pass(&rt, &lock, &mut passes);
     let b = pop_pass(&rt, &lock, &mut passes);
     let a = pop_pass(&rt, &lock, &mut passes);
+    let sums = add_in_four_threads(&rt, &lock, (a, b, c, d));
+    assert!(rt; sees_all(&rt, &lock, &mut last, 0));
+    assert!(rt; sees_all(&rt, &lock, &mut last, 1));
+    assert!(rt; sees_all(&rt, &lock, &mut last, 2));
+    assert!(rt; sees_all(&rt, &lock, &mut last, 3));
     let mut greatest = 0;
-    for ended in add_in_four_threads(&rt, &lock, (a, b, c, d)) {
-        greatest = ended.expect(&rt, "each call is answered").max(greatest);
+    for sum in sums {
+        greatest = sum.expect(&rt, "each call is answered").max(greatest);
     }
     assert_eq!(rt; greatest, 4 * TIMES);
-    for author in 0..4 {
-        let told = lock.call(&rt, &mut last, &Question::Tell(author), Moment::new(0));
-        let Ok(Answer::Told(report)) = told else {
-            panic!(rt; "no report")
-        };
-        assert_eq!(rt; report.entries, 4 * TIMES);
-        assert_eq!(rt; report.of_author, TIMES);
-        assert_eq!(rt; report.last.map(|signature| signature.turn), Some(TIMES));
-    }
 }
