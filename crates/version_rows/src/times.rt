@@ -13,10 +13,10 @@ use std::time::{Duration, Instant};
 use version_table::Table;
 
 /// How often a call that takes less than a microsecond is made.
-const SHORT_CALLS: u64 = 1_000_000;
+const SHORT_CALLS: u64 = 100_000;
 
 /// How often a longer one is made.
-const LONG_CALLS: u64 = 50;
+const LONG_CALLS: u64 = 10;
 
 /// What is made, and what is asked of it.
 #[derive(Clone, Copy)]
