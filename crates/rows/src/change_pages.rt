@@ -2,6 +2,7 @@
 
 use model_history::entry::{Change, Entry, Kind};
 use model_json::tree::Tree;
+use model_time::moment::Moment;
 use state_log::{ChangesError, Journal, WINDOW};
 use std::alloc::Global;
 use std::process::Abort;
@@ -35,7 +36,7 @@ fn add(rt: &impl Abort, journal: &mut Journal, kind: Kind, id: u64, puts: bool) 
         author: 0,
         turn: 0,
         part: 0,
-        moment: 0,
+        moment: Moment::clamped(0),
         change,
     });
 }
