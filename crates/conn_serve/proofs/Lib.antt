@@ -1,5 +1,5 @@
 pub mod Replying
-pub mod Turning
+pub mod Exchanging
 pub mod Messaging
 pub mod Standing
 pub mod Completeness

@@ -19,7 +19,7 @@ use Rattle.model_batch.specs.declared.desk.DeskError.{DeskError}
 use Rattle.model_batch.specs.declared.desk.DeskError.TheVariants.{NoMemory}
 use Rattle.model_batch.specs.declared.desk.Front.{Front}
 use Rattle.model_core.specs.declared.user.User.{User}
-use Rattle.conn_serve.proofs.Turning.{told_none}
+use Rattle.conn_serve.proofs.Exchanging.{told_none}
 use Rattle.conn_serve.specs.Answering.{AnswerHow, AnswersMessage, IsOutcome, OutcomeHow, outcome_response}
 use Rattle.conn_serve.specs.declared.reply.RequestOutcome.{RequestOutcome}
 
@@ -40,7 +40,7 @@ abbrev quiet : Message → List ℕ → Exchange
 quiet message bytes = record { message = message; moments = []; made = []; bytes = bytes }
 
 told_quiet : {message : Message} {c : Option (ℕ → ℤ)} {f : List Front} {d : Shown} (bytes : List ℕ) → Told c c f f d d (quiet message bytes ∷ [])
-told_quiet {message} {c} {f} {d} bytes = record { ticked = (told_none c f d).ticked; fronts = sym (append-nil f); chain = still d; few = omega arith }
+told_quiet {message} {c} {f} {d} bytes = record { ticked = (told_none c f d).ticked; added = sym (append-nil f); chain = still d; few = omega arith }
 
 module _ {site : Site} {close : Bool} {message : Message} {c : Option (ℕ → ℤ)} {f : List Front} {d : Shown} where
   pub answered_at_once : {r : Route} {response : Response} (v : Vec ℕ Global) → r ≡ route site close message → r ≡ direct response → v.items ≡ response_text response → AnswersMessage site close message c c f f d d (Ok v)
@@ -57,14 +57,14 @@ module _ {site : Site} {close : Bool} {message : Message} {c : Option (ℕ → �
 
 -- ---- calls were made
 
-abbrev turn_at : Message → ℤ → List Made → List ℕ → Exchange
-turn_at message told made bytes = record { message = message; moments = told ∷ []; made = made; bytes = bytes }
+abbrev exchange_at : Message → ℤ → List Made → List ℕ → Exchange
+exchange_at message told made bytes = record { message = message; moments = told ∷ []; made = made; bytes = bytes }
 
 told_one : {c0 c1 : Option (ℕ → ℤ)} {f0 f1 : List Front} {d0 d1 : Shown} (message : Message) (told : ℤ) (made : List Made) (bytes : List ℕ)
-    → Ticks c0 c1 told → f1 ≡ f0 ++ map front_of made → Chain d0 d1 made → length made ≤ 16 → Told c0 c1 f0 f1 d0 d1 (turn_at message told made bytes ∷ [])
+    → Ticks c0 c1 told → f1 ≡ f0 ++ map front_of made → Chain d0 d1 made → length made ≤ 16 → Told c0 c1 f0 f1 d0 d1 (exchange_at message told made bytes ∷ [])
 told_one {c0} {c1} {f0} {f1} {d0} {d1} message told made bytes ticks fronts chain few = record {
   ticked = ticked_one c0 c1 told ticks;
-  fronts = fronts ∙ ap (λ (l : List Made). f0 ++ map front_of l) (sym (append-nil made));
+  added = fronts ∙ ap (λ (l : List Made). f0 ++ map front_of l) (sym (append-nil made));
   chain = subst (Chain d0 d1) (sym (append-nil made)) chain;
   few = (let e = ap length (append-nil made) in omega (arith, few, e));
 }
@@ -81,12 +81,12 @@ module _ (site : Site) (close : Bool) (message : Message) (user : ℕ) (told : �
   one_moment : 1 ≤ moments_for (route site close message)
   one_moment = subst (λ (r : Route). 1 ≤ moments_for r) (sym routed) (omega arith)
 
-  stop_how : (u v : Shown) (made : List Made) (e : DeskError) → OutcomeHow (user_at site user) (clamped told) (asked_in message.body) made u v (Err e) → AnswerHow site close u v (turn_at message told made []) (Err e)
+  stop_how : (u v : Shown) (made : List Made) (e : DeskError) → OutcomeHow (user_at site user) (clamped told) (asked_in message.body) made u v (Err e) → AnswerHow site close u v (exchange_at message told made []) (Err e)
   stop_how u v made e (inl h) = uncalled h.0 one_moment h.1 h.2
   stop_how u v made e (inr h) = called (record { user = user; routed = routed; moment = told; read = refl; begins = h.0 }) h.1
 
   -- there was no memory for the bytes of the response
-  cut_how : (u v : Shown) (made : List Made) → (made ≡ []) ⊎ BeginsReply (user_at site user) (clamped told) (asked_in message.body) made → v ≡ u → AnswerHow site close u v (turn_at message told made []) (Err NoMemory)
+  cut_how : (u v : Shown) (made : List Made) → (made ≡ []) ⊎ BeginsReply (user_at site user) (clamped told) (asked_in message.body) made → v ≡ u → AnswerHow site close u v (exchange_at message told made []) (Err NoMemory)
   cut_how u v made (inl none) same = uncalled refl one_moment none same
   cut_how u v made (inr b) same = called (record { user = user; routed = routed; moment = told; read = refl; begins = b }) (inl same)
 
@@ -99,17 +99,17 @@ module _ (site : Site) (close : Bool) (message : Message) (user : ℕ) (told : �
     pub stopped : (e : DeskError) → IsOutcome u w (asked_in bytes) f0 f1 d0 d1 (Err e) → AnswersMessage site close message c0 c1 f0 f1 d0 d1 (Err e)
     stopped e given =
         let r = of_message user_is clamps body (Err e) given in
-        record { exchange = turn_at message told r.made []; is = refl; desk = r.desk; told = told_one message told r.made [] ticks r.fronts r.chain r.few; how = stop_how r.desk d1 r.made e r.how }
+        record { exchange = exchange_at message told r.made []; is = refl; desk = r.desk; told = told_one message told r.made [] ticks r.added r.chain r.few; how = stop_how r.desk d1 r.made e r.how }
 
     -- there was no memory for the bytes of the response
     pub unwritten : (reply : RequestOutcome) → IsOutcome u w (asked_in bytes) f0 f1 d0 d1 (Ok reply) → AnswersMessage site close message c0 c1 f0 f1 d0 d1 (Err NoMemory)
     unwritten reply given =
         let r = of_message user_is clamps body (Ok reply) given in
         record {
-          exchange = turn_at message told r.made [];
+          exchange = exchange_at message told r.made [];
           is = refl;
           desk = r.desk;
-          told = told_one message told r.made [] ticks r.fronts r.chain r.few;
+          told = told_one message told r.made [] ticks r.added r.chain r.few;
           how = cut_how r.desk d1 r.made (begins_whole (user_at site user) (clamped told) (asked_in message.body) r.made (data_of reply.tree) r.how.0) r.how.2;
         }
 
@@ -117,10 +117,10 @@ module _ (site : Site) (close : Bool) (message : Message) (user : ℕ) (told : �
     answered reply v given shows =
         let r = of_message user_is clamps body (Ok reply) given in
         record {
-          exchange = turn_at message told r.made v.items;
+          exchange = exchange_at message told r.made v.items;
           is = refl;
           desk = r.desk;
-          told = told_one message told r.made v.items ticks r.fronts r.chain r.few;
+          told = told_one message told r.made v.items ticks r.added r.chain r.few;
           how = (
             by_calls (record {
               user = user;

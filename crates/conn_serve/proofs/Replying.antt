@@ -63,14 +63,14 @@ module _ {user : User} {moment : ℤ} where
   -- ---- nothing was called
 
   pub no_reply : {what : Asked} {f : List Front} {d : Shown} → IsOutcome user moment what f f d d (Err NoMemory)
-  no_reply {what} {f} {d} = record { made = []; desk = d; chain = still d; fronts = sym (append-nil f); few = omega arith; how = inl (refl, refl, refl) }
+  no_reply {what} {f} {d} = record { made = []; desk = d; chain = still d; added = sym (append-nil f); few = omega arith; how = inl (refl, refl, refl) }
 
   pub refused_reply : {what : Asked} {e : RequestError} {f : List Front} {d : Shown} (r : Result RequestOutcome DeskError) → what ≡ refused e → IsProblem e r → IsOutcome user moment what f f d d r
   refused_reply {what} {e} {f} {d} (Ok reply) is h = record {
     made = [];
     desk = d;
     chain = still d;
-    fronts = sym (append-nil f);
+    added = sym (append-nil f);
     few = omega arith;
     how = (subst (λ (a : Asked). Replies user moment a [] (data_of reply.tree)) (sym is) (refl, h.0), ap is_refused is ∙ sym h.1, refl);
   }
@@ -99,7 +99,7 @@ module _ {user : User} {moment : ℤ} where
           made = made_in b.0;
           desk = d1;
           chain = begun.progress.chain;
-          fronts = begun.progress.fronts_grew;
+          added = begun.progress.fronts_grew;
           few = few_made d d1 b.0 [] begun;
           how = (subst (λ (a : Asked). Replies user moment a (made_in b.0) (data_of tree)) (sym begun.is_asked) (b.0, invoked, begun.progress.fit, refl, b.2), ap is_refused begun.is_asked, refl);
         }
@@ -109,7 +109,7 @@ module _ {user : User} {moment : ℤ} where
       made = made_in b.0;
       desk = b.2;
       chain = b.3.progress.chain;
-      fronts = b.3.progress.fronts_grew;
+      added = b.3.progress.fronts_grew;
       few = few_made d b.2 b.0 b.1 b.3;
       how = inr (begins_of d b.2 b.0 b.1 b.3, b.4);
     }
@@ -127,22 +127,15 @@ module _ {user : User} {moment : ℤ} where
     pub refused_batch_reply : (e : RequestError) (r : Result RequestOutcome DeskError) → IsBatch user moment d f0 f1 d0 d1 (Err (batch.Refused e)) → IsProblem e r → IsOutcome user moment (asked_by d) f0 f1 d0 d1 r
     refused_batch_reply e r b h = untouched_reply r b.1 (refused_reply r b.0 h)
 
--- w is the moment that the batch was given
-module _ {user : User} (d : Data) {f0 f1 : List Front} {d0 d1 : Shown} (w moment : ℤ) (same : w ≡ moment) where
-  at_moment : (r : Result RequestOutcome DeskError) → IsOutcome user w (asked_by d) f0 f1 d0 d1 r → IsOutcome user moment (asked_by d) f0 f1 d0 d1 r
-  at_moment r = subst (λ (t : ℤ). IsOutcome user t (asked_by d) f0 f1 d0 d1 r) same
+module _ {user : User} {moment : ℤ} (d : Data) {f0 f1 : List Front} {d0 d1 : Shown} where
+  pub refused_of_batch : {x : BatchError} (e : RequestError) (r : Result RequestOutcome DeskError) → IsBatch user moment d f0 f1 d0 d1 (Err x) → x ≡ batch.Refused e → IsProblem e r → IsOutcome user moment (asked_by d) f0 f1 d0 d1 r
+  refused_of_batch e r b is h = refused_batch_reply d e r (subst (λ (y : BatchError). IsBatch user moment d f0 f1 d0 d1 (Err y)) is b) h
 
-  pub reply_of_batch : (tree : Tree) → IsBatch user w d f0 f1 d0 d1 (Ok tree) → IsOutcome user moment (asked_by d) f0 f1 d0 d1 (Ok (record { tree = tree; is_refusal = false }))
-  reply_of_batch tree b = at_moment _ (batch_reply d tree b)
+  pub spent_of_batch : {x : BatchError} → IsBatch user moment d f0 f1 d0 d1 (Err x) → x ≡ batch.PassSpent → IsOutcome user moment (asked_by d) f0 f1 d0 d1 (Err PassSpent)
+  spent_of_batch b is = spent_reply d (subst (λ (y : BatchError). IsBatch user moment d f0 f1 d0 d1 (Err y)) is b)
 
-  pub refused_of_batch : {x : BatchError} (e : RequestError) (r : Result RequestOutcome DeskError) → IsBatch user w d f0 f1 d0 d1 (Err x) → x ≡ batch.Refused e → IsProblem e r → IsOutcome user moment (asked_by d) f0 f1 d0 d1 r
-  refused_of_batch e r b is h = at_moment r (refused_batch_reply d e r (subst (λ (y : BatchError). IsBatch user w d f0 f1 d0 d1 (Err y)) is b) h)
-
-  pub spent_of_batch : {x : BatchError} → IsBatch user w d f0 f1 d0 d1 (Err x) → x ≡ batch.PassSpent → IsOutcome user moment (asked_by d) f0 f1 d0 d1 (Err PassSpent)
-  spent_of_batch b is = at_moment _ (spent_reply d (subst (λ (y : BatchError). IsBatch user w d f0 f1 d0 d1 (Err y)) is b))
-
-  pub memory_of_batch : {x : BatchError} → IsBatch user w d f0 f1 d0 d1 (Err x) → x ≡ batch.NoMemory → IsOutcome user moment (asked_by d) f0 f1 d0 d1 (Err NoMemory)
-  memory_of_batch b is = at_moment _ (memory_reply d (subst (λ (y : BatchError). IsBatch user w d f0 f1 d0 d1 (Err y)) is b))
+  pub memory_of_batch : {x : BatchError} → IsBatch user moment d f0 f1 d0 d1 (Err x) → x ≡ batch.NoMemory → IsOutcome user moment (asked_by d) f0 f1 d0 d1 (Err NoMemory)
+  memory_of_batch b is = memory_reply d (subst (λ (y : BatchError). IsBatch user moment d f0 f1 d0 d1 (Err y)) is b)
 
 pub over_limit : (bytes : List ℕ) → MAX_SIZE_REQUEST < length bytes → asked_in bytes ≡ refused (Limit SizeRequest)
 over_limit bytes h =

@@ -1,5 +1,6 @@
 -- Where the loop of a connection stands, and what each of its ends says.
-use Rattle.std.proofs.Common.{◌≡◌, ℕ, ℤ, ◌+◌, ◌<◌, ◌≤◌, List, [], ◌∷◌, ◌++◌, length, length-append, take, Bool, true, false, Option, Ok, Err, Vec, inl, inr, refl, sym, ap, ◌∙◌, subst, append-nil, arith}
+use Rattle.std.proofs.Common.{◌≡◌, ℕ, ℤ, ◌+◌, ◌<◌, ◌≤◌, List, [], ◌∷◌, ◌++◌, length, length-append, take, Bool, true, false, Option, Ok, Err, Vec, inl, inr, refl, sym, ap, ◌∙◌, subst, append-nil, append_assoc, arith}
+use Rattle.std.specs.Prelude.{◌⊎◌}
 use Rattle.std.proofs.KnownBytes.{Consumes-nil, Consumes-trans}
 use Rattle.std.proofs.lemmas.Grind.{flat_map-append}
 use Rattle.std.proofs.lemmas.List.{map-append}
@@ -10,112 +11,127 @@ use Rattle.model_batch.proofs.Chains.{accounts_stay}
 use Rattle.model_batch.specs.Chain.{Shown}
 use Rattle.model_http.specs.Messages.{Message, whole, BeginsWith, IsUndecided}
 use Rattle.model_http.specs.Pipeline.{AllOpen, Reads, bad_head, undecided}
-use Rattle.model_connection.specs.Serving.{EndHow, Left, Rests, Serves, Whole, refusal_cut, refusal_text, response_cut}
+use Rattle.model_http.specs.declared.limits.TheConstants.{PIECE}
+use Rattle.model_connection.specs.Serving.{AskedLast, EndHow, IsUnanswered, Rests, Serves, Setting, Whole, refusal_cut, refusal_text, response_cut}
 use Rattle.model_connection.specs.Exchanges.{AllFit, Begun, Fits, Told, Exchange, all_bytes, closes, messages_of}
-use Rattle.io_edge.specs.Outside.{Grows, GrowsByPrefix, Rose}
+use Rattle.io_edge.specs.Outside.{Grows, GrowsByPrefix, Rose, SinkShown, SourceShown}
 use Rattle.model_site.specs.Configuration.{Site}
 use Rattle.model_batch.specs.declared.desk.DeskError.{DeskError}
 use Rattle.model_batch.specs.declared.desk.DeskError.TheVariants as desk
 use Rattle.model_batch.specs.declared.desk.Front.{Front}
 use Rattle.model_connection.specs.declared.served.ConnEnd.{ConnEnd}
 use Rattle.model_connection.specs.declared.served.ConnEnd.TheVariants as end
-use Rattle.conn_serve.proofs.Turning.{fit_more, told_join, told_none}
+use Rattle.model_connection.specs.declared.served.Served.{Served}
+use Rattle.conn_serve.proofs.Exchanging.{fit_more, told_join, told_none}
 use Rattle.conn_serve.specs.Answering.{AnswerHow, AnswersMessage}
 use Rattle.conn_serve.specs.Ending.{IsRefusalEnd, RefusalHow, end_for}
 use Rattle.http_edge.proofs.Pipelines.{open_snoc, reads_more, reads_snoc}
-use Rattle.http_edge.specs.Reading.{GivesNext, message_shown}
+use Rattle.http_edge.specs.Reading.{AskedWhile, GivesNext, message_shown}
 use Rattle.http_edge.specs.declared.message.Message.{Message as Taken}
 use Rattle.http_edge.specs.declared.next.Next.{Next}
 use Rattle.http_edge.specs.declared.next.Next.TheVariants as next
 
+abbrev pub setting : SourceShown → SinkShown → Option (ℕ → ℤ) → Shown → Setting
+setting source sink clock shown = record { source = source; sink = sink; clock = clock; desk = shown }
+
+-- what is put together of these fronts, so many responses and this end says how the connection was served
+abbrev pub Ends : Site → ℕ → Setting → Setting → List Front → ℕ → ConnEnd → Type 0
+Ends site most x x' fronts requests e = (served : Served) → served.fronts.items ≡ fronts → served.requests ≡ requests → served.end ≡ e → Serves site most x x' served
+
+-- the bytes that were taken are these messages and what is behind them, and the source was asked only while that was undecided
+pub record Came (taken : List ℕ) (ms : List Message) (behind : List ℕ) : Type 0 where
+  pub reads : Reads taken ms behind
+  pub asked : (taken ≡ []) ⊎ AskedLast taken ms
+
 -- the messages that were answered, and what is kept behind them
 pub record Reading (most i : ℕ) (taken : List ℕ) (ms : List Message) (kept : List ℕ) : Type 0 where
-  pub reads : Reads taken ms kept
+  pub came : Came taken ms kept
   pub all_open : AllOpen ms
   pub room : i ≤ most
 
 module _ (site : Site) (most : ℕ) where
   -- all that was done so far
-  pub record Stand (taken : List ℕ) (exchanges : List Exchange) (i : ℕ) (b n h0 h1 : Option (List ℕ)) (s0 s1 k0 k1 : ℕ) (c0 c1 : Option (ℕ → ℤ)) (d0 d1 : Shown) (f : List Front) : Type 0 where
-    pub consumed : Consumes b n taken
-    pub source_later : s0 ≤ s1
-    pub sink_later : k0 ≤ k1
+  pub record Stand (taken : List ℕ) (exchanges : List Exchange) (i : ℕ) (x x' : Setting) (fronts : List Front) : Type 0 where
+    pub consumed : Consumes x.source.left x'.source.left taken
+    pub source_later : x.source.faults ≤ x'.source.faults
+    pub sink_later : x.sink.faults ≤ x'.sink.faults
     pub count : length exchanges ≡ i
     pub fit : AllFit site most 0 exchanges
-    pub told : Told c0 c1 [] f d0 d1 exchanges
-    pub written : Grows h0 h1 (all_bytes exchanges)
+    pub told : Told x.clock x'.clock [] fronts x.desk x'.desk exchanges
+    pub written : Grows x.sink.holds x'.sink.holds (all_bytes exchanges)
 
   -- i messages were answered
-  pub record Serving (i : ℕ) (b n h0 h1 : Option (List ℕ)) (s0 s1 k0 k1 : ℕ) (c0 c1 : Option (ℕ → ℤ)) (d0 d1 : Shown) (f : List Front) (kept : List ℕ) : Type 0 where
+  pub record Serving (i : ℕ) (x x' : Setting) (fronts : List Front) (kept : List ℕ) : Type 0 where
     pub taken : List ℕ
     pub exchanges : List Exchange
     pub reading : Reading most i taken (messages_of exchanges) kept
-    pub stand : Stand taken exchanges i b n h0 h1 s0 s1 k0 k1 c0 c1 d0 d1 f
+    pub stand : Stand taken exchanges i x x' fronts
 
 module _ {site : Site} {most : ℕ} where
-  pub serving_start : (b h : Option (List ℕ)) (s k : ℕ) (c : Option (ℕ → ℤ)) (d : Shown) (f : List Front) (kept : List ℕ) → f ≡ [] → kept ≡ [] → Serving site most 0 b b h h s s k k c c d d f kept
-  serving_start b h s k c d f kept none e = record {
+  pub serving_start : (x : Setting) (f : List Front) (kept : List ℕ) → f ≡ [] → kept ≡ [] → Serving site most 0 x x f kept
+  serving_start x f kept none e = record {
     taken = [];
     exchanges = [];
-    reading = subst (Reading most 0 [] []) (sym e) (record { reads = refl; all_open = tt; room = omega arith });
+    reading = subst (Reading most 0 [] []) (sym e) (record { came = record { reads = refl; asked = inl refl }; all_open = tt; room = omega arith });
     stand = record {
-      consumed = Consumes-nil b;
+      consumed = Consumes-nil x.source.left;
       source_later = omega arith;
       sink_later = omega arith;
       count = refl;
       fit = tt;
-      told = subst (λ (l : List Front). Told c c [] l d d []) (sym none) (told_none c [] d);
-      written = Grows-nil h;
+      told = subst (λ (l : List Front). Told x.clock x.clock [] l x.desk x.desk []) (sym none) (told_none x.clock [] x.desk);
+      written = Grows-nil x.sink.holds;
     };
   }
 
-  taken_more : {taken : List ℕ} {exchanges : List Exchange} {i : ℕ} {b n n2 h0 h1 : Option (List ℕ)} {s0 s1 s2 k0 k1 : ℕ} {c0 c1 : Option (ℕ → ℤ)} {d0 d1 : Shown} {f : List Front} (t : List ℕ)
-      → Stand site most taken exchanges i b n h0 h1 s0 s1 k0 k1 c0 c1 d0 d1 f → Consumes n n2 t → s1 ≤ s2 → Stand site most (taken ++ t) exchanges i b n2 h0 h1 s0 s2 k0 k1 c0 c1 d0 d1 f
-  taken_more {taken} {exchanges} {i} {b} {n} {n2} {h0} {h1} {s0} {s1} {s2} {k0} {k1} {c0} {c1} {d0} {d1} {f} t s c later = record {
-    consumed = Consumes-trans b n n2 taken t s.consumed c;
-    source_later = omega (arith, s.source_later, later);
-    sink_later = s.sink_later;
-    count = s.count;
-    fit = s.fit;
-    told = s.told;
-    written = s.written;
+  taken_more : {taken : List ℕ} {exchanges : List Exchange} {i : ℕ} {x y : Setting} {s : SourceShown} {f : List Front} (t : List ℕ)
+      → Stand site most taken exchanges i x y f → Consumes y.source.left s.left t → y.source.faults ≤ s.faults → Stand site most (taken ++ t) exchanges i x (setting s y.sink y.clock y.desk) f
+  taken_more {taken} {exchanges} {i} {x} {y} {s} {f} t st consumed later = record {
+    consumed = Consumes-trans x.source.left y.source.left s.left taken t st.consumed consumed;
+    source_later = omega (arith, st.source_later, later);
+    sink_later = st.sink_later;
+    count = st.count;
+    fit = st.fit;
+    told = st.told;
+    written = st.written;
   }
 
-  turn_more : {taken : List ℕ} {exchanges : List Exchange} {i : ℕ} {b n h0 h1 h2 : Option (List ℕ)} {s0 s1 k0 k1 k2 : ℕ} {c0 c1 c2 : Option (ℕ → ℤ)} {d0 d1 d2 : Shown} {f f2 : List Front} (t : Exchange)
-      → Stand site most taken exchanges i b n h0 h1 s0 s1 k0 k1 c0 c1 d0 d1 f → Told c1 c2 f f2 d1 d2 (t ∷ []) → Fits site (closes most i t.message) t → Grows h1 h2 t.bytes → k1 ≤ k2
-      → Stand site most taken (exchanges ++ t ∷ []) (i + 1) b n h0 h2 s0 s1 k0 k2 c0 c2 d0 d2 f2
-  turn_more {taken} {exchanges} {i} {b} {n} {h0} {h1} {h2} {s0} {s1} {k0} {k1} {k2} {c0} {c1} {c2} {d0} {d1} {d2} {f} {f2} t s told fits more later = record {
-    consumed = s.consumed;
-    source_later = s.source_later;
-    sink_later = omega (arith, s.sink_later, later);
-    count = (let e = s.count in length-append exchanges (t ∷ []) ∙ omega arith);
-    fit = (let at : i ≡ 0 + length exchanges = omega (arith, s.count) in fit_more site most 0 exchanges t s.fit (subst (λ (k : ℕ). Fits site (closes most k t.message) t) at fits));
-    told = told_join c0 c1 c2 [] f f2 d0 d1 d2 exchanges (t ∷ []) s.told told;
-    written = subst (Grows h0 h2) (sym (flat_map-append (λ (x : Exchange). x.bytes) exchanges (t ∷ []) ∙ ap (λ (l : List ℕ). all_bytes exchanges ++ l) (append-nil t.bytes))) (Grows-trans h0 h1 h2 _ _ s.written more);
+  exchange_more : {taken : List ℕ} {exchanges : List Exchange} {i : ℕ} {x y : Setting} {k : SinkShown} {c : Option (ℕ → ℤ)} {d : Shown} {f f' : List Front} (t : Exchange)
+      → Stand site most taken exchanges i x y f → Told y.clock c f f' y.desk d (t ∷ []) → Fits site (closes most i t.message) t → Grows y.sink.holds k.holds t.bytes → y.sink.faults ≤ k.faults
+      → Stand site most taken (exchanges ++ t ∷ []) (i + 1) x (setting y.source k c d) f'
+  exchange_more {taken} {exchanges} {i} {x} {y} {k} {c} {d} {f} {f'} t st told fits more later = record {
+    consumed = st.consumed;
+    source_later = st.source_later;
+    sink_later = omega (arith, st.sink_later, later);
+    count = (let e = st.count in length-append exchanges (t ∷ []) ∙ omega arith);
+    fit = (let at : i ≡ 0 + length exchanges = omega (arith, st.count) in fit_more site most 0 exchanges t st.fit (subst (λ (n : ℕ). Fits site (closes most n t.message) t) at fits));
+    told = told_join x.clock y.clock c [] f f' x.desk y.desk d exchanges (t ∷ []) st.told told;
+    written = subst (Grows x.sink.holds k.holds) (sym (flat_map-append (λ (u : Exchange). u.bytes) exchanges (t ∷ []) ∙ ap (λ (l : List ℕ). all_bytes exchanges ++ l) (append-nil t.bytes))) (Grows-trans x.sink.holds y.sink.holds k.holds _ _ st.written more);
   }
 
   -- the end, with what may stand unwritten and what is written behind the responses
-  finish : {taken : List ℕ} {exchanges : List Exchange} {i : ℕ} {b n h0 h1 h2 : Option (List ℕ)} {s0 s1 k0 k1 k2 : ℕ} {c0 c1 c2 : Option (ℕ → ℤ)} {d0 d1 d2 d3 : Shown} {f f2 : List Front} {e : ConnEnd} (unwritten : List Exchange) (tail left : List ℕ)
-      → Stand site most taken exchanges i b n h0 h1 s0 s1 k0 k1 c0 c1 d0 d1 f → Told c1 c2 f f2 d1 d2 unwritten → Reads taken (messages_of (exchanges ++ unwritten)) left → i + length unwritten ≤ most → Grows h1 h2 tail → k1 ≤ k2
-      → EndHow site most exchanges unwritten tail left n s0 s1 k0 k2 d2 d3 e → Rests e d2 d3 → Serves site most b n h0 h2 s0 s1 k0 k2 c0 c2 d0 d3 f2 i e
-  finish {taken} {exchanges} {i} {b} {n} {h0} {h1} {h2} {s0} {s1} {k0} {k1} {k2} {c0} {c1} {c2} {d0} {d1} {d2} {d3} {f} {f2} {e} unwritten tail left s told in_order room written later how rests = record {
+  finish : {taken : List ℕ} {exchanges : List Exchange} {i : ℕ} {x y : Setting} {k : SinkShown} {c : Option (ℕ → ℤ)} {u d : Shown} {f f' : List Front} {e : ConnEnd} (unwritten : List Exchange) (tail behind : List ℕ)
+      → Stand site most taken exchanges i x y f → Told y.clock c f f' y.desk u unwritten → Came taken (messages_of (exchanges ++ unwritten)) behind → i + length unwritten ≤ most → Grows y.sink.holds k.holds tail → y.sink.faults ≤ k.faults
+      → EndHow site most exchanges unwritten tail behind x (setting y.source k c d) u e → Rests e u d → Ends site most x (setting y.source k c d) f' i e
+  finish {taken} {exchanges} {i} {x} {y} {k} {c} {u} {d} {f} {f'} {e} unwritten tail behind st told came room written later how rests served fronts requests is = record {
     taken = taken;
     exchanges = exchanges;
     unwritten = unwritten;
     tail = tail;
-    left = left;
-    consumed = s.consumed;
-    source_later = s.source_later;
-    sink_later = omega (arith, s.sink_later, later);
-    count = s.count;
-    room = room;
-    in_order = in_order;
-    fit = s.fit;
-    desk = d2;
-    told = told_join c0 c1 c2 [] f f2 d0 d1 d2 exchanges unwritten s.told told;
-    written = Grows-trans h0 h1 h2 _ _ s.written written;
-    rests = rests;
-    how = how;
+    behind = behind;
+    consumed = st.consumed;
+    source_later = st.source_later;
+    sink_later = omega (arith, st.sink_later, later);
+    count = st.count ∙ sym requests;
+    room = omega (arith, room, requests);
+    in_order = came.reads;
+    asked = came.asked;
+    fit = st.fit;
+    desk = u;
+    told = subst (λ (l : List Front). Told x.clock c [] l x.desk u (exchanges ++ unwritten)) (sym fronts) (told_join x.clock y.clock c [] f f' x.desk y.desk u exchanges unwritten st.told told);
+    rests = subst (λ (z : ConnEnd). Rests z u d) (sym is) rests;
+    written = Grows-trans x.sink.holds y.sink.holds k.holds _ _ st.written written;
+    how = subst (EndHow site most exchanges unwritten tail behind x (setting y.source k c d) u) (sym is) how;
   }
 
 rose_more : {a b c : ℕ} → a ≤ b → Rose b c → Rose a c
@@ -124,152 +140,196 @@ rose_more {a} {b} {c} h r = omega arith
 pushed : (exchanges : List Exchange) (t : Exchange) (m : Message) → t.message ≡ m → messages_of exchanges ++ m ∷ [] ≡ messages_of (exchanges ++ t ∷ [])
 pushed exchanges t m is = ap (λ (x : Message). messages_of exchanges ++ x ∷ []) (sym is) ∙ sym (map-append (λ (x : Exchange). x.message) exchanges (t ∷ []))
 
+same_behind : (kept a b : List ℕ) → kept ++ a ≡ kept ++ b → a ≡ b
+same_behind [] a b e = e
+same_behind (x ∷ kept) a b e = (let rest : kept ++ a ≡ kept ++ b = cc in same_behind kept a b rest)
+
+-- more bytes came
+asked_more : {taken kept : List ℕ} {ms : List Message} {s s' : SourceShown} (more : List ℕ) → Reads taken ms kept → (taken ≡ []) ⊎ AskedLast taken ms → AskedWhile IsUndecided PIECE s s' kept (kept ++ more) → (taken ++ more ≡ []) ⊎ AskedLast (taken ++ more) ms
+asked_more {taken} {kept} {ms} more r asked (inl h) =
+    let none : more ≡ [] = same_behind kept more [] (h.0 ∙ sym (append-nil kept)) in
+    let same : taken ++ more ≡ taken = ap (λ (l : List ℕ). taken ++ l) none ∙ append-nil taken in
+    subst (λ (l : List ℕ). (l ≡ []) ⊎ AskedLast l ms) (sym same) asked
+asked_more {taken} {kept} {ms} more r asked (inr h) =
+    let parts : more ≡ h.0 ++ h.1 = same_behind kept more (h.0 ++ h.1) (h.2 ∙ append_assoc kept h.0 h.1) in
+    inr (record {
+      earlier = taken ++ h.0;
+      last = h.1;
+      parts = ap (λ (l : List ℕ). taken ++ l) parts ∙ sym (append_assoc taken h.0 h.1);
+      few = h.3;
+      came = ms;
+      later = [];
+      messages = sym (append-nil ms);
+      rest = kept ++ h.0;
+      reads = reads_more taken ms kept h.0 r;
+      waits = h.4;
+    })
+
+asked_snoc : {taken : List ℕ} {ms : List Message} (m : Message) → (taken ≡ []) ⊎ AskedLast taken ms → (taken ≡ []) ⊎ AskedLast taken (ms ++ m ∷ [])
+asked_snoc m (inl none) = inl none
+asked_snoc m (inr a) = inr (record {
+  earlier = a.earlier;
+  last = a.last;
+  parts = a.parts;
+  few = a.few;
+  came = a.came;
+  later = a.later ++ m ∷ [];
+  messages = ap (λ (l : List Message). l ++ m ∷ []) a.messages ∙ append_assoc a.came a.later (m ∷ []);
+  rest = a.rest;
+  reads = a.reads;
+  waits = a.waits;
+})
+
+came_more : {taken kept new : List ℕ} {ms : List Message} {s s' : SourceShown} {r : Next} → Came taken ms kept → (g : GivesNext s s' kept new r) → Came (taken ++ g.taken) ms (kept ++ g.taken)
+came_more {taken} {kept} {new} {ms} c g = record { reads = reads_more taken ms kept g.taken c.reads; asked = asked_more g.taken c.reads c.asked g.asked }
+
+came_snoc : {taken behind new : List ℕ} {ms : List Message} (m : Message) → Came taken ms behind → BeginsWith behind (whole m new) → Came taken (ms ++ m ∷ []) new
+came_snoc {taken} {behind} {new} {ms} m c e = record { reads = reads_snoc taken ms behind m new c.reads e; asked = asked_snoc m c.asked }
+
 -- where nothing stands unwritten
-none_left : (taken left : List ℕ) (exchanges : List Exchange) → Reads taken (messages_of exchanges) left → Reads taken (messages_of (exchanges ++ [])) left
-none_left taken left exchanges r = subst (λ (l : List Exchange). Reads taken (messages_of l) left) (sym (append-nil exchanges)) r
+none_behind : (taken behind : List ℕ) (exchanges : List Exchange) → Came taken (messages_of exchanges) behind → Came taken (messages_of (exchanges ++ [])) behind
+none_behind taken behind exchanges c = subst (λ (l : List Exchange). Came taken (messages_of l) behind) (sym (append-nil exchanges)) c
 
-one_left : (taken left : List ℕ) (m : Message) (new : List ℕ) (exchanges : List Exchange) (t : Exchange) → t.message ≡ m → Reads taken (messages_of exchanges) left → BeginsWith left (whole m new) → Reads taken (messages_of (exchanges ++ t ∷ [])) new
-one_left taken left m new exchanges t is r e = subst (λ (l : List Message). Reads taken l new) (pushed exchanges t m is) (reads_snoc taken (messages_of exchanges) left m new r e)
+one_behind : (taken behind : List ℕ) (m : Message) (new : List ℕ) (exchanges : List Exchange) (t : Exchange) → t.message ≡ m → Came taken (messages_of exchanges) behind → BeginsWith behind (whole m new) → Came taken (messages_of (exchanges ++ t ∷ [])) new
+one_behind taken behind m new exchanges t is c e = subst (λ (l : List Message). Came taken l new) (pushed exchanges t m is) (came_snoc m c e)
 
-module _ {site : Site} {most i : ℕ} {b n h0 h1 : Option (List ℕ)} {s0 s1 k0 k1 : ℕ} {c0 c1 : Option (ℕ → ℤ)} {d0 d1 : Shown} {f : List Front} {kept : List ℕ} where
-  -- what is left is undecided
-  waiting : (s : Serving site most i b n h0 h1 s0 s1 k0 k1 c0 c1 d0 d1 f kept) → i < most → (left : List ℕ) → IsUndecided left → Whole site most s.exchanges [] [] left undecided []
-  waiting s h left u = record { ends = (omega (arith, s.stand.count, h), s.reading.all_open, u); all_written = refl; closing = refl }
+module _ {site : Site} {most i : ℕ} {x y : Setting} {f : List Front} {kept : List ℕ} where
+  -- what stands behind is undecided
+  waiting : (v : Serving site most i x y f kept) → i < most → (behind : List ℕ) → IsUndecided behind → Whole site most v.exchanges [] [] behind undecided []
+  waiting v h behind u = record { ends = (omega (arith, v.stand.count, h), v.reading.all_open, u); all_written = refl; closing = refl }
 
-module _ {site : Site} {most i : ℕ} {b n n2 h0 h1 : Option (List ℕ)} {s0 s1 s2 k0 k1 : ℕ} {c0 c1 : Option (ℕ → ℤ)} {d0 d1 : Shown} {f : List Front} {kept new : List ℕ} where
-  pub closed : Serving site most i b n h0 h1 s0 s1 k0 k1 c0 c1 d0 d1 f kept → i < most → GivesNext n n2 s1 s2 kept new next.End → Serves site most b n2 h0 h1 s0 s2 k0 k1 c0 c1 d0 d1 f i end.Closed
-  closed s h g =
-      let now = reads_more s.taken (messages_of s.exchanges) kept g.taken s.reading.reads in
-      finish [] [] (kept ++ g.taken) (taken_more g.taken s.stand g.consumed g.rose) (told_none c1 f d1) (none_left _ _ s.exchanges now) (omega (arith, s.reading.room)) (Grows-nil h1) (omega arith)
-      (waiting s h (kept ++ g.taken) (inl g.how.0), g.how.0, g.how.2) refl
+module _ {site : Site} {most i : ℕ} {x y : Setting} {s : SourceShown} {f : List Front} {kept new : List ℕ} where
+  pub closed : Serving site most i x y f kept → i < most → GivesNext y.source s kept new next.End → Ends site most x (setting s y.sink y.clock y.desk) f i end.Closed
+  closed v h g =
+      let now = came_more v.reading.came g in
+      finish [] [] (kept ++ g.taken) (taken_more g.taken v.stand g.consumed g.later) (told_none y.clock f y.desk) (none_behind _ _ v.exchanges now) (omega (arith, v.reading.room)) (Grows-nil y.sink.holds) (omega arith)
+      (waiting v h (kept ++ g.taken) (inl g.how.0), g.how.0, g.how.2) refl
 
-  pub truncated : Serving site most i b n h0 h1 s0 s1 k0 k1 c0 c1 d0 d1 f kept → i < most → GivesNext n n2 s1 s2 kept new next.Truncated → Serves site most b n2 h0 h1 s0 s2 k0 k1 c0 c1 d0 d1 f i end.Truncated
-  truncated s h g =
-      let now = reads_more s.taken (messages_of s.exchanges) kept g.taken s.reading.reads in
-      finish [] [] (kept ++ g.taken) (taken_more g.taken s.stand g.consumed g.rose) (told_none c1 f d1) (none_left _ _ s.exchanges now) (omega (arith, s.reading.room)) (Grows-nil h1) (omega arith)
-      (waiting s h (kept ++ g.taken) (inr g.how.0), g.how.0.0, g.how.2) refl
+  pub truncated : Serving site most i x y f kept → i < most → GivesNext y.source s kept new next.Truncated → Ends site most x (setting s y.sink y.clock y.desk) f i end.Truncated
+  truncated v h g =
+      let now = came_more v.reading.came g in
+      finish [] [] (kept ++ g.taken) (taken_more g.taken v.stand g.consumed g.later) (told_none y.clock f y.desk) (none_behind _ _ v.exchanges now) (omega (arith, v.reading.room)) (Grows-nil y.sink.holds) (omega arith)
+      (waiting v h (kept ++ g.taken) (inr g.how.0), g.how.0.0, g.how.2) refl
 
-  pub read_fault : Serving site most i b n h0 h1 s0 s1 k0 k1 c0 c1 d0 d1 f kept → i < most → GivesNext n n2 s1 s2 kept new next.ReadFault → Serves site most b n2 h0 h1 s0 s2 k0 k1 c0 c1 d0 d1 f i end.ReadFault
-  read_fault s h g =
-      let now = reads_more s.taken (messages_of s.exchanges) kept g.taken s.reading.reads in
-      finish [] [] (kept ++ g.taken) (taken_more g.taken s.stand g.consumed g.rose) (told_none c1 f d1) (none_left _ _ s.exchanges now) (omega (arith, s.reading.room)) (Grows-nil h1) (omega arith)
-      (waiting s h (kept ++ g.taken) g.how.0, rose_more s.stand.source_later g.how.2) refl
+  pub read_fault : Serving site most i x y f kept → i < most → GivesNext y.source s kept new next.ReadFault → Ends site most x (setting s y.sink y.clock y.desk) f i end.ReadFault
+  read_fault v h g =
+      let now = came_more v.reading.came g in
+      finish [] [] (kept ++ g.taken) (taken_more g.taken v.stand g.consumed g.later) (told_none y.clock f y.desk) (none_behind _ _ v.exchanges now) (omega (arith, v.reading.room)) (Grows-nil y.sink.holds) (omega arith)
+      (waiting v h (kept ++ g.taken) g.how.0, rose_more v.stand.source_later g.how.2) refl
 
-  pub no_memory : {r : Next} → Serving site most i b n h0 h1 s0 s1 k0 k1 c0 c1 d0 d1 f kept → GivesNext n n2 s1 s2 kept new r → Serves site most b n2 h0 h1 s0 s2 k0 k1 c0 c1 d0 d1 f i end.NoMemory
-  no_memory s g =
-      let now = reads_more s.taken (messages_of s.exchanges) kept g.taken s.reading.reads in
-      finish [] [] (kept ++ g.taken) (taken_more g.taken s.stand g.consumed g.rose) (told_none c1 f d1) (none_left _ _ s.exchanges now) (omega (arith, s.reading.room)) (Grows-nil h1) (omega arith) (inr (refl, refl, refl), s.reading.all_open) tt
+  pub no_memory : {r : Next} → Serving site most i x y f kept → GivesNext y.source s kept new r → Ends site most x (setting s y.sink y.clock y.desk) f i end.NoMemory
+  no_memory v g =
+      let now = came_more v.reading.came g in
+      finish [] [] (kept ++ g.taken) (taken_more g.taken v.stand g.consumed g.later) (told_none y.clock f y.desk) (none_behind _ _ v.exchanges now) (omega (arith, v.reading.room)) (Grows-nil y.sink.holds) (omega arith)
+      (inr (refl, refl, refl), v.reading.all_open) tt
 
-module _ {site : Site} {most i : ℕ} {b n n2 h0 h1 h2 : Option (List ℕ)} {s0 s1 s2 k0 k1 k2 : ℕ} {c0 c1 : Option (ℕ → ℤ)} {d0 d1 : Shown} {f : List Front} {kept new : List ℕ} {status : ℕ} where
-  refused_how : (s : Serving site most i b n h0 h1 s0 s1 k0 k1 c0 c1 d0 d1 f kept) → i < most → GivesNext n n2 s1 s2 kept new (next.BadHead status) → k1 ≤ k2 → (e : ConnEnd) → RefusalHow h1 h2 k1 k2 status e
-      → Serves site most b n2 h0 h2 s0 s2 k0 k2 c0 c1 d0 d1 f i e
-  refused_how s h g later (end.BadHead x) how =
-      let now = reads_more s.taken (messages_of s.exchanges) kept g.taken s.reading.reads in
-      let all : Whole site most s.exchanges [] (refusal_text status) (kept ++ g.taken) (bad_head status) (refusal_text status) = record { ends = (omega (arith, s.stand.count, h), s.reading.all_open, g.how.0); all_written = refl; closing = refl } in
-      subst (λ (y : ℕ). Serves site most b n2 h0 h2 s0 s2 k0 k2 c0 c1 d0 d1 f i (end.BadHead y)) (sym how.0)
-      (finish [] (refusal_text status) (kept ++ g.taken) (taken_more g.taken s.stand g.consumed g.rose) (told_none c1 f d1) (none_left _ _ s.exchanges now) (omega (arith, s.reading.room)) how.1 later all refl)
-  refused_how s h g later end.WriteFault how =
-      let now = reads_more s.taken (messages_of s.exchanges) kept g.taken s.reading.reads in
+module _ {site : Site} {most i : ℕ} {x y : Setting} {s : SourceShown} {k : SinkShown} {f : List Front} {kept new : List ℕ} {status : ℕ} where
+  refused_how : (v : Serving site most i x y f kept) → i < most → GivesNext y.source s kept new (next.BadHead status) → y.sink.faults ≤ k.faults → (e : ConnEnd) → RefusalHow y.sink k status e
+      → Ends site most x (setting s k y.clock y.desk) f i e
+  refused_how v h g later (end.BadHead z) how =
+      let now = came_more v.reading.came g in
+      let all : Whole site most v.exchanges [] (refusal_text status) (kept ++ g.taken) (bad_head status) (refusal_text status) = record { ends = (omega (arith, v.stand.count, h), v.reading.all_open, g.how.0); all_written = refl; closing = refl } in
+      subst (λ (n : ℕ). Ends site most x (setting s k y.clock y.desk) f i (end.BadHead n)) (sym how.0)
+      (finish [] (refusal_text status) (kept ++ g.taken) (taken_more g.taken v.stand g.consumed g.later) (told_none y.clock f y.desk) (none_behind _ _ v.exchanges now) (omega (arith, v.reading.room)) how.1 later all refl)
+  refused_how v h g later end.WriteFault how =
+      let now = came_more v.reading.came g in
       let part = take how.0.0 (refusal_text status) in
-      let all : Whole site most s.exchanges [] part (kept ++ g.taken) (bad_head status) part = record { ends = (omega (arith, s.stand.count, h), s.reading.all_open, g.how.0); all_written = refl; closing = refl } in
-      finish [] part (kept ++ g.taken) (taken_more g.taken s.stand g.consumed g.rose) (told_none c1 f d1) (none_left _ _ s.exchanges now) (omega (arith, s.reading.room)) how.0.2 later
-      (refusal_cut status part all (how.0.0, how.0.1, refl), s.reading.all_open, rose_more s.stand.sink_later how.1) refl
-  refused_how s h g later end.NoMemory how =
-      let now = reads_more s.taken (messages_of s.exchanges) kept g.taken s.reading.reads in
-      finish [] [] (kept ++ g.taken) (taken_more g.taken s.stand g.consumed g.rose) (told_none c1 f d1) (none_left _ _ s.exchanges now) (omega (arith, s.reading.room)) (subst (λ (x : Option (List ℕ)). Grows h1 x []) (sym how) (Grows-nil h1)) later
-      (inr (refl, refl, refl), s.reading.all_open) tt
-  refused_how s h g later end.Closed how = absurd how
-  refused_how s h g later end.CloseAsked how = absurd how
-  refused_how s h g later end.Truncated how = absurd how
-  refused_how s h g later end.Quota how = absurd how
-  refused_how s h g later end.ReadFault how = absurd how
-  refused_how s h g later end.PassSpent how = absurd how
+      let all : Whole site most v.exchanges [] part (kept ++ g.taken) (bad_head status) part = record { ends = (omega (arith, v.stand.count, h), v.reading.all_open, g.how.0); all_written = refl; closing = refl } in
+      finish [] part (kept ++ g.taken) (taken_more g.taken v.stand g.consumed g.later) (told_none y.clock f y.desk) (none_behind _ _ v.exchanges now) (omega (arith, v.reading.room)) how.0.2 later
+      (refusal_cut status part all (how.0.0, how.0.1, refl), v.reading.all_open, rose_more v.stand.sink_later how.1) refl
+  refused_how v h g later end.NoMemory how =
+      let now = came_more v.reading.came g in
+      finish [] [] (kept ++ g.taken) (taken_more g.taken v.stand g.consumed g.later) (told_none y.clock f y.desk) (none_behind _ _ v.exchanges now) (omega (arith, v.reading.room))
+      (subst (λ (o : Option (List ℕ)). Grows y.sink.holds o []) (sym how) (Grows-nil y.sink.holds)) later (inr (refl, refl, refl), v.reading.all_open) tt
+  refused_how v h g later end.Closed how = absurd how
+  refused_how v h g later end.CloseAsked how = absurd how
+  refused_how v h g later end.Truncated how = absurd how
+  refused_how v h g later end.Quota how = absurd how
+  refused_how v h g later end.ReadFault how = absurd how
+  refused_how v h g later end.PassSpent how = absurd how
 
-  pub refused_here : {e : ConnEnd} → Serving site most i b n h0 h1 s0 s1 k0 k1 c0 c1 d0 d1 f kept → i < most → GivesNext n n2 s1 s2 kept new (next.BadHead status) → IsRefusalEnd h1 h2 k1 k2 status e
-      → Serves site most b n2 h0 h2 s0 s2 k0 k2 c0 c1 d0 d1 f i e
-  refused_here {e} s h g r = refused_how s h g r.later e r.how
+  pub refused_here : {e : ConnEnd} → Serving site most i x y f kept → i < most → GivesNext y.source s kept new (next.BadHead status) → IsRefusalEnd y.sink k status e
+      → Ends site most x (setting s k y.clock y.desk) f i e
+  refused_here {e} v h g r = refused_how v h g r.later e r.how
 
-module _ {site : Site} {most i : ℕ} {b n h0 h1 : Option (List ℕ)} {s0 s1 k0 k1 : ℕ} {c0 c1 : Option (ℕ → ℤ)} {d0 d1 : Shown} {f : List Front} {kept : List ℕ} {m : Taken} {close : Bool} where
-  left_how : (s : Serving site most i b n h0 h1 s0 s1 k0 k1 c0 c1 d0 d1 f kept) (t : Exchange) (left : List ℕ) → t.message ≡ message_shown m → close ≡ closes most i (message_shown m) → (e : DeskError) (u v : Shown) → Begun site close t e u v → Left site most s.exchanges (t ∷ []) [] left e u v
-  left_how s t left is closing e u v begun =
-      let at : close ≡ closes most (length s.exchanges) t.message = closing ∙ (λ k. closes most (sym s.stand.count k) (sym is k)) in
-      record { exchange = t; is_unwritten = refl; begun = subst (λ (x : Bool). Begun site x t e u v) at begun; silent = refl }
+module _ {site : Site} {most i : ℕ} {x y : Setting} {f : List Front} {kept : List ℕ} {m : Taken} {close : Bool} where
+  unanswered_how : (v : Serving site most i x y f kept) (t : Exchange) (behind : List ℕ) → t.message ≡ message_shown m → close ≡ closes most i (message_shown m) → (e : DeskError) (u d : Shown) → Begun site close t e u d
+      → IsUnanswered site most v.exchanges (t ∷ []) [] behind e u d
+  unanswered_how v t behind is closing e u d begun =
+      let at : close ≡ closes most (length v.exchanges) t.message = closing ∙ (λ j. closes most (sym v.stand.count j) (sym is j)) in
+      record { exchange = t; is_unwritten = refl; begun = subst (λ (b : Bool). Begun site b t e u d) at begun; silent = refl }
 
-module _ {site : Site} {most i : ℕ} {b n n2 h0 h1 : Option (List ℕ)} {s0 s1 s2 k0 k1 : ℕ} {c0 c1 c2 : Option (ℕ → ℤ)} {d0 d1 d2 d3 : Shown} {f f2 : List Front} {kept new : List ℕ} {m : Taken} {close : Bool} where
-  stopped_how : (s : Serving site most i b n h0 h1 s0 s1 k0 k1 c0 c1 d0 d1 f kept) → i < most → GivesNext n n2 s1 s2 kept new (next.Message m) → (a : Exchange) → a.message ≡ message_shown m → Told c1 c2 f f2 d1 d2 (a ∷ [])
-      → close ≡ closes most i (message_shown m) → (e : DeskError) → AnswerHow site close d2 d3 a (Err e) → Serves site most b n2 h0 h1 s0 s2 k0 k1 c0 c2 d0 d3 f2 i (end_for e)
-  stopped_how s h g a is told closing desk.PassSpent how =
-      let now = reads_more s.taken (messages_of s.exchanges) kept g.taken s.reading.reads in
-      finish (a ∷ []) [] new (taken_more g.taken s.stand g.consumed g.rose) told (one_left _ _ (message_shown m) new s.exchanges a is now g.how) (omega (arith, h)) (Grows-nil h1) (omega arith)
-      (left_how s a new is closing desk.PassSpent d2 d3 how, s.reading.all_open) tt
-  stopped_how s h g a is told closing desk.NoMemory how =
-      let now = reads_more s.taken (messages_of s.exchanges) kept g.taken s.reading.reads in
-      finish (a ∷ []) [] new (taken_more g.taken s.stand g.consumed g.rose) told (one_left _ _ (message_shown m) new s.exchanges a is now g.how) (omega (arith, h)) (Grows-nil h1) (omega arith)
-      (inl (left_how s a new is closing desk.NoMemory d2 d3 how), s.reading.all_open) tt
+module _ {site : Site} {most i : ℕ} {x y : Setting} {s : SourceShown} {c : Option (ℕ → ℤ)} {u d : Shown} {f f' : List Front} {kept new : List ℕ} {m : Taken} {close : Bool} where
+  stopped_how : (v : Serving site most i x y f kept) → i < most → GivesNext y.source s kept new (next.Message m) → (a : Exchange) → a.message ≡ message_shown m → Told y.clock c f f' y.desk u (a ∷ [])
+      → close ≡ closes most i (message_shown m) → (e : DeskError) → AnswerHow site close u d a (Err e) → Ends site most x (setting s y.sink c d) f' i (end_for e)
+  stopped_how v h g a is told closing desk.PassSpent how =
+      let now = came_more v.reading.came g in
+      finish (a ∷ []) [] new (taken_more g.taken v.stand g.consumed g.later) told (one_behind _ _ (message_shown m) new v.exchanges a is now g.how) (omega (arith, h)) (Grows-nil y.sink.holds) (omega arith)
+      (unanswered_how v a new is closing desk.PassSpent u d how, v.reading.all_open) tt
+  stopped_how v h g a is told closing desk.NoMemory how =
+      let now = came_more v.reading.came g in
+      finish (a ∷ []) [] new (taken_more g.taken v.stand g.consumed g.later) told (one_behind _ _ (message_shown m) new v.exchanges a is now g.how) (omega (arith, h)) (Grows-nil y.sink.holds) (omega arith)
+      (inl (unanswered_how v a new is closing desk.NoMemory u d how), v.reading.all_open) tt
 
-module _ {site : Site} {most i : ℕ} {b n n2 h0 h1 : Option (List ℕ)} {s0 s1 s2 k0 k1 : ℕ} {c0 c1 c2 : Option (ℕ → ℤ)} {d0 d1 d2 : Shown} {f f2 : List Front} {kept new : List ℕ} {m : Taken} {close : Bool} where
+module _ {site : Site} {most i : ℕ} {x y : Setting} {s : SourceShown} {c : Option (ℕ → ℤ)} {d : Shown} {f f' : List Front} {kept new : List ℕ} {m : Taken} {close : Bool} where
   -- the message wasn't answered
-  pub stopped_inside : {e : DeskError} → Serving site most i b n h0 h1 s0 s1 k0 k1 c0 c1 d0 d1 f kept → i < most → GivesNext n n2 s1 s2 kept new (next.Message m) → close ≡ closes most i (message_shown m)
-      → AnswersMessage site close (message_shown m) c1 c2 f f2 d1 d2 (Err e) → Serves site most b n2 h0 h1 s0 s2 k0 k1 c0 c2 d0 d2 f2 i (end_for e)
-  stopped_inside {e} s h g closing a = stopped_how s h g a.exchange a.is a.told closing e a.how
+  pub stopped_inside : {e : DeskError} → Serving site most i x y f kept → i < most → GivesNext y.source s kept new (next.Message m) → close ≡ closes most i (message_shown m)
+      → AnswersMessage site close (message_shown m) y.clock c f f' y.desk d (Err e) → Ends site most x (setting s y.sink c d) f' i (end_for e)
+  stopped_inside {e} v h g closing a = stopped_how v h g a.exchange a.is a.told closing e a.how
 
 module _ {site : Site} {m : Taken} {close : Bool} where
   fits_here : (most i : ℕ) (t : Exchange) (k : ℕ) → t.message ≡ message_shown m → close ≡ closes most i (message_shown m) → i ≡ k → Fits site close t → Fits site (closes most k t.message) t
-  fits_here most i t k is closing at fits = subst (λ (x : Bool). Fits site x t) (closing ∙ (λ j. closes most (at j) (sym is j))) fits
+  fits_here most i t k is closing at fits = subst (λ (b : Bool). Fits site b t) (closing ∙ (λ j. closes most (at j) (sym is j))) fits
 
-module _ {site : Site} {most i : ℕ} {b n n2 h0 h1 h2 : Option (List ℕ)} {s0 s1 s2 k0 k1 k2 : ℕ} {c0 c1 c2 : Option (ℕ → ℤ)} {d0 d1 d2 : Shown} {f f2 : List Front} {kept new piece : List ℕ} {m : Taken} {close : Bool} {v : Vec ℕ Global} where
-  pub write_fault : Serving site most i b n h0 h1 s0 s1 k0 k1 c0 c1 d0 d1 f kept → i < most → GivesNext n n2 s1 s2 kept new (next.Message m) → close ≡ closes most i (message_shown m)
-      → AnswersMessage site close (message_shown m) c1 c2 f f2 d1 d2 (Ok v) → GrowsByPrefix h1 h2 piece → piece ≡ v.items → k1 ≤ k2 → Rose k1 k2
-      → Serves site most b n2 h0 h2 s0 s2 k0 k2 c0 c2 d0 d2 f2 i end.WriteFault
-  write_fault s h g closing a front given later rose =
-      let now = reads_more s.taken (messages_of s.exchanges) kept g.taken s.reading.reads in
-      let cut : GrowsByPrefix h1 h2 a.exchange.bytes = subst (GrowsByPrefix h1 h2) (given ∙ a.how.1) front in
-      finish (a.exchange ∷ []) (take cut.0 a.exchange.bytes) new (taken_more g.taken s.stand g.consumed g.rose) a.told (one_left _ _ (message_shown m) new s.exchanges a.exchange a.is now g.how) (omega (arith, h)) cut.2 later
-      (response_cut a.exchange refl (fits_here most i a.exchange (length s.exchanges) a.is closing (sym s.stand.count) a.how.0) (cut.0, cut.1, refl), s.reading.all_open, rose_more s.stand.sink_later rose) a.how.2
+module _ {site : Site} {most i : ℕ} {x y : Setting} {s : SourceShown} {k : SinkShown} {c : Option (ℕ → ℤ)} {d : Shown} {f f' : List Front} {kept new piece : List ℕ} {m : Taken} {close : Bool} {bytes : Vec ℕ Global} where
+  pub write_fault : Serving site most i x y f kept → i < most → GivesNext y.source s kept new (next.Message m) → close ≡ closes most i (message_shown m)
+      → AnswersMessage site close (message_shown m) y.clock c f f' y.desk d (Ok bytes) → GrowsByPrefix y.sink.holds k.holds piece → piece ≡ bytes.items → y.sink.faults ≤ k.faults → Rose y.sink.faults k.faults
+      → Ends site most x (setting s k c d) f' i end.WriteFault
+  write_fault v h g closing a part given later rose =
+      let now = came_more v.reading.came g in
+      let cut : GrowsByPrefix y.sink.holds k.holds a.exchange.bytes = subst (GrowsByPrefix y.sink.holds k.holds) (given ∙ a.how.1) part in
+      finish (a.exchange ∷ []) (take cut.0 a.exchange.bytes) new (taken_more g.taken v.stand g.consumed g.later) a.told (one_behind _ _ (message_shown m) new v.exchanges a.exchange a.is now g.how) (omega (arith, h)) cut.2 later
+      (response_cut a.exchange refl (fits_here most i a.exchange (length v.exchanges) a.is closing (sym v.stand.count) a.how.0) (cut.0, cut.1, refl), v.reading.all_open, rose_more v.stand.sink_later rose) a.how.2
 
-  one_turn : (s : Serving site most i b n h0 h1 s0 s1 k0 k1 c0 c1 d0 d1 f kept) (g : GivesNext n n2 s1 s2 kept new (next.Message m)) → close ≡ closes most i (message_shown m)
-      → (a : AnswersMessage site close (message_shown m) c1 c2 f f2 d1 d2 (Ok v)) → Grows h1 h2 piece → piece ≡ v.items → k1 ≤ k2
-      → Stand site most (s.taken ++ g.taken) (s.exchanges ++ a.exchange ∷ []) (i + 1) b n2 h0 h2 s0 s2 k0 k2 c0 c2 d0 d2 f2
-  one_turn s g closing a more given later =
-      turn_more a.exchange (taken_more g.taken s.stand g.consumed g.rose) (subst (λ (d : Shown). Told c1 c2 f f2 d1 d (a.exchange ∷ [])) (sym a.how.2) a.told) (fits_here most i a.exchange i a.is closing refl a.how.0) (subst (Grows h1 h2) (given ∙ a.how.1) more) later
+  one_exchange : (v : Serving site most i x y f kept) (g : GivesNext y.source s kept new (next.Message m)) → close ≡ closes most i (message_shown m)
+      → (a : AnswersMessage site close (message_shown m) y.clock c f f' y.desk d (Ok bytes)) → Grows y.sink.holds k.holds piece → piece ≡ bytes.items → y.sink.faults ≤ k.faults
+      → Stand site most (v.taken ++ g.taken) (v.exchanges ++ a.exchange ∷ []) (i + 1) x (setting s k c d) f'
+  one_exchange v g closing a more given later =
+      exchange_more a.exchange (taken_more g.taken v.stand g.consumed g.later) (subst (λ (z : Shown). Told y.clock c f f' y.desk z (a.exchange ∷ [])) (sym a.how.2) a.told)
+      (fits_here most i a.exchange i a.is closing refl a.how.0) (subst (Grows y.sink.holds k.holds) (given ∙ a.how.1) more) later
 
-  pub close_asked_here : Serving site most i b n h0 h1 s0 s1 k0 k1 c0 c1 d0 d1 f kept → i < most → GivesNext n n2 s1 s2 kept new (next.Message m) → close ≡ closes most i (message_shown m)
-      → AnswersMessage site close (message_shown m) c1 c2 f f2 d1 d2 (Ok v) → Grows h1 h2 piece → piece ≡ v.items → k1 ≤ k2 → m.close ≡ true
-      → Serves site most b n2 h0 h2 s0 s2 k0 k2 c0 c2 d0 d2 f2 (i + 1) end.CloseAsked
-  close_asked_here s h g closing a more given later asks =
-      let now = reads_more s.taken (messages_of s.exchanges) kept g.taken s.reading.reads in
-      let one = one_turn s g closing a more given later in
+  pub close_asked_here : Serving site most i x y f kept → i < most → GivesNext y.source s kept new (next.Message m) → close ≡ closes most i (message_shown m)
+      → AnswersMessage site close (message_shown m) y.clock c f f' y.desk d (Ok bytes) → Grows y.sink.holds k.holds piece → piece ≡ bytes.items → y.sink.faults ≤ k.faults → m.close ≡ true
+      → Ends site most x (setting s k c d) f' (i + 1) end.CloseAsked
+  close_asked_here v h g closing a more given later asks =
+      let now = came_more v.reading.came g in
+      let one = one_exchange v g closing a more given later in
       let n_is = one.count in
-      finish [] [] new one (told_none c2 f2 d2) (none_left _ _ (s.exchanges ++ a.exchange ∷ []) (one_left _ _ (message_shown m) new s.exchanges a.exchange a.is now g.how)) (omega (arith, h)) (Grows-nil h2) (omega arith)
-      (record { ends = (omega (arith, h, n_is), messages_of s.exchanges, message_shown m, sym (pushed s.exchanges a.exchange (message_shown m) a.is), s.reading.all_open, asks); all_written = refl; closing = refl }) refl
+      finish [] [] new one (told_none c f' d) (none_behind _ _ (v.exchanges ++ a.exchange ∷ []) (one_behind _ _ (message_shown m) new v.exchanges a.exchange a.is now g.how)) (omega (arith, h)) (Grows-nil k.holds) (omega arith)
+      (record { ends = (omega (arith, h, n_is), messages_of v.exchanges, message_shown m, sym (pushed v.exchanges a.exchange (message_shown m) a.is), v.reading.all_open, asks); all_written = refl; closing = refl }) refl
 
-  pub goes_on : Serving site most i b n h0 h1 s0 s1 k0 k1 c0 c1 d0 d1 f kept → i < most → GivesNext n n2 s1 s2 kept new (next.Message m) → close ≡ closes most i (message_shown m)
-      → AnswersMessage site close (message_shown m) c1 c2 f f2 d1 d2 (Ok v) → Grows h1 h2 piece → piece ≡ v.items → k1 ≤ k2 → m.close ≡ false → Serving site most (i + 1) b n2 h0 h2 s0 s2 k0 k2 c0 c2 d0 d2 f2 new
-  goes_on s h g closing a more given later other =
-      let now = reads_more s.taken (messages_of s.exchanges) kept g.taken s.reading.reads in
-      let ms = messages_of s.exchanges in
-      let reads : Reads (s.taken ++ g.taken) (ms ++ message_shown m ∷ []) new = reads_snoc (s.taken ++ g.taken) ms (kept ++ g.taken) (message_shown m) new now g.how in
+  pub goes_on : Serving site most i x y f kept → i < most → GivesNext y.source s kept new (next.Message m) → close ≡ closes most i (message_shown m)
+      → AnswersMessage site close (message_shown m) y.clock c f f' y.desk d (Ok bytes) → Grows y.sink.holds k.holds piece → piece ≡ bytes.items → y.sink.faults ≤ k.faults → m.close ≡ false
+      → Serving site most (i + 1) x (setting s k c d) f' new
+  goes_on v h g closing a more given later other =
+      let now = came_more v.reading.came g in
+      let ms = messages_of v.exchanges in
+      let came : Came (v.taken ++ g.taken) (ms ++ message_shown m ∷ []) new = came_snoc (message_shown m) now g.how in
       record {
-        taken = s.taken ++ g.taken;
-        exchanges = s.exchanges ++ a.exchange ∷ [];
-        reading = subst (λ (l : List Message). Reading most (i + 1) (s.taken ++ g.taken) l new) (pushed s.exchanges a.exchange (message_shown m) a.is)
-            (record { reads = reads; all_open = open_snoc ms (message_shown m) s.reading.all_open other; room = omega (arith, h) });
-        stand = one_turn s g closing a more given later;
+        taken = v.taken ++ g.taken;
+        exchanges = v.exchanges ++ a.exchange ∷ [];
+        reading = subst (λ (l : List Message). Reading most (i + 1) (v.taken ++ g.taken) l new) (pushed v.exchanges a.exchange (message_shown m) a.is)
+            (record { came = came; all_open = open_snoc ms (message_shown m) v.reading.all_open other; room = omega (arith, h) });
+        stand = one_exchange v g closing a more given later;
       }
 
-module _ {site : Site} {most i : ℕ} {b n h0 h1 : Option (List ℕ)} {s0 s1 k0 k1 : ℕ} {c0 c1 : Option (ℕ → ℤ)} {d0 d1 : Shown} {f : List Front} {kept : List ℕ} where
-  pub quota_reached : Serving site most i b n h0 h1 s0 s1 k0 k1 c0 c1 d0 d1 f kept → most ≤ i → Serves site most b n h0 h1 s0 s1 k0 k1 c0 c1 d0 d1 f most end.Quota
-  quota_reached s h =
-      let all : i ≡ most = omega (arith, s.reading.room) in
-      let stand : Stand site most s.taken s.exchanges most b n h0 h1 s0 s1 k0 k1 c0 c1 d0 d1 f = subst (λ (k : ℕ). Stand site most s.taken s.exchanges k b n h0 h1 s0 s1 k0 k1 c0 c1 d0 d1 f) all s.stand in
-      finish [] [] kept stand (told_none c1 f d1) (none_left _ _ s.exchanges s.reading.reads) (omega arith) (Grows-nil h1) (omega arith)
-      (record { ends = (s.stand.count ∙ all, s.reading.all_open); all_written = refl; closing = refl }) refl
+module _ {site : Site} {most i : ℕ} {x y : Setting} {f : List Front} {kept : List ℕ} where
+  pub quota_reached : Serving site most i x y f kept → most ≤ i → Ends site most x (setting y.source y.sink y.clock y.desk) f most end.Quota
+  quota_reached v h =
+      let all : i ≡ most = omega (arith, v.reading.room) in
+      let stand : Stand site most v.taken v.exchanges most x y f = subst (λ (n : ℕ). Stand site most v.taken v.exchanges n x y f) all v.stand in
+      finish [] [] kept stand (told_none y.clock f y.desk) (none_behind _ _ v.exchanges v.reading.came) (omega arith) (Grows-nil y.sink.holds) (omega arith)
+      (record { ends = (v.stand.count ∙ all, v.reading.all_open); all_written = refl; closing = refl }) refl
 
-  pub has_accounts : Serving site most i b n h0 h1 s0 s1 k0 k1 c0 c1 d0 d1 f kept → d0.accounts ≡ length site.accounts → d1.accounts ≡ length site.accounts
-  has_accounts s h = accounts_stay _ _ _ s.stand.told.chain ∙ h
-
--- the same, as it was put together
-pub served_as : {site : Site} {most : ℕ} {b n h0 h1 : Option (List ℕ)} {s0 s1 k0 k1 : ℕ} {c0 c1 : Option (ℕ → ℤ)} {d0 d1 : Shown} {f g : List Front} {i j : ℕ} {e x : ConnEnd}
-    → g ≡ f → j ≡ i → x ≡ e → Serves site most b n h0 h1 s0 s1 k0 k1 c0 c1 d0 d1 f i e → Serves site most b n h0 h1 s0 s1 k0 k1 c0 c1 d0 d1 g j x
-served_as {site} {most} {b} {n} {h0} {h1} {s0} {s1} {k0} {k1} {c0} {c1} {d0} {d1} fronts requests end s =
-    subst (λ (y : (List Front × ℕ) × ConnEnd). Serves site most b n h0 h1 s0 s1 k0 k1 c0 c1 d0 d1 y.0.0 y.0.1 y.1) (λ k. ((sym fronts k, sym requests k), sym end k)) s
+  pub has_accounts : Serving site most i x y f kept → x.desk.accounts ≡ length site.accounts → y.desk.accounts ≡ length site.accounts
+  has_accounts v h = accounts_stay _ _ _ v.stand.told.chain ∙ h

@@ -47,14 +47,14 @@ OutcomeHow user moment what made u v (Ok reply) = Replies user moment what made 
 OutcomeHow user moment what made u v (Err e) = ((e ≡ NoMemory) × (made ≡ []) × (v ≡ u)) ⊎ (BeginsReply user moment what made × Stops e u v)
 
 -- the calls that a desk answered for what was asked are a chain, each with its front
-pub record IsOutcome (user : User) (moment : ℤ) (what : Asked) (f0 f1 : List Front) (d0 d1 : Shown) (r : Result RequestOutcome DeskError) : Type 0 where
+pub record IsOutcome (user : User) (moment : ℤ) (what : Asked) (fronts fronts' : List Front) (d d' : Shown) (r : Result RequestOutcome DeskError) : Type 0 where
   pub made : List Made
   pub desk : Shown
-  pub chain : Chain d0 desk made
-  pub fronts : f1 ≡ f0 ++ map front_of made
+  pub chain : Chain d desk made
+  pub added : fronts' ≡ fronts ++ map front_of made
   -- a request has at most 16 calls
   pub few : length made ≤ 16
-  pub how : OutcomeHow user moment what made desk d1 r
+  pub how : OutcomeHow user moment what made desk d' r
 
 -- ---- a message
 
@@ -65,10 +65,10 @@ module _ (site : Site) (close : Bool) where
   AnswerHow u v exchange (Err e) = Begun site close exchange e u v
 
   -- what was made of a message, with what clock, fronts and desk were before and after
-  pub record AnswersMessage (message : Message) (c0 c1 : Option (ℕ → ℤ)) (f0 f1 : List Front) (d0 d1 : Shown) (r : Result (Vec ℕ Global) DeskError) : Type 0 where
+  pub record AnswersMessage (message : Message) (clock clock' : Option (ℕ → ℤ)) (fronts fronts' : List Front) (d d' : Shown) (r : Result (Vec ℕ Global) DeskError) : Type 0 where
     pub exchange : Exchange
     pub is : exchange.message ≡ message
     -- the desk behind the calls that it answered
     pub desk : Shown
-    pub told : Told c0 c1 f0 f1 d0 desk (exchange ∷ [])
-    pub how : AnswerHow desk d1 exchange r
+    pub told : Told clock clock' fronts fronts' d desk (exchange ∷ [])
+    pub how : AnswerHow desk d' exchange r

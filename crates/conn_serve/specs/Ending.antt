@@ -1,7 +1,7 @@
 -- How a connection ends that wasn't served to the end of its bytes.
-use Rattle.std.specs.Prelude.{◌≡◌, ◌≤◌, ℕ, List, Option}
+use Rattle.std.specs.Prelude.{◌≡◌, ◌≤◌, ℕ, List}
 use Rattle.model_connection.specs.Serving.{refusal_text}
-use Rattle.io_edge.specs.Outside.{Grows, GrowsByPrefix, Rose}
+use Rattle.io_edge.specs.Outside.{Grows, GrowsByPrefix, Rose, SinkShown}
 use Rattle.model_batch.specs.declared.desk.DeskError.{DeskError}
 use Rattle.model_batch.specs.declared.desk.DeskError.TheVariants as desk
 use Rattle.model_connection.specs.declared.served.ConnEnd.{ConnEnd}
@@ -11,13 +11,13 @@ abbrev pub end_for : DeskError → ConnEnd
 end_for desk.PassSpent = PassSpent
 end_for desk.NoMemory = NoMemory
 
--- the response to a head that is refused with this status was given, or a front of it, or none of it
-abbrev pub RefusalHow : Option (List ℕ) → Option (List ℕ) → ℕ → ℕ → ℕ → ConnEnd → Type 0
-RefusalHow held0 held1 k0 k1 status (BadHead s) = (s ≡ status) × Grows held0 held1 (refusal_text status)
-RefusalHow held0 held1 k0 k1 status WriteFault = GrowsByPrefix held0 held1 (refusal_text status) × Rose k0 k1
-RefusalHow held0 held1 k0 k1 status NoMemory = held1 ≡ held0
-RefusalHow held0 held1 k0 k1 status _ = ⊥
+-- the response to a head that is refused with this status was given, or a prefix of it, or none of it
+abbrev pub RefusalHow : SinkShown → SinkShown → ℕ → ConnEnd → Type 0
+RefusalHow k k' status (BadHead s) = (s ≡ status) × Grows k.holds k'.holds (refusal_text status)
+RefusalHow k k' status WriteFault = GrowsByPrefix k.holds k'.holds (refusal_text status) × Rose k.faults k'.faults
+RefusalHow k k' status NoMemory = k'.holds ≡ k.holds
+RefusalHow k k' status _ = ⊥
 
-pub record IsRefusalEnd (held0 held1 : Option (List ℕ)) (k0 k1 status : ℕ) (end : ConnEnd) : Type 0 where
-  pub later : k0 ≤ k1
-  pub how : RefusalHow held0 held1 k0 k1 status end
+pub record IsRefusalEnd (k k' : SinkShown) (status : ℕ) (end : ConnEnd) : Type 0 where
+  pub later : k.faults ≤ k'.faults
+  pub how : RefusalHow k k' status end

@@ -7,6 +7,8 @@ ghost use Rattle.http_edge.specs.Reading.{message_shown};
 ghost use Rattle.conn_serve.specs.Ending.{IsRefusalEnd, end_for};
 
 use crate::answer::answer;
+use model_batch::desk::{Desk, DeskError, Front};
+use model_connection::served::{ConnEnd, MOST_MESSAGES, Served};
 use http_edge::bytes::Bytes;
 use http_edge::kept::Kept;
 use http_edge::message::Message;
@@ -19,9 +21,6 @@ use model_batch::desk::{Desk, DeskError, Front};
 use model_connection::served::{ConnEnd, Served};
 use session_doc::Site;
 use std::alloc::{AllocError, Global};
-
-/// The most messages of a connection that are answered.
-const MOST_MESSAGES: u64 = 10_000;
 
 /// Answers the messages of a connection for the users of a site, in order (RFC 9112, RFC 8620 section 3).
 ///
@@ -36,10 +35,9 @@ pub fn serve_connection<S: Source, K: Sink, D: Desk, C: Clock>(
     clock: &mut C,
 ) -> Served
     requires { (D.shown desk.old).accounts ≡ length site.now.accounts }
-    ensures { Serves site.now 10000 (S.shown source.old).left (S.shown source.new).left (K.shown sink.old).holds (K.shown sink.new).holds
-        (S.shown source.old).faults (S.shown source.new).faults (K.shown sink.old).faults (K.shown sink.new).faults
-        (C.moments clock.old) (C.moments clock.new) (D.shown desk.old) (D.shown desk.new)
-        result.fronts.items result.requests result.end }
+    ensures { Serves site.now MOST_MESSAGES
+        (record { source = S.shown source.old; sink = K.shown sink.old; clock = C.moments clock.old; desk = D.shown desk.old })
+        (record { source = S.shown source.new; sink = K.shown sink.new; clock = C.moments clock.new; desk = D.shown desk.new }) result }
 {
     serve_at_most(alloc, MOST_MESSAGES, site, source, sink, desk, clock)
 }
@@ -54,10 +52,9 @@ fn serve_at_most<S: Source, K: Sink, D: Desk, C: Clock>(
     clock: &mut C,
 ) -> Served
     requires { (D.shown desk.old).accounts ≡ length site.now.accounts }
-    ensures { Serves site.now most (S.shown source.old).left (S.shown source.new).left (K.shown sink.old).holds (K.shown sink.new).holds
-        (S.shown source.old).faults (S.shown source.new).faults (K.shown sink.old).faults (K.shown sink.new).faults
-        (C.moments clock.old) (C.moments clock.new) (D.shown desk.old) (D.shown desk.new)
-        result.fronts.items result.requests result.end }
+    ensures { Serves site.now most
+        (record { source = S.shown source.old; sink = K.shown sink.old; clock = C.moments clock.old; desk = D.shown desk.old })
+        (record { source = S.shown source.new; sink = K.shown sink.new; clock = C.moments clock.new; desk = D.shown desk.new }) result }
 {
     let mut kept = Kept::new(alloc);
     let mut fronts = Vec::new(alloc);
@@ -122,7 +119,7 @@ fn end_for(error: DeskError) -> ConnEnd
 // Gives the response to a head that is refused.
 fn refuse<K: Sink>(alloc: Global, sink: &mut K, status: u16) -> ConnEnd
     requires { IsStatus status }
-    ensures { IsRefusalEnd (K.shown sink.old).holds (K.shown sink.new).holds (K.shown sink.old).faults (K.shown sink.new).faults status result }
+    ensures { IsRefusalEnd (K.shown sink.old) (K.shown sink.new) status result }
 {
     let Ok(bytes) = refusal_bytes(alloc, status) else {
         return ConnEnd::NoMemory;

@@ -60,14 +60,14 @@ length-more : (bytes more : List ℕ) (n : ℕ) → head_length bytes ≡ Some n
 length-more bytes more n e = sym (search_ahead Within (bytes ++ more)) ∙ search-more Within bytes more n (search_ahead Within bytes ∙ e)
 
 -- the first k bytes of more bytes
-front_more : (k : ℕ) (bytes more : List ℕ) → (x : List ℕ) × (take k (bytes ++ more) ≡ take k bytes ++ x)
-front_more zero bytes more = ([], refl)
-front_more (suc k) [] more = (take (suc k) more, refl)
-front_more (suc k) (b ∷ bytes) more = let r = front_more k bytes more in (r.0, ap (λ l. b ∷ l) r.1)
+prefix_more : (k : ℕ) (bytes more : List ℕ) → (x : List ℕ) × (take k (bytes ++ more) ≡ take k bytes ++ x)
+prefix_more zero bytes more = ([], refl)
+prefix_more (suc k) [] more = (take (suc k) more, refl)
+prefix_more (suc k) (b ∷ bytes) more = let r = prefix_more k bytes more in (r.0, ap (λ l. b ∷ l) r.1)
 
 pub ended_more : (bytes more : List ℕ) (size : ℕ) → head_end bytes ≡ ended size → head_end (bytes ++ more) ≡ ended size
 ended_more bytes more size e =
-    let x = front_more 16384 bytes more in
+    let x = prefix_more 16384 bytes more in
     let h : head_length (take 16384 bytes) ≡ Some size = ended_at (head_length (take 16384 bytes)) bytes size e in
     ap (λ o. end_at o (bytes ++ more)) (ap head_length x.1 ∙ length-more (take 16384 bytes) x.0 size h)
 
@@ -107,18 +107,18 @@ pub open_none : (p : List ℕ) (s : State) → IsSearched p s → head_length p 
 unfolding search_from
 open_none p s h = ap head_length (sym (append-nil p)) ∙ h []
 
-pub front_end : (bytes : List ℕ) (size : ℕ) → head_length (take 16384 bytes) ≡ Some size → head_end bytes ≡ ended size
-front_end bytes size e = ap (λ o. end_at o bytes) e
+pub prefix_end : (bytes : List ℕ) (size : ℕ) → head_length (take 16384 bytes) ≡ Some size → head_end bytes ≡ ended size
+prefix_end bytes size e = ap (λ o. end_at o bytes) e
 
-pub front_full : (bytes : List ℕ) → 16384 ≤ length bytes → head_length (take 16384 bytes) ≡ None → head_end bytes ≡ too_long
-front_full bytes h e = ap (λ o. end_at o bytes) e ∙ ap (λ t. cond t too_long unended) (is_full (length bytes) h)
+pub prefix_full : (bytes : List ℕ) → 16384 ≤ length bytes → head_length (take 16384 bytes) ≡ None → head_end bytes ≡ too_long
+prefix_full bytes h e = ap (λ o. end_at o bytes) e ∙ ap (λ t. cond t too_long unended) (is_full (length bytes) h)
 
-pub front_open : (bytes : List ℕ) → length bytes < 16384 → head_length (take 16384 bytes) ≡ None → head_end bytes ≡ unended
-front_open bytes h e = ap (λ o. end_at o bytes) e ∙ ap (λ t. cond t too_long unended) (not_full (length bytes) h)
+pub prefix_open : (bytes : List ℕ) → length bytes < 16384 → head_length (take 16384 bytes) ≡ None → head_end bytes ≡ unended
+prefix_open bytes h e = ap (λ o. end_at o bytes) e ∙ ap (λ t. cond t too_long unended) (not_full (length bytes) h)
 
 -- ---- the first bytes, as far as a head may go
 
-pub front_same : (kept slice : List ℕ) (front : ℕ) → slice ≡ kept → front ≡ min (length kept) 16384 → take front slice ≡ take 16384 kept
-front_same kept slice front e f =
+pub prefix_same : (kept slice : List ℕ) (front : ℕ) → slice ≡ kept → front ≡ min (length kept) 16384 → take front slice ≡ take 16384 kept
+prefix_same kept slice front e f =
     let m : front ≡ min 16384 (length kept) = omega (arith, f) in
     ap₂ take m e ∙ take_min 16384 kept

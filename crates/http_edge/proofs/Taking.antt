@@ -1,26 +1,41 @@
 -- Bytes taken from a source, piece after piece.
-use Rattle.std.proofs.Common.{ℕ, ◌≤◌, List, [], ◌++◌, Option, sym, ap, ◌∙◌, append_assoc, append-nil, arith}
+use Rattle.std.proofs.Common.{◌≡◌, ℕ, ◌+◌, ◌≤◌, List, [], ◌++◌, inl, inr, length, length-append, refl, sym, ap, ◌∙◌, subst, take, append_assoc, append-nil, arith}
 use Rattle.std.proofs.KnownBytes.{Consumes-nil, Consumes-trans}
-use Rattle.io_edge.specs.Outside.{Rose}
-use Rattle.http_edge.specs.Reading.{Took, StopCause}
+use Rattle.io_edge.specs.Outside.{Rose, SourceShown}
+use Rattle.http_edge.specs.Reading.{AskedWhile, Took, StopCause}
+use Rattle.std.proofs.lemmas.List.{take-append-le}
+use Rattle.http_edge.specs.Searches.{IsSearched}
+use Rattle.http_edge.specs.declared.search.State.{State}
 use Rattle.http_edge.specs.declared.kept.Stop.{Stop}
 use Rattle.http_edge.specs.declared.kept.Stop.TheVariants.{Ended, Failed, NoMemory}
 
-pub took_none : (left : Option (List ℕ)) (faults : ℕ) (kept : List ℕ) → Took left left faults faults kept kept
-took_none left faults kept = record { taken = []; consumed = Consumes-nil left; rose = omega arith; grown = sym (append-nil kept) }
+pub took_none : (s : SourceShown) (kept : List ℕ) → Took s s kept kept
+took_none s kept = record { taken = []; consumed = Consumes-nil s.left; later = omega arith; grown = sym (append-nil kept) }
 
-pub took_more : {a b c : Option (List ℕ)} {f g h : ℕ} {old mid kept : List ℕ} → Took a b f g old mid → Took b c g h mid kept → Took a c f h old kept
-took_more {a} {b} {c} {f} {g} {h} {old} {mid} {kept} t u = record {
-  taken = t.taken ++ u.taken;
-  consumed = Consumes-trans a b c t.taken u.taken t.consumed u.consumed;
-  rose = omega (arith, t.rose, u.rose);
-  grown = u.grown ∙ ap (λ l. l ++ u.taken) t.grown ∙ append_assoc old t.taken u.taken;
+pub took_more : {s t u : SourceShown} {old mid kept : List ℕ} → Took s t old mid → Took t u mid kept → Took s u old kept
+took_more {s} {t} {u} {old} {mid} {kept} one two = record {
+  taken = one.taken ++ two.taken;
+  consumed = Consumes-trans s.left t.left u.left one.taken two.taken one.consumed two.consumed;
+  later = omega (arith, one.later, two.later);
+  grown = two.grown ∙ ap (λ l. l ++ two.taken) one.grown ∙ append_assoc old one.taken two.taken;
 }
 
 rose_earlier : (f g h : ℕ) → f ≤ g → Rose g h → Rose f h
 rose_earlier f g h e r = omega (arith, e, r)
 
-pub stop_earlier : (now : Option (List ℕ)) (f g h : ℕ) (stop : Stop) → f ≤ g → StopCause now g h stop → StopCause now f h stop
-stop_earlier now f g h Ended e s = s
-stop_earlier now f g h Failed e s = rose_earlier f g h e s
-stop_earlier now f g h NoMemory e s = tt
+pub stop_earlier : (s t u : SourceShown) (stop : Stop) → s.faults ≤ t.faults → StopCause t u stop → StopCause s u stop
+stop_earlier s t u Ended e c = c
+stop_earlier s t u Failed e c = rose_earlier s.faults t.faults u.faults e c
+stop_earlier s t u NoMemory e c = tt
+
+-- a piece of at most so many bytes was asked for while the bytes were such
+pub asked_for : (Such : List ℕ → Type 0) (most : ℕ) {s t u : SourceShown} {old mid kept : List ℕ} → Took s t old mid → Took t u mid kept → length kept ≤ length mid + most → Such mid → AskedWhile Such most s u old kept
+asked_for Such most {s} {t} {u} {old} {mid} {kept} one two few such =
+    let size = ap length two.grown ∙ length-append mid two.taken in
+    inr (one.taken, two.taken, two.grown ∙ ap (λ l. l ++ two.taken) one.grown, omega (arith, size, few), subst Such one.grown such)
+
+-- what was searched is searched still when more bytes have come
+pub searched_still : {s t : SourceShown} (kept slice kept' : List ℕ) (searched : ℕ) (state : State) → slice ≡ kept → Took s t kept kept' → searched ≤ length kept → IsSearched (take searched slice) state → IsSearched (take searched kept') state
+searched_still kept slice kept' searched state is took within found =
+    let same : take searched slice ≡ take searched kept' = ap (take searched) is ∙ (sym (take-append-le searched kept took.taken within) ∙ ap (take searched) (sym took.grown)) in
+    subst (λ (l : List ℕ). IsSearched l state) same found

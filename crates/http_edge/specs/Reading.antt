@@ -1,8 +1,8 @@
 -- What the calls of this crate leave and answer, in the words of `Http`.
-use Rattle.std.specs.Prelude.{◌≡◌, ℕ, ◌≤◌, List, [], ◌∷◌, ◌++◌, Option, Result, Ok, Err, if◌then◌else◌, ⊤}
+use Rattle.std.specs.Prelude.{◌≡◌, ◌⊎◌, ℕ, ◌≤◌, List, [], ◌∷◌, ◌++◌, Option, Result, Ok, Err, if◌then◌else◌, length, ⊤}
 use Rattle.std.specs.Str.Parse.{digits_value}
 use Rattle.std.specs.Io.KnownBytes.{Consumes, IsAtEnd}
-use Rattle.io_edge.specs.Outside.{Rose}
+use Rattle.io_edge.specs.Outside.{Rose, SourceShown}
 use Rattle.httparse.specs.Grammar.{RequestHead}
 use Rattle.model_http.specs.Fields as fields
 use Rattle.model_http.specs.Fields.{asks_close, is_length, is_length_of, token_of}
@@ -23,6 +23,7 @@ use Rattle.http_edge.specs.declared.next.HeadEnd.{HeadEnd}
 use Rattle.http_edge.specs.declared.next.HeadEnd.TheVariants as head_end
 use Rattle.http_edge.specs.declared.next.Next.{Next}
 use Rattle.http_edge.specs.declared.next.Next.TheVariants as next
+use Rattle.model_http.specs.declared.limits.TheConstants.{PIECE}
 use Rattle.http_edge.specs.declared.response.Response.{Response}
 
 -- ---- the types of the code, as plain data
@@ -70,34 +71,41 @@ IsHeadRefusal bytes head_error.NoMemory = ⊤
 -- ---- sources
 
 -- some bytes were taken from a source, and stand behind those that were kept
-pub record Took (left now : Option (List ℕ)) (faults later : ℕ) (old kept : List ℕ) : Type 0 where
+pub record Took (s s' : SourceShown) (kept kept' : List ℕ) : Type 0 where
   pub taken : List ℕ
-  pub consumed : Consumes left now taken
-  pub rose : faults ≤ later
-  pub grown : kept ≡ old ++ taken
+  pub consumed : Consumes s.left s'.left taken
+  pub later : s.faults ≤ s'.faults
+  pub grown : kept' ≡ kept ++ taken
 
 -- why no more came
-abbrev pub StopCause : Option (List ℕ) → ℕ → ℕ → Stop → Type 0
-StopCause now faults later stop.Ended = IsAtEnd now
-StopCause now faults later stop.Failed = Rose faults later
-StopCause now faults later stop.NoMemory = ⊤
+abbrev pub StopCause : SourceShown → SourceShown → Stop → Type 0
+StopCause s s' stop.Ended = IsAtEnd s'.left
+StopCause s s' stop.Failed = Rose s.faults s'.faults
+StopCause s s' stop.NoMemory = ⊤
+
+-- The source wasn't asked; or it was asked for the last piece, of at most so many bytes, while the bytes before that piece were such.
+abbrev pub AskedWhile : (List ℕ → Type 0) → ℕ → SourceShown → SourceShown → List ℕ → List ℕ → Type 0
+AskedWhile Such most s s' kept kept' = ((kept' ≡ kept) × (s' ≡ s))
+    ⊎ ((earlier : List ℕ) × (last : List ℕ) × (kept' ≡ (kept ++ earlier) ++ last) × (length last ≤ most) × Such (kept ++ earlier))
 
 -- ---- messages
 
 -- what the answer says of the bytes that were there and came, and of those that are kept now
-abbrev pub NextIs : List ℕ → List ℕ → Option (List ℕ) → ℕ → ℕ → Next → Type 0
-NextIs bytes kept now faults later (next.Message m) = BeginsWith bytes (whole (message_shown m) kept)
-NextIs bytes kept now faults later (next.BadHead status) = BeginsWith bytes (refused status) × (kept ≡ bytes)
-NextIs bytes kept now faults later next.End = (bytes ≡ []) × (kept ≡ []) × IsAtEnd now
-NextIs bytes kept now faults later next.Truncated = BeginsWith bytes partial × (kept ≡ bytes) × IsAtEnd now
-NextIs bytes kept now faults later next.ReadFault = IsUndecided bytes × (kept ≡ bytes) × Rose faults later
-NextIs bytes kept now faults later next.NoMemory = kept ≡ bytes
+abbrev pub NextIs : SourceShown → SourceShown → List ℕ → List ℕ → Next → Type 0
+NextIs s s' bytes kept (next.Message m) = BeginsWith bytes (whole (message_shown m) kept)
+NextIs s s' bytes kept (next.BadHead status) = BeginsWith bytes (refused status) × (kept ≡ bytes)
+NextIs s s' bytes kept next.End = (bytes ≡ []) × (kept ≡ []) × IsAtEnd s'.left
+NextIs s s' bytes kept next.Truncated = BeginsWith bytes partial × (kept ≡ bytes) × IsAtEnd s'.left
+NextIs s s' bytes kept next.ReadFault = IsUndecided bytes × (kept ≡ bytes) × Rose s.faults s'.faults
+NextIs s s' bytes kept next.NoMemory = kept ≡ bytes
 
-pub record GivesNext (left now : Option (List ℕ)) (faults later : ℕ) (old kept : List ℕ) (answer : Next) : Type 0 where
+pub record GivesNext (s s' : SourceShown) (kept kept' : List ℕ) (answer : Next) : Type 0 where
   pub taken : List ℕ
-  pub consumed : Consumes left now taken
-  pub rose : faults ≤ later
-  pub how : NextIs (old ++ taken) kept now faults later answer
+  pub consumed : Consumes s.left s'.left taken
+  pub later : s.faults ≤ s'.faults
+  -- nothing is asked of the source while the bytes begin with a whole message or with a head that is refused
+  pub asked : AskedWhile IsUndecided PIECE s s' kept (kept ++ taken)
+  pub how : NextIs s s' (kept ++ taken) kept' answer
 
 -- what the end of input is, where no head has ended
 abbrev pub ended_with : List ℕ → Next

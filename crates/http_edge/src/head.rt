@@ -10,16 +10,14 @@ ghost use Rattle.http_edge.specs.declared.head.HeadError.TheVariants.{NoMemory};
 
 use crate::bytes::Bytes;
 use crate::fields::{ContentLength, ascii_text, content_length, first_of, is_closing, token_in};
+use model_core::limits::MAX_SIZE_REQUEST;
+use model_http::limits::{MOST_FIELDS, MOST_LINES};
+use model_json::text::Text;
 use httparse::Status;
 use httparse::spans::{EMPTY_HEADER_SPAN, HeaderSpan, RequestSpans, parse_request};
 use model_core::limits::MAX_SIZE_REQUEST;
 use model_json::text::Text;
 use std::alloc::{AllocError, Global};
-
-/// The most fields of a head.
-const MOST_FIELDS: usize = 64;
-/// The most line feeds of a head.
-const MOST_LINES: usize = 66;
 
 /// What a head says.
 #[derive(Drop)]
@@ -84,7 +82,7 @@ fn count_feeds(bytes: &[u8]) -> usize
 
 // Where the parts stand of a head that is exactly these bytes.
 fn parse_head(head: &[u8], fields: &mut [HeaderSpan]) -> Option<RequestSpans>
-    requires { length fields.old ≡ 64 }
+    requires { length fields.old ≡ MOST_FIELDS }
     ensures some { IfSome result (λ spans. IsRequestWithin head.now fields.new spans
         × (h : RequestHead) × IsHead head.now h × IsRequestAt head.now fields.new spans h) }
     ensures none { IfNone result ((h : RequestHead) → IsHead head.now h → ⊥) }

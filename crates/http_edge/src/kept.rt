@@ -1,12 +1,19 @@
 //! Bytes that were read and not used.
-ghost use Rattle.std.specs.Prelude.{◌≡◌, ◌≤◌, ◌<◌, [], length, drop, OnOk, IfErr};
+ghost use Rattle.std.specs.Prelude.{◌≡◌, ◌≤◌, ◌<◌, ◌+◌, [], length, drop, OnOk, IfErr};
 ghost use Rattle.http_edge.specs.Reading.{StopCause, Took};
 
 use io_edge::source::Source;
+use model_core::limits::MAX_SIZE_REQUEST;
+use model_http::limits::{MOST_HEAD, PIECE};
 use std::alloc::Global;
 use std::marker::Model;
 
+/// The most bytes that are held at once, with those that were used: a head, a body, and a piece.
+pub const MOST_HELD: usize = MOST_HEAD + MAX_SIZE_REQUEST + PIECE;
+
 /// Bytes that were read from a source and not used. Contracts see their list.
+///
+/// With those that were used it holds at most `MOST_HELD` bytes, however many a connection has.
 #[derive(Drop)]
 pub struct Kept {
     bytes: Vec<u8>,
@@ -16,12 +23,13 @@ pub struct Kept {
 
 impl Model for Kept {
     ghost use Rattle.std.specs.Prelude.{List, ℕ, ◌≤◌, length, drop};
+    ghost use Rattle.http_edge.specs.declared.kept.TheConstants.{MOST_HELD};
 
     ghost Value = { List ℕ };
 
     ghost view = { λ k. drop k.used k.bytes.items };
 
-    ghost invariant = { λ k. k.used ≤ length k.bytes.items };
+    ghost invariant = { λ k. (k.used ≤ length k.bytes.items) × (length k.bytes.items ≤ MOST_HELD) };
 }
 
 /// Why no more bytes came.
@@ -69,12 +77,16 @@ impl Kept {
         source: &mut S,
         piece: &mut [u8],
     ) -> Result<(), Stop>
-        requires { 0 < length piece.old }
-        ensures took { Took (S.shown source.old).left (S.shown source.new).left (S.shown source.old).faults (S.shown source.new).faults self.old self.new }
+        requires some { 0 < length piece.old }
+        requires piece { length piece.old ≤ PIECE }
+        requires few { length self.old ≤ MOST_HEAD + MAX_SIZE_REQUEST }
+        ensures took { Took (S.shown source.old) (S.shown source.new) self.old self.new }
         ensures more { OnOk result (length self.old < length self.new) }
-        ensures stop { IfErr result (λ stop. (self.new ≡ self.old) × StopCause (S.shown source.new).left (S.shown source.old).faults (S.shown source.new).faults stop) }
+        ensures most { length self.new ≤ length self.old + length piece.old }
+        ensures stop { IfErr result (λ stop. (self.new ≡ self.old) × StopCause (S.shown source.old) (S.shown source.new) stop) }
     {
-        self.close_up();
+        drop_first(&mut self.bytes, self.used);
+        self.used = 0;
         match self.bytes.reserve(piece.len()) {
             Ok(()) => {}
             Err(_) => return Err(Stop::NoMemory),
@@ -89,15 +101,15 @@ impl Kept {
             Err(_) => unreachable!(),
         }
     }
+}
 
-    // Moves the bytes to the front of the memory, over those that were used.
-    fn close_up(&mut self)
-        ensures { self.new ≡ self.old }
-    {
-        if self.used > 0 {
-            self.bytes.rotate_left(self.used);
-            self.bytes.truncate(self.bytes.len() - self.used);
-            self.used = 0;
-        }
+// Moves the bytes behind the first ones over these.
+fn drop_first(bytes: &mut Vec<u8>, count: usize)
+    requires { count ≤ length bytes.old.items }
+    ensures { bytes.new.items ≡ drop count bytes.old.items }
+{
+    if count > 0 {
+        bytes.rotate_left(count);
+        bytes.truncate(bytes.len() - count);
     }
 }

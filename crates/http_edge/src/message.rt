@@ -22,7 +22,7 @@ pub struct Message {
     pub body: Bytes,
 }
 
-/// Takes a message off the front, whose head has so many bytes and says this. Takes memory for the body.
+/// Takes a message off the beginning, whose head has so many bytes and says this. Takes memory for the body.
 pub(crate) fn take_message(
     alloc: Global,
     kept: &mut Kept,

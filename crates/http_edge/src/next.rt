@@ -1,19 +1,16 @@
 //! The next message of a source.
-ghost use Rattle.std.specs.Prelude.{◌≡◌, ◌≤◌, ◌<◌, ℕ, length, IfOk, OnOk, IfErr};
+ghost use Rattle.std.specs.Prelude.{◌≡◌, ◌+◌, ◌≤◌, ◌<◌, length, IfOk, OnOk, IfErr};
 ghost use Rattle.model_http.specs.Heads.{head_end, unended};
-ghost use Rattle.http_edge.specs.Reading.{GivesNext, StopCause, Took, end_shown, ended_with};
+ghost use Rattle.http_edge.specs.Reading.{AskedWhile, GivesNext, StopCause, Took, end_shown, ended_with};
 
 use crate::head::{HeadError, read_head};
 use crate::kept::{Kept, Stop};
 use crate::message::{Message, take_message};
 use crate::search::{Search, State, go_on};
 use io_edge::source::Source;
+use model_core::limits::MAX_SIZE_REQUEST;
+use model_http::limits::{MOST_HEAD, PIECE};
 use std::alloc::Global;
-
-/// How many bytes are asked of a source at once.
-const PIECE: usize = 16_384;
-/// The most bytes of a head.
-const MOST_HEAD: usize = 16_384;
 
 /// What a source gives next.
 #[derive(Drop)]
@@ -34,10 +31,11 @@ pub enum Next {
 
 /// Gives the next message of the bytes that `kept` holds and those that the source gives behind them.
 ///
-/// `kept` has the bytes behind the message then, or all of them where there is none. Takes memory for the message and for the bytes
-/// that were taken and not used; nothing that was taken is lost for want of it.
+/// `kept` has the bytes behind the message then, or all of them where there is none. The source is asked only while the bytes begin neither
+/// with a whole message nor with a head that is refused. Takes memory for the message and for the bytes that were taken and not used; nothing
+/// that was taken is lost for want of it.
 pub fn next_message<S: Source>(alloc: Global, source: &mut S, kept: &mut Kept) -> Next
-    ensures { GivesNext (S.shown source.old).left (S.shown source.new).left (S.shown source.old).faults (S.shown source.new).faults kept.old kept.new result }
+    ensures { GivesNext (S.shown source.old) (S.shown source.new) kept.old kept.new result }
 {
     let mut piece = [0; PIECE];
     let size = match find_head(source, kept, &mut piece) {
@@ -69,46 +67,49 @@ pub fn next_message<S: Source>(alloc: Global, source: &mut S, kept: &mut Kept) -
 enum HeadEnd {
     /// Behind so many bytes.
     At(usize),
-    /// Not in the first 16,384 bytes.
+    /// Not in the first `MOST_HEAD` bytes.
     TooLong,
 }
 
-// Takes bytes until it is known where the head at the front ends. Each byte is looked at once.
-#[tactic(auto, using(crate::proofs::Taking::took_none, crate::proofs::Taking::took_more, crate::proofs::Taking::stop_earlier))]
+// Takes bytes until it is known where the head that they begin with ends. Each byte is looked at once.
+#[tactic(auto, using(crate::proofs::Taking::took_none, crate::proofs::Taking::took_more, crate::proofs::Taking::stop_earlier, crate::proofs::Taking::asked_for))]
 fn find_head<S: Source>(source: &mut S, kept: &mut Kept, piece: &mut [u8]) -> Result<HeadEnd, Stop>
-    requires { 0 < length piece.old }
-    ensures took { Took (S.shown source.old).left (S.shown source.new).left (S.shown source.old).faults (S.shown source.new).faults kept.old kept.new }
+    requires { length piece.old ≡ PIECE }
+    ensures took { Took (S.shown source.old) (S.shown source.new) kept.old kept.new }
+    ensures asked { AskedWhile (λ bytes. head_end bytes ≡ unended) PIECE (S.shown source.old) (S.shown source.new) kept.old kept.new }
     ensures end { IfOk result (λ end. head_end kept.new ≡ end_shown end) }
-    ensures stop { IfErr result (λ stop. (head_end kept.new ≡ unended) × StopCause (S.shown source.new).left (S.shown source.old).faults (S.shown source.new).faults stop) }
+    ensures stop { IfErr result (λ stop. (head_end kept.new ≡ unended) × StopCause (S.shown source.old) (S.shown source.new) stop) }
 {
     let mut searched = 0;
     let mut state = State::Within;
     loop {
-        let front = kept.as_slice().len().min(MOST_HEAD);
-        match go_on(&kept.as_slice()[..front], searched, state) {
+        let prefix = kept.as_slice().len().min(MOST_HEAD);
+        match go_on(&kept.as_slice()[..prefix], searched, state) {
             Search::Ended(size) => return Ok(HeadEnd::At(size)),
             Search::Open(next) => state = next,
         }
-        if front == MOST_HEAD {
+        if prefix == MOST_HEAD {
             return Ok(HeadEnd::TooLong);
         }
-        searched = front;
+        searched = prefix;
         kept.take_more(source, piece)?;
     }
 }
 
 // Takes bytes until there are so many.
-#[tactic(auto, using(crate::proofs::Taking::took_none, crate::proofs::Taking::took_more, crate::proofs::Taking::stop_earlier))]
+#[tactic(auto, using(crate::proofs::Taking::took_none, crate::proofs::Taking::took_more, crate::proofs::Taking::stop_earlier, crate::proofs::Taking::asked_for))]
 fn take_until<S: Source>(
     source: &mut S,
     kept: &mut Kept,
     piece: &mut [u8],
     wanted: usize,
 ) -> Result<(), Stop>
-    requires { 0 < length piece.old }
-    ensures took { Took (S.shown source.old).left (S.shown source.new).left (S.shown source.old).faults (S.shown source.new).faults kept.old kept.new }
+    requires piece { length piece.old ≡ PIECE }
+    requires most { wanted ≤ MOST_HEAD + MAX_SIZE_REQUEST }
+    ensures took { Took (S.shown source.old) (S.shown source.new) kept.old kept.new }
+    ensures asked { AskedWhile (λ bytes. length bytes < wanted) PIECE (S.shown source.old) (S.shown source.new) kept.old kept.new }
     ensures there { OnOk result (wanted ≤ length kept.new) }
-    ensures stop { IfErr result (λ stop. (length kept.new < wanted) × StopCause (S.shown source.new).left (S.shown source.old).faults (S.shown source.new).faults stop) }
+    ensures stop { IfErr result (λ stop. (length kept.new < wanted) × StopCause (S.shown source.old) (S.shown source.new) stop) }
 {
     while kept.as_slice().len() < wanted {
         kept.take_more(source, piece)?;

@@ -1,7 +1,8 @@
 //! The program `jmapd`: runs the command that its words name over the system's files, streams and clock.
 #![tactic(auto)]
 
-ghost use Rattle.std.specs.Prelude.{◌≡◌};
+ghost use Rattle.std.specs.Prelude.{◌≡◌, ◌≢◌};
+ghost use Rattle.std.specs.Process.{exit_status as ends_with};
 ghost use Rattle.jmapd_run.specs.Statuses.{exit_status};
 
 use io_edge::streams::{ReaderSource, WriterSink};
@@ -9,15 +10,15 @@ use io_edge::system_clock::SystemClock;
 use io_edge::system_files::SystemFiles;
 use jmapd_run::run::run;
 use jmapd_run::status::Status;
-use model_site::field::Field;
 use std::alloc::Global;
 use std::process::ExitCode;
 use std::{env, io};
 
-fn exit_code(status: Status) -> u8
-    ensures { result ≡ exit_status status }
+/// What the process ends with.
+fn exit_code(status: Status) -> ExitCode
+    ensures { ends_with result ≡ exit_status status }
 {
-    match status {
+    ExitCode::from(match status {
         Status::Done => 0,
         Status::Refused => 1,
         Status::Usage => 2,
@@ -27,18 +28,7 @@ fn exit_code(status: Status) -> u8
         Status::OpenFault => 6,
         Status::NoMemory => 7,
         Status::Cut => 8,
-    }
-}
-
-/// The name of a field of a configuration.
-fn field_name(field: Field) -> &'static str {
-    match field {
-        Field::Json => "json",
-        Field::BaseUrl => "baseUrl",
-        Field::Accounts => "accounts",
-        Field::Users => "users",
-        Field::Zones => "zones",
-    }
+    })
 }
 
 /// The line on standard error that tells of every status but `Done`.
@@ -48,7 +38,7 @@ fn message(alloc: Global, status: Status) -> io::Result<String> {
         Status::Refused => "jmapd: request refused",
         Status::Usage => "usage: jmapd batch|stdio|listen|workload [options]",
         Status::Config { field, index } => {
-            let field = field_name(field);
+            let field = field.name();
             return Ok(format!(in alloc; "jmapd: configuration: {field} {index}")?);
         }
         Status::ReadFault => "jmapd: read fault",
@@ -60,37 +50,62 @@ fn message(alloc: Global, status: Status) -> io::Result<String> {
     Ok(String::from_str(alloc, line)?)
 }
 
-/// The words after the program's name.
-fn words(rt: &HostRuntime) -> io::Result<Vec<String>> {
+/// How a run ends whose words weren't read: a word that isn't UTF-8 is no command's.
+fn unread(error: io::ErrorKind) -> Status
+    ensures memory { error ≡ io::ErrorKind.OutOfMemory → result ≡ Status.NoMemory }
+    ensures other { error ≢ io::ErrorKind.OutOfMemory → result ≡ Status.Usage }
+{
+    match error {
+        io::ErrorKind::OutOfMemory => Status::NoMemory,
+        _ => Status::Usage,
+    }
+}
+
+/// The words after the program's name, or how the run ends without them.
+fn words(rt: &HostRuntime) -> Result<Vec<String>, Status> {
+    let all = match env::args(rt) {
+        Ok(all) => all,
+        Err(error) => return Err(unread(error.kind())),
+    };
     let mut words = Vec::new(rt.alloc());
-    for (i, word) in env::args(rt)?.enumerate() {
-        if i > 0 {
-            words.push(word)?;
+    for (i, word) in all.enumerate() {
+        if i > 0 && words.push(word).is_err() {
+            return Err(Status::NoMemory);
         }
     }
     Ok(words)
 }
 
-fn main(rt: HostRuntime) -> ExitCode {
-    let Ok(words) = words(&rt) else {
-        return ExitCode::from(exit_code(Status::Usage));
-    };
-    let mut opener = SystemFiles::new(rt.alloc(), &rt);
+/// Runs the command that the words name.
+fn run_words(rt: &HostRuntime, words: &[String]) -> Status {
+    let mut opener = SystemFiles::new(rt.alloc(), rt);
     let mut input = ReaderSource::new(rt.reader());
-    let mut output = WriterSink::new(io::writer(&rt));
-    let mut clock = SystemClock::new(&rt);
-    let status = run(
+    let mut output = WriterSink::new(io::writer(rt));
+    let mut clock = SystemClock::new(rt);
+    run(
         rt.alloc(),
-        &words,
+        words,
         &mut opener,
         &mut input,
         &mut output,
         &mut clock,
-    );
+    )
+}
+
+/// Runs the program's command, and tells on standard error how it ended.
+fn run_here(rt: &HostRuntime) -> Status {
+    let status = match words(rt) {
+        Ok(words) => run_words(rt, &words),
+        Err(status) => status,
+    };
     if status != Status::Done
         && let Ok(line) = message(rt.alloc(), status)
     {
         let _ = rt.eprintln(line.as_str());
     }
-    ExitCode::from(exit_code(status))
+    status
+}
+
+fn main(rt: HostRuntime) -> ExitCode {
+    exit_code(run_here(&rt))
 }

@@ -8,7 +8,7 @@ use Rattle.model_batch.specs.Reply.{Replies, asked_in}
 use Rattle.model_core.specs.declared.limits.TheConstants.{MAX_SIZE_REQUEST}
 use Rattle.model_batch.specs.Chain.{Chain, Shown}
 use Rattle.account_desk.specs.FreshDesk.{IsSole, fresh_desk}
-use Rattle.jmapd_run.specs.Headline.{AnswersInput, IsAnswer}
+use Rattle.jmapd_run.specs.Headline.{AnswersInput, IsAnswer, Surroundings}
 use Rattle.model_json.specs.Json.{text_of}
 use Rattle.model_history.specs.MostTurns.{most_turns}
 use Rattle.io_edge.specs.Outside.{Grows, Ticks}
@@ -22,7 +22,7 @@ use Rattle.jmapd_run.specs.declared.status.Status.TheVariants.{Done, Refused}
 use Rattle.model_core.specs.declared.user.User.{User}
 use Rattle.conn_serve.specs.Answering.{IsOutcome, OutcomeHow}
 use Rattle.conn_serve.specs.declared.reply.RequestOutcome.{RequestOutcome}
-use Rattle.jmapd_run.specs.Runs.{RunsBatch}
+use Rattle.jmapd_run.specs.Runs.{BatchEnds}
 use Rattle.jmapd_run.specs.declared.batch.Answer.{Answer}
 
 module _ (site : Site) (user : ℕ) (bytes : List ℕ) {u : User} {moment : ℤ} {f0 f1 : List Front} {d0 d1 : Shown} where
@@ -64,10 +64,10 @@ module _ (site : Site) (user : ℕ) (bytes : List ℕ) {u : User} {moment : ℤ}
   pub spent_never : {e : DeskError} → e ≡ PassSpent → d0 ≡ fresh_desk site → IsOutcome u moment (asked_in bytes) f0 f1 d0 d1 (Err e) → ⊥
   spent_never is fresh r = never_spent fresh (subst (λ (x : DeskError). IsOutcome u moment (asked_in bytes) f0 f1 d0 d1 (Err x)) is r)
 
-module _ {site : Site} {user : ℕ} {left left' : Option (List ℕ)} {moments moments' : Option (ℕ → ℤ)} where
+module _ {site : Site} {user : ℕ} {x x' : Surroundings} where
   pub answers_with : (bytes slice text : List ℕ) (told moment : ℤ) (is_refusal : Bool)
-      → Consumes left left' bytes → length bytes ≤ MAX_SIZE_REQUEST + 1 → (length bytes ≤ MAX_SIZE_REQUEST → IsAtEnd left') → Ticks moments moments' told → slice ≡ bytes → moment ≡ clamped told
-      → IsAnswer site user moment slice is_refusal text → AnswersInput site user left left' moments moments' is_refusal text
+      → Consumes x.input.left x'.input.left bytes → length bytes ≤ MAX_SIZE_REQUEST + 1 → (length bytes ≤ MAX_SIZE_REQUEST → IsAtEnd x'.input.left) → Ticks x.clock x'.clock told → slice ≡ bytes → moment ≡ clamped told
+      → IsAnswer site user moment slice is_refusal text → AnswersInput site user x x' is_refusal text
   answers_with bytes slice text told moment is_refusal consumed most whole ticked same clamps answer = record {
     bytes = bytes;
     consumed = consumed;
@@ -78,7 +78,7 @@ module _ {site : Site} {user : ℕ} {left left' : Option (List ℕ)} {moments mo
     answer = subst (λ (y : ℤ × List ℕ). IsAnswer site user y.0 y.1 is_refusal text) (λ i. (clamps i, same i)) answer;
   }
 
-  pub batch_ends : (held held' : Option (List ℕ)) (s0 s1 k0 k1 : ℕ) {status : Status} (is_refusal : Bool) (text : List ℕ) → status ≡ (if is_refusal then Refused else Done)
-      → AnswersInput site user left left' moments moments' is_refusal text → Grows held held' text → RunsBatch left left' held held' s0 s1 k0 k1 moments moments' site user status
-  batch_ends held held' s0 s1 k0 k1 true text is answers grows = subst (RunsBatch left left' held held' s0 s1 k0 k1 moments moments' site user) (sym is) (text, answers, grows)
-  batch_ends held held' s0 s1 k0 k1 false text is answers grows = subst (RunsBatch left left' held held' s0 s1 k0 k1 moments moments' site user) (sym is) (text, answers, grows)
+  pub batch_ends : {status : Status} (is_refusal : Bool) (text : List ℕ) → status ≡ (if is_refusal then Refused else Done)
+      → AnswersInput site user x x' is_refusal text → Grows x.output.holds x'.output.holds text → BatchEnds x x' site user status
+  batch_ends true text is answers grows = subst (BatchEnds x x' site user) (sym is) (text, answers, grows)
+  batch_ends false text is answers grows = subst (BatchEnds x x' site user) (sym is) (text, answers, grows)

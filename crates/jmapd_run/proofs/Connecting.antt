@@ -1,57 +1,61 @@
 -- What a connection over fresh accounts comes to.
-use Rattle.std.proofs.Common.{◌≡◌, ◌≢◌, ◌+◌, ◌≤◌, ◌++◌, ℕ, ℤ, List, Option, Some, length-append, refl, ap, arith, subst}
+use Rattle.std.proofs.Common.{◌≡◌, ◌≢◌, ◌+◌, ◌*◌, ◌≤◌, ◌++◌, ℕ, List, Option, Some, inl, inr, length, length-append, refl, ap, arith, subst}
+use Rattle.std.specs.Prelude.{◌⊎◌}
 use Rattle.model_batch.proofs.Chains.{turns_counted}
 use Rattle.model_batch.specs.Chain.{Shown}
 use Rattle.account_desk.specs.FreshDesk.{IsSole, fresh_desk}
-use Rattle.model_connection.specs.Serving.{Serves}
+use Rattle.model_connection.specs.Serving.{EndHow, Rests, Serves, Setting}
 use Rattle.model_connection.specs.Exchanges.{all_made}
-use Rattle.conn_serve.proofs.Completeness.{spent_behind}
+use Rattle.conn_serve.proofs.Completeness.{How, spent_behind}
 use Rattle.model_site.specs.Configuration.{Site}
-use Rattle.model_batch.specs.declared.desk.Front.{Front}
 use Rattle.model_connection.specs.declared.served.ConnEnd.{ConnEnd}
 use Rattle.model_connection.specs.declared.served.ConnEnd.TheVariants as end
+use Rattle.model_connection.specs.declared.served.Served.{Served}
+use Rattle.model_connection.specs.declared.served.TheConstants.{MOST_MESSAGES}
 use Rattle.jmapd_run.specs.declared.status.Status.{Status}
-use Rattle.jmapd_run.specs.Runs.{RunsStdio, status_of}
+use Rattle.jmapd_run.specs.Headline.{Surroundings}
+use Rattle.jmapd_run.specs.Runs.{RunsStdio, status_of, with_desk}
 
-module _ {site : Site} {left left' held held' : Option (List ℕ)} {s0 s1 k0 k1 : ℕ} {moments moments' : Option (ℕ → ℤ)} {d0 d1 : Shown} {fronts : List Front} {n : ℕ} where
-  pub few_calls : {e : ConnEnd} (s : Serves site 10000 left left' held held' s0 s1 k0 k1 moments moments' d0 d1 fronts n e) → s.desk.turns ≤ d0.turns + 160000
-  few_calls s =
+module _ {site : Site} {x x' : Setting} {served : Served} (s : Serves site MOST_MESSAGES x x' served) where
+  pub few_calls : s.desk.turns ≤ x.desk.turns + 160000
+  few_calls =
       let few = s.told.few in
-      let made = turns_counted d0 s.desk (all_made (s.turns ++ s.unwritten)) s.told.chain in
-      let all = length-append s.turns s.unwritten in
+      let made = turns_counted x.desk s.desk (all_made (s.exchanges ++ s.unwritten)) s.told.chain in
+      let all = length-append s.exchanges s.unwritten in
       let count = s.count in
-      let room = s.room in
+      let room : served.requests + length s.unwritten ≤ 10000 = s.room in
       omega arith
 
-  -- where the desk answered all that it was asked
-  pub same_desk : {status : Status} (e : ConnEnd) (s : Serves site 10000 left left' held held' s0 s1 k0 k1 moments moments' d0 d1 fronts n e) → e ≢ end.NoMemory → status_of e ≡ Some status → d1 ≡ s.desk
-  same_desk end.Closed s m is = s.rests
-  same_desk end.CloseAsked s m is = s.rests
-  same_desk (end.BadHead x) s m is = s.rests
-  same_desk end.Truncated s m is = s.rests
-  same_desk end.Quota s m is = s.rests
-  same_desk end.ReadFault s m is = s.rests
-  same_desk end.WriteFault s m is = s.rests
-  same_desk end.PassSpent s m is = cc
-  same_desk end.NoMemory s m is = absurd (m refl)
+  -- the desk answered all that it was asked, or memory was wanted
+  rested : {status : Status} (e : ConnEnd) → Rests e s.desk x'.desk → status_of e ≡ Some status → (e ≡ end.NoMemory) ⊎ (x'.desk ≡ s.desk)
+  rested end.Closed r is = inr r
+  rested end.CloseAsked r is = inr r
+  rested (end.BadHead status) r is = inr r
+  rested end.Truncated r is = inr r
+  rested end.Quota r is = inr r
+  rested end.ReadFault r is = inr r
+  rested end.WriteFault r is = inr r
+  rested end.PassSpent r is = let bad : ⊥ = cc in absurd bad
+  rested end.NoMemory r is = inl refl
 
-  pub never_spent : {e : ConnEnd} → d0 ≡ fresh_desk site → Serves site 10000 left left' held held' s0 s1 k0 k1 moments moments' d0 d1 fronts n e → e ≢ end.PassSpent
-  never_spent {e} fresh s is =
-      let spent : Serves site 10000 left left' held held' s0 s1 k0 k1 moments moments' d0 d1 fronts n end.PassSpent = subst (Serves site 10000 left left' held held' s0 s1 k0 k1 moments moments' d0 d1 fronts n) is s in
+  pub same_desk : {status : Status} → status_of served.end ≡ Some status → (served.end ≡ end.NoMemory) ⊎ (x'.desk ≡ s.desk)
+  same_desk is = rested served.end s.rests is
+
+  pub never_spent : x.desk ≡ fresh_desk site → served.end ≢ end.PassSpent
+  never_spent fresh is =
+      let how : How s end.PassSpent = subst (How s) is s.how in
       let none = ap (λ (d : Shown). d.turns) fresh in
-      let few = few_calls spent in
-      let most = spent_behind spent.how.0.begun in
+      let few = few_calls in
+      let most = spent_behind how.0.begun in
       let bad : ⊥ = omega (arith, none, few, most) in
       bad
 
-  pub served_so : {e : ConnEnd} {status : Status} → d0 ≡ fresh_desk site → IsSole d1 → Serves site 10000 left left' held held' s0 s1 k0 k1 moments moments' d0 d1 fronts n e → status_of e ≡ Some status
-      → RunsStdio left left' held held' s0 s1 k0 k1 moments moments' site status
-  served_so {e} {status} fresh sole s ended = record {
-    desk = d1;
-    fronts = fronts;
-    requests = n;
-    end = e;
-    serves = subst (λ (d : Shown). Serves site 10000 left left' held held' s0 s1 k0 k1 moments moments' d d1 fronts n e) fresh s;
-    sole = sole;
-    ended = ended;
-  }
+pub served_so : {site : Site} {x x' : Surroundings} {d d' : Shown} {served : Served} {status : Status} → d ≡ fresh_desk site → IsSole d' → Serves site MOST_MESSAGES (with_desk x d) (with_desk x' d') served → status_of served.end ≡ Some status
+    → RunsStdio x x' site status
+served_so {site} {x} {x'} {d} {d'} {served} {status} fresh sole s ended = record {
+  desk = d';
+  served = served;
+  serves = subst (λ (y : Shown). Serves site MOST_MESSAGES (with_desk x y) (with_desk x' d') served) fresh s;
+  sole = sole;
+  ended = ended;
+}

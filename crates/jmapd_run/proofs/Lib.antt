@@ -3,4 +3,5 @@ pub mod Connecting
 pub mod Starting
 pub mod Completing
 pub mod StartLemmas
+pub mod Reading
 pub mod OutputLemmas

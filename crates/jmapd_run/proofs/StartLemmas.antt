@@ -1,23 +1,54 @@
--- What the words and the files come to is one thing.
-use Rattle.std.proofs.Common.{◌≡◌, ℕ, List, Option, Some, None, Result, Ok, Err, inl, inr, take, refl, sym, ap, ◌∙◌, option_map}
-use Rattle.std.specs.Prelude.{unwrap_or}
-use Rattle.io_edge.specs.Outside.{Rose, file_named}
-use Rattle.model_site.specs.Configuration.{Fault, Site, built_in, configured, user_named}
+-- What the words and the configuration come to is one thing.
+use Rattle.std.proofs.Common.{◌≡◌, ◌+◌, ◌<◌, ◌≤◌, ℕ, Bool, true, false, List, Option, Some, None, Result, Ok, Err, inl, inr, length, take, refl, sym, ap, ◌∙◌, subst, arith, option_map}
+use Rattle.std.proofs.lemmas.Bool.Decides.{nat_tests}
+use Rattle.std.proofs.lemmas.List.{length-take-le, take_all}
+use Rattle.std.specs.Prelude.{IfSome, if◌then◌else◌, nat_le, option_and_then, unwrap_or}
+use Rattle.io_edge.specs.Outside.{IsMissing, OpenerShown, Rose, file_named}
+use Rattle.model_json.specs.Json.{reading}
+use Rattle.model_site.specs.Configuration.{Fault, Site, built_in, configured, site_read, user_named}
+use Rattle.model_site.specs.declared.field.Field.TheVariants.{Json}
+use Rattle.model_site.specs.declared.limits.TheConstants.{MAX_CONFIGURATION_BYTES}
 use Rattle.command_line.specs.Commands.{Command, batch, command_of, stdio}
-use Rattle.jmapd_run.specs.Starts.{IsLoaded, IsNotOpened, IsSite, IsStart, IsUser, Start, batch_for, configuration_of, misconfigured, not_opened, stdio_of, usage}
-
-abbrev pub Files : Type 0
-Files = List (List ℕ × List ℕ)
+use Rattle.jmapd_run.specs.Starts.{HasConfiguration, IsLoaded, IsNotOpened, IsSite, IsStart, IsUser, Start, batch_for, configuration_named, configuration_of, misconfigured, not_opened, stdio_of, usage}
 
 pub some_same : {X : Type 0} (x y : X) → Some x ≡ Some y → x ≡ y
 some_same x y e = ap (λ o. unwrap_or o x) e
 
-abbrev loaded : Files → List ℕ → Option (Result Site Fault)
-loaded files name = option_map (λ bytes. configured (take 1000001 bytes)) (file_named files name)
+-- ---- the bytes that are loaded of a configuration come to what all of them come to
 
-abbrev pub site_of : Files → Option (List ℕ) → Option (Result Site Fault)
-site_of files None = Some (Ok built_in)
-site_of files (Some name) = loaded files name
+is_within : (n : ℕ) → nat_le n MAX_CONFIGURATION_BYTES ≡ true → n ≤ MAX_CONFIGURATION_BYTES
+is_within n h = grind (arith, nat_tests)
+
+is_beyond : (n : ℕ) → nat_le n MAX_CONFIGURATION_BYTES ≡ false → MAX_CONFIGURATION_BYTES < n
+is_beyond n h = grind (arith, nat_tests)
+
+not_within : (n : ℕ) → MAX_CONFIGURATION_BYTES < n → nat_le n MAX_CONFIGURATION_BYTES ≡ false
+not_within n h = grind (arith, nat_tests)
+
+refused_beyond : (bytes : List ℕ) → MAX_CONFIGURATION_BYTES < length bytes → configured bytes ≡ Err (record { field = Json; index = 0 })
+refused_beyond bytes h = ap (λ (t : Bool). if t then site_read (reading bytes) else Err (record { field = Json; index = 0 })) (not_within (length bytes) h)
+
+pub configured_taken : (bytes : List ℕ) → configured (take (MAX_CONFIGURATION_BYTES + 1) bytes) ≡ configured bytes
+configured_taken bytes = by_size (nat_le (length bytes) MAX_CONFIGURATION_BYTES) refl
+  where
+    by_size : (t : Bool) → nat_le (length bytes) MAX_CONFIGURATION_BYTES ≡ t → configured (take (MAX_CONFIGURATION_BYTES + 1) bytes) ≡ configured bytes
+    by_size true e =
+        let few : length bytes ≤ MAX_CONFIGURATION_BYTES = is_within (length bytes) e in
+        ap configured (take_all (MAX_CONFIGURATION_BYTES + 1) bytes (omega (arith, few)))
+    by_size false e =
+        let many : MAX_CONFIGURATION_BYTES < length bytes = is_beyond (length bytes) e in
+        let all : length (take (MAX_CONFIGURATION_BYTES + 1) bytes) ≡ MAX_CONFIGURATION_BYTES + 1 = length-take-le (MAX_CONFIGURATION_BYTES + 1) bytes (omega (arith, many)) in
+        let still : MAX_CONFIGURATION_BYTES < length (take (MAX_CONFIGURATION_BYTES + 1) bytes) = omega (arith, all) in
+        refused_beyond (take (MAX_CONFIGURATION_BYTES + 1) bytes) still ∙ sym (refused_beyond bytes many)
+
+-- ---- what the words and the bytes of their configuration come to
+
+abbrev loaded : Option (List ℕ) → Option (Result Site Fault)
+loaded bytes = option_map configured bytes
+
+abbrev pub site_of : Option (List ℕ) → Option (List ℕ) → Option (Result Site Fault)
+site_of None bytes = Some (Ok built_in)
+site_of (Some name) bytes = loaded bytes
 
 abbrev by_user : Site → Option ℕ → Start
 by_user site None = usage
@@ -34,51 +65,59 @@ stdio_start None = not_opened
 stdio_start (Some (Err fault)) = misconfigured fault.field fault.index
 stdio_start (Some (Ok site)) = stdio_of site
 
-abbrev pub start_of_command : Files → Option Command → Start
-start_of_command files None = usage
-start_of_command files (Some (batch config who)) = batch_start (site_of files config) who
-start_of_command files (Some (stdio config)) = stdio_start (loaded files config)
-
--- what the words and the files come to
-abbrev pub start_of : List (List ℕ) → Files → Start
-start_of words files = start_of_command files (command_of words)
-
-front_is : (o : Option (List ℕ)) (bytes : List ℕ) (what : Result Site Fault) → option_map (take 1000001) o ≡ Some bytes → configured bytes ≡ what → option_map (λ b. configured (take 1000001 b)) o ≡ Some what
-front_is None bytes what e f = cc
-front_is (Some b) bytes what e f = ap (λ r. Some r) (ap configured (some_same (take 1000001 b) bytes e) ∙ f)
-
-loaded_is : (files : Files) (o0 o1 : ℕ) (name : List ℕ) (what : Result Site Fault) → IsLoaded (Some files) o0 o1 name what → loaded files name ≡ Some what
-loaded_is files o0 o1 name what l = front_is (file_named files name) l.0 what l.1 l.2
-
-site_is : (files : Files) (o0 o1 : ℕ) (config : Option (List ℕ)) (site : Site) → IsSite (Some files) o0 o1 config site → site_of files config ≡ Some (Ok site)
-site_is files o0 o1 None site s = ap (λ (x : Site). Some (Ok x)) (sym s.0)
-site_is files o0 o1 (Some name) site l = loaded_is files o0 o1 name (Ok site) l
-
-missing_is : (files : Files) (name : List ℕ) → file_named files name ≡ None → loaded files name ≡ None
-missing_is files name none = ap (option_map (λ bytes. configured (take 1000001 bytes))) none
+abbrev pub start_of_command : Option (List ℕ) → Option Command → Start
+start_of_command bytes None = usage
+start_of_command bytes (Some (batch config who)) = batch_start (site_of config bytes) who
+start_of_command bytes (Some (stdio config)) = stdio_start (loaded bytes)
 
 pub user_is : (site : Site) (who : Option (List ℕ)) (user : ℕ) → IsUser site who user → batch_start (Some (Ok site)) who ≡ batch_for site user
 user_is site None user u = ap (batch_for site) (sym u)
 user_is site (Some name) user u = ap (by_user site) u
 
-module _ (words : List (List ℕ)) (files : Files) (o0 o1 : ℕ) (quiet : Rose o0 o1 → ⊥) where
-  of_command : (c : Option Command) → command_of words ≡ c → start_of words files ≡ start_of_command files c
-  of_command c e = ap (start_of_command files) e
+-- ---- what the opener gives are these bytes
 
-  by_configuration : (c : Command) (name : List ℕ) (r : Option (Result Site Fault)) (start : Start) → command_of words ≡ Some c → configuration_of c ≡ Some name → loaded files name ≡ r
-      → ((who : Option (List ℕ)) → batch_start r who ≡ start) → stdio_start r ≡ start → start_of words files ≡ start
-  by_configuration (batch config who) name r start e f l b s = of_command _ e ∙ (ap (λ (x : Option (List ℕ)). batch_start (site_of files x) who) f ∙ (ap (λ x. batch_start x who) l ∙ b who))
-  by_configuration (stdio config) name r start e f l b s = of_command _ e ∙ (ap (λ (x : List ℕ). stdio_start (loaded files x)) (some_same config name f) ∙ (ap stdio_start l ∙ s))
+prefix_is : (bytes : Option (List ℕ)) (some : List ℕ) (what : Result Site Fault) → option_map (take (MAX_CONFIGURATION_BYTES + 1)) bytes ≡ Some some → configured some ≡ what → loaded bytes ≡ Some what
+prefix_is None some what e f = cc
+prefix_is (Some all) some what e f = ap (λ r. Some r) (sym (configured_taken all) ∙ (ap configured (some_same (take (MAX_CONFIGURATION_BYTES + 1) all) some e) ∙ f))
 
-  no_file : (c : Command) (name : List ℕ) → command_of words ≡ Some c → configuration_of c ≡ Some name → IsNotOpened (Some files) o0 o1 name → start_of words files ≡ not_opened
-  no_file c name e f (inl missing) = by_configuration c name None not_opened e f (missing_is files name missing) (λ who. refl) refl
+loaded_is : (o o' : OpenerShown) (name : List ℕ) (bytes : Option (List ℕ)) (what : Result Site Fault) → HasConfiguration (Some name) o bytes → IsLoaded o o' name what → loaded bytes ≡ Some what
+loaded_is o o' name bytes what has l =
+    let told : option_map (take (MAX_CONFIGURATION_BYTES + 1)) (file_named has.0 name) ≡ Some l.0 =
+        subst (λ (f : Option (List (List ℕ × List ℕ))). IfSome f (λ files. option_map (take (MAX_CONFIGURATION_BYTES + 1)) (file_named files name) ≡ Some l.0)) has.1 l.1 in
+    prefix_is bytes l.0 what (ap (option_map (take (MAX_CONFIGURATION_BYTES + 1))) (sym has.2) ∙ told) l.2
+
+site_is : (o o' : OpenerShown) (config : Option (List ℕ)) (bytes : Option (List ℕ)) (site : Site) → HasConfiguration config o bytes → IsSite o o' config site → site_of config bytes ≡ Some (Ok site)
+site_is o o' None bytes site has s = ap (λ (x : Site). Some (Ok x)) (sym s.0)
+site_is o o' (Some name) bytes site has l = loaded_is o o' name bytes (Ok site) has l
+
+missing_is : (o : OpenerShown) (name : List ℕ) (bytes : Option (List ℕ)) → HasConfiguration (Some name) o bytes → IsMissing o.files name → loaded bytes ≡ None
+missing_is o name bytes has missing =
+    ap loaded (sym has.2 ∙ subst (λ (f : Option (List (List ℕ × List ℕ))). IfSome f (λ files. file_named files name ≡ None)) has.1 missing)
+
+module _ (words : List (List ℕ)) (o o' : OpenerShown) (bytes : Option (List ℕ)) (has : HasConfiguration (configuration_named words) o bytes) (quiet : Rose o.faults o'.faults → ⊥) where
+  of_command : (c : Option Command) → command_of words ≡ c → start_of_command bytes (command_of words) ≡ start_of_command bytes c
+  of_command c e = ap (start_of_command bytes) e
+
+  has_named : (c : Command) → command_of words ≡ Some c → HasConfiguration (configuration_of c) o bytes
+  has_named c e = subst (λ (k : Option Command). HasConfiguration (option_and_then configuration_of k) o bytes) e has
+
+  has_name : (c : Command) (name : List ℕ) → command_of words ≡ Some c → configuration_of c ≡ Some name → HasConfiguration (Some name) o bytes
+  has_name c name e f = subst (λ (n : Option (List ℕ)). HasConfiguration n o bytes) f (has_named c e)
+
+  by_configuration : (c : Command) (name : List ℕ) (r : Option (Result Site Fault)) (start : Start) → command_of words ≡ Some c → configuration_of c ≡ Some name → loaded bytes ≡ r
+      → ((who : Option (List ℕ)) → batch_start r who ≡ start) → stdio_start r ≡ start → start_of_command bytes (command_of words) ≡ start
+  by_configuration (batch config who) name r start e f l b s = of_command _ e ∙ (ap (λ (x : Option (List ℕ)). batch_start (site_of x bytes) who) f ∙ (ap (λ x. batch_start x who) l ∙ b who))
+  by_configuration (stdio config) name r start e f l b s = of_command _ e ∙ (ap stdio_start l ∙ s)
+
+  no_file : (c : Command) (name : List ℕ) → command_of words ≡ Some c → configuration_of c ≡ Some name → IsNotOpened o o' name → start_of_command bytes (command_of words) ≡ not_opened
+  no_file c name e f (inl missing) = by_configuration c name None not_opened e f (missing_is o name bytes (has_name c name e f) missing) (λ who. refl) refl
   no_file c name e f (inr rose) = absurd (quiet rose)
 
-  pub start_is : (start : Start) → IsStart (Some files) o0 o1 words start → start_of words files ≡ start
+  pub start_is : (start : Start) → IsStart o o' words start → start_of_command bytes (command_of words) ≡ start
   start_is usage (inl h) = of_command None h.0
-  start_is usage (inr h) = of_command _ h.3 ∙ (ap (λ x. batch_start x (Some h.1)) (site_is files o0 o1 h.0 h.2 h.4) ∙ ap (by_user h.2) h.5)
+  start_is usage (inr h) = of_command _ h.3 ∙ (ap (λ x. batch_start x (Some h.1)) (site_is o o' h.0 bytes h.2 (has_named _ h.3) h.4) ∙ ap (by_user h.2) h.5)
   start_is not_opened h = no_file h.0 h.1 h.2 h.3 h.4
   start_is (misconfigured field index) h =
-      by_configuration h.0 h.1 (Some (Err (record { field = field; index = index }))) (misconfigured field index) h.2 h.3 (loaded_is files o0 o1 h.1 _ h.4) (λ who. refl) refl
-  start_is (batch_for site user) h = of_command _ h.2 ∙ (ap (λ x. batch_start x h.1) (site_is files o0 o1 h.0 site h.3) ∙ user_is site h.1 user h.4)
-  start_is (stdio_of site) h = of_command _ h.1 ∙ ap stdio_start (loaded_is files o0 o1 h.0 (Ok site) h.2)
+      by_configuration h.0 h.1 (Some (Err (record { field = field; index = index }))) (misconfigured field index) h.2 h.3 (loaded_is o o' h.1 bytes _ (has_name h.0 h.1 h.2 h.3) h.4) (λ who. refl) refl
+  start_is (batch_for site user) h = of_command _ h.2 ∙ (ap (λ x. batch_start x h.1) (site_is o o' h.0 bytes site (has_named _ h.2) h.3) ∙ user_is site h.1 user h.4)
+  start_is (stdio_of site) h = of_command _ h.1 ∙ ap stdio_start (loaded_is o o' h.0 bytes (Ok site) (has_named _ h.1) h.2)

@@ -1,33 +1,60 @@
 -- Which statuses a run has in which nothing fails.
-use Rattle.std.specs.Prelude.{◌≡◌, ℕ, ℤ, List, Option, Some, None, Ok, take, ⊤}
-use Rattle.io_edge.specs.Outside.{Rose, file_named}
+use Rattle.std.specs.Prelude.{◌≡◌, ◌⊎◌, ◌+◌, ℕ, List, [], ◌∷◌, Option, Some, None, IfSome, Ok, take, if◌then◌else◌, ⊤}
+use Rattle.conn_serve.specs.Complete.{Holds}
+use Rattle.io_edge.specs.Outside.{OpenerShown, Rose}
+use Rattle.model_batch.specs.Asked.{is_refused}
+use Rattle.model_batch.specs.Reply.{asked_in}
+use Rattle.model_connection.specs.declared.served.TheConstants.{MOST_MESSAGES}
+use Rattle.model_core.specs.declared.limits.TheConstants.{MAX_SIZE_REQUEST}
+use Rattle.model_http.specs.Messages.{Message}
+use Rattle.model_http.specs.Pipeline.{Ending, undecided, bad_head, close_asked, quota_spent}
 use Rattle.model_site.specs.Configuration.{Site, built_in, configured}
 use Rattle.jmapd_run.specs.declared.status.Status.{Status}
 use Rattle.jmapd_run.specs.declared.status.Status.TheVariants.{Cut, Done, NoMemory, Refused}
 use Rattle.command_line.specs.Commands.{Command, batch, command_of, stdio}
+use Rattle.jmapd_run.specs.Headline.{Surroundings}
 use Rattle.jmapd_run.specs.Runs.{Runs}
-use Rattle.jmapd_run.specs.Starts.{IsUser, configuration_of}
+use Rattle.jmapd_run.specs.Starts.{HasConfiguration, IsUser, configuration_of}
 
--- the command did its work: it answered the request or refused it, or served the connection to its end or to where it is cut; or it wanted memory
-abbrev pub HasWorked : Status → Type 0
-HasWorked Done = ⊤
-HasWorked Refused = ⊤
-HasWorked Cut = ⊤
-HasWorked NoMemory = ⊤
-HasWorked _ = ⊥
+-- ---- the status that the bytes of the input give
+
+-- of a request
+abbrev pub request_status : List ℕ → Status
+request_status bytes = if is_refused (asked_in bytes) then Refused else Done
+
+-- of a connection whose bytes end so, with this left
+abbrev pub connection_status : Ending → List ℕ → Status
+connection_status undecided [] = Done
+connection_status undecided (b ∷ left) = Cut
+connection_status (bad_head status) left = Cut
+connection_status close_asked left = Done
+connection_status quota_spent left = Cut
+
+-- The bytes are those of the input, or its first ones where a request has no more, if the input tells them; and this is the status that they give.
+abbrev pub GivesStatus : Command → Option (List ℕ) → Status → Type 0
+GivesStatus (batch config who) input status = (bytes : List ℕ) × IfSome input (λ told. bytes ≡ take (MAX_SIZE_REQUEST + 1) told) × (status ≡ request_status bytes)
+GivesStatus (stdio config) input status =
+    (bytes : List ℕ) × IfSome input (λ told. bytes ≡ told) × (ms : List Message) × (left : List ℕ) × (ending : Ending) × Holds MOST_MESSAGES bytes ms left ending × (status ≡ connection_status ending left)
+
+-- ---- runs
 
 -- the configuration that is named is among the files, and it is accepted; or none is named
-abbrev pub IsAccepted : List (List ℕ × List ℕ) → Option (List ℕ) → Site → Type 0
-IsAccepted files None site = site ≡ built_in
-IsAccepted files (Some name) site = (bytes : List ℕ) × (file_named files name ≡ Some bytes) × (configured (take 1000001 bytes) ≡ Ok site)
+abbrev pub IsAccepted : Option (List ℕ) → OpenerShown → Site → Type 0
+IsAccepted None o site = site ≡ built_in
+IsAccepted (Some name) o site = (bytes : List ℕ) × HasConfiguration (Some name) o (Some bytes) × (configured bytes ≡ Ok site)
 
 -- the user that is named is one of the site
 abbrev pub HasUser : Site → Command → Type 0
 HasUser site (batch config who) = (user : ℕ) × IsUser site who user
 HasUser site (stdio config) = ⊤
 
+-- neither opener nor input nor output failed
+pub record NothingFailed (x x' : Surroundings) (o o' : OpenerShown) : Type 0 where
+  pub opened : Rose o.faults o'.faults → ⊥
+  pub read : Rose x.input.faults x'.input.faults → ⊥
+  pub wrote : Rose x.output.faults x'.output.faults → ⊥
+
 abbrev pub FaultlessRunsWork : Type 0
-FaultlessRunsWork = (left left' held held' : Option (List ℕ)) (s0 s1 k0 k1 : ℕ) (moments moments' : Option (ℕ → ℤ)) (words : List (List ℕ)) (files : List (List ℕ × List ℕ)) (o0 o1 : ℕ) (status : Status)
-    → Runs left left' held held' s0 s1 k0 k1 moments moments' words (Some files) o0 o1 status
-    → (command : Command) (site : Site) → command_of words ≡ Some command → IsAccepted files (configuration_of command) site → HasUser site command
-    → (Rose o0 o1 → ⊥) → (Rose s0 s1 → ⊥) → (Rose k0 k1 → ⊥) → HasWorked status
+FaultlessRunsWork = (x x' : Surroundings) (o o' : OpenerShown) (words : List (List ℕ)) (status : Status) → Runs x x' o o' words status → NothingFailed x x' o o'
+    → (command : Command) (site : Site) → command_of words ≡ Some command → IsAccepted (configuration_of command) o site → HasUser site command
+    → (status ≡ NoMemory) ⊎ GivesStatus command x.input.left status

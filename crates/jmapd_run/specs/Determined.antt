@@ -1,27 +1,30 @@
 -- What a run does is settled by what it is given.
 use Rattle.std.specs.Prelude.{◌≡◌, ◌≢◌, ℕ, ℤ, List, [], Option, Some}
-use Rattle.io_edge.specs.Outside.{Rose}
+use Rattle.io_edge.specs.Outside.{OpenerShown}
 use Rattle.jmapd_run.specs.declared.status.Status.{Status}
 use Rattle.jmapd_run.specs.declared.status.Status.TheVariants.{NoMemory}
+use Rattle.jmapd_run.specs.Completes.{NothingFailed}
+use Rattle.jmapd_run.specs.Headline.{Surroundings}
 use Rattle.jmapd_run.specs.Runs.{Runs}
+use Rattle.jmapd_run.specs.Starts.{HasConfiguration, configuration_named}
 
--- A run in which nothing failed and memory sufficed: by these words, over these files and this input, with a clock that was to give these moments, it ended so and wrote this text.
-pub record IsFinished (words : List (List ℕ)) (files : List (List ℕ × List ℕ)) (input : List ℕ) (clock : ℕ → ℤ) (status : Status) (text : List ℕ) : Type 0 where
-  pub left : Option (List ℕ)
-  pub moments : Option (ℕ → ℤ)
-  pub s0 : ℕ
-  pub s1 : ℕ
-  pub k0 : ℕ
-  pub k1 : ℕ
-  pub o0 : ℕ
-  pub o1 : ℕ
-  pub runs : Runs (Some input) left (Some []) (Some text) s0 s1 k0 k1 (Some clock) moments words (Some files) o0 o1 status
-  pub opened : Rose o0 o1 → ⊥
-  pub read : Rose s0 s1 → ⊥
-  pub wrote : Rose k0 k1 → ⊥
+-- A run in which nothing failed and memory sufficed: by these words, with these bytes in the file that they name as the configuration and this input, with a clock that was to
+-- give these moments, it ended so and wrote this text.
+pub record IsFinished (words : List (List ℕ)) (configuration : Option (List ℕ)) (input : List ℕ) (clock : ℕ → ℤ) (status : Status) (text : List ℕ) : Type 0 where
+  pub before : Surroundings
+  pub after : Surroundings
+  pub opener : OpenerShown
+  pub opener' : OpenerShown
+  pub runs : Runs before after opener opener' words status
+  pub has : HasConfiguration (configuration_named words) opener configuration
+  pub given : before.input.left ≡ Some input
+  pub empty : before.output.holds ≡ Some []
+  pub told : before.clock ≡ Some clock
+  pub written : after.output.holds ≡ Some text
+  pub nothing_failed : NothingFailed before after opener opener'
   pub had_memory : status ≢ NoMemory
 
--- the status and the output are a function of the words, the files, the input and the moments
+-- the status and the output are a function of the words, the bytes of the configuration, the input and the moments
 abbrev pub OutputsAreDetermined : Type 0
-OutputsAreDetermined = (words : List (List ℕ)) (files : List (List ℕ × List ℕ)) (input : List ℕ) (clock : ℕ → ℤ) (s t : Status) (x y : List ℕ)
-    → IsFinished words files input clock s x → IsFinished words files input clock t y → (s ≡ t) × (x ≡ y)
+OutputsAreDetermined = (words : List (List ℕ)) (configuration : Option (List ℕ)) (input : List ℕ) (clock : ℕ → ℤ) (s t : Status) (text other : List ℕ)
+    → IsFinished words configuration input clock s text → IsFinished words configuration input clock t other → (s ≡ t) × (text ≡ other)

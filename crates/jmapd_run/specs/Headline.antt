@@ -9,8 +9,14 @@ use Rattle.model_core.specs.declared.limits.TheConstants.{MAX_SIZE_REQUEST}
 use Rattle.model_batch.specs.Chain.{Made, Chain, Shown}
 use Rattle.model_json.specs.Data.{Data}
 use Rattle.model_json.specs.Json.{text_of}
-use Rattle.io_edge.specs.Outside.{Ticks}
+use Rattle.io_edge.specs.Outside.{SinkShown, SourceShown, Ticks}
 use Rattle.model_site.specs.Configuration.{Site, user_at}
+
+-- what is shown of all that a command touches besides the files
+pub record Surroundings : Type 0 where
+  pub input : SourceShown
+  pub output : SinkShown
+  pub clock : Option (ℕ → ℤ)
 
 -- This is the text that answers bytes for a user of a site at a moment: of the response, or of the problem of a request that is refused
 -- as a whole, with a line feed. The calls are a chain on fresh accounts, in which nobody else takes part.
@@ -26,11 +32,11 @@ pub record IsAnswer (site : Site) (user : ℕ) (moment : ℤ) (bytes : List ℕ)
 
 -- The input was read to its end, or to one byte past the most of a request; the clock was read once; and this is the text that answers
 -- these bytes at that moment.
-pub record AnswersInput (site : Site) (user : ℕ) (left left' : Option (List ℕ)) (moments moments' : Option (ℕ → ℤ)) (is_refusal : Bool) (text : List ℕ) : Type 0 where
+pub record AnswersInput (site : Site) (user : ℕ) (x x' : Surroundings) (is_refusal : Bool) (text : List ℕ) : Type 0 where
   pub bytes : List ℕ
-  pub consumed : Consumes left left' bytes
+  pub consumed : Consumes x.input.left x'.input.left bytes
   pub most : length bytes ≤ MAX_SIZE_REQUEST + 1
-  pub whole : length bytes ≤ MAX_SIZE_REQUEST → IsAtEnd left'
+  pub whole : length bytes ≤ MAX_SIZE_REQUEST → IsAtEnd x'.input.left
   pub moment : ℤ
-  pub ticked : Ticks moments moments' moment
+  pub ticked : Ticks x.clock x'.clock moment
   pub answer : IsAnswer site user (clamped moment) bytes is_refusal text

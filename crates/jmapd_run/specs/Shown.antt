@@ -1,5 +1,6 @@
 -- What contracts see of a start, and of what a load came to.
 use Rattle.std.specs.Prelude.{◌≡◌, ℕ, ◌<◌, List, Option, Some, None, Result, Ok, Err, length, ⊤}
+use Rattle.io_edge.specs.Outside.{OpenerShown}
 use Rattle.model_site.specs.Configuration.{Fault, Site, user_named}
 use Rattle.jmapd_run.specs.declared.status.Status.{Status}
 use Rattle.jmapd_run.specs.declared.status.Status.TheVariants.{Config, NoMemory, OpenFault, Usage}
@@ -28,27 +29,27 @@ abbrev pub NamedHow : Site → List ℕ → Result Start Status → Type 0
 NamedHow site name (Ok start) = (user : ℕ) × (start_shown start ≡ starts.batch_for site user) × (user_named site name ≡ Some user)
 NamedHow site name (Err e) = (e ≡ Usage) × (user_named site name ≡ None)
 
-module _ (files : Option (List (List ℕ × List ℕ))) (o0 o1 : ℕ) where
+module _ (o o' : OpenerShown) where
   -- the configuration of a name
   abbrev pub LoadHow : List ℕ → Result Site Status → Type 0
-  LoadHow name (Ok site) = IsLoaded files o0 o1 name (Ok site)
-  LoadHow name (Err OpenFault) = IsNotOpened files o0 o1 name
-  LoadHow name (Err (Config field index)) = IsLoaded files o0 o1 name (Err (record { field = field; index = index }))
+  LoadHow name (Ok site) = IsLoaded o o' name (Ok site)
+  LoadHow name (Err OpenFault) = IsNotOpened o o' name
+  LoadHow name (Err (Config field index)) = IsLoaded o o' name (Err (record { field = field; index = index }))
   LoadHow name (Err e) = e ≡ NoMemory
 
   abbrev pub SiteHow : Option (List ℕ) → Result Site Status → Type 0
-  SiteHow None (Ok site) = IsSite files o0 o1 None site
+  SiteHow None (Ok site) = IsSite o o' None site
   SiteHow None (Err e) = e ≡ NoMemory
   SiteHow (Some name) r = LoadHow name r
 
   abbrev pub BatchHow : Option (List ℕ) → Option (List ℕ) → Result Start Status → Type 0
-  BatchHow config who (Ok start) = (site : Site) × (user : ℕ) × (start_shown start ≡ starts.batch_for site user) × IsSite files o0 o1 config site × IsUser site who user
-  BatchHow config who (Err Usage) = (name : List ℕ) × (site : Site) × (who ≡ Some name) × IsSite files o0 o1 config site × (user_named site name ≡ None)
+  BatchHow config who (Ok start) = (site : Site) × (user : ℕ) × (start_shown start ≡ starts.batch_for site user) × IsSite o o' config site × IsUser site who user
+  BatchHow config who (Err Usage) = (name : List ℕ) × (site : Site) × (who ≡ Some name) × IsSite o o' config site × (user_named site name ≡ None)
   BatchHow config who (Err e) = SiteHow config (Err e)
 
   abbrev pub StartHow : List (List ℕ) → Result Start Status → Type 0
-  StartHow words (Ok start) = IsStart files o0 o1 words (start_shown start)
-  StartHow words (Err Usage) = IsStart files o0 o1 words starts.usage
-  StartHow words (Err OpenFault) = IsStart files o0 o1 words starts.not_opened
-  StartHow words (Err (Config field index)) = IsStart files o0 o1 words (starts.misconfigured field index)
+  StartHow words (Ok start) = IsStart o o' words (start_shown start)
+  StartHow words (Err Usage) = IsStart o o' words starts.usage
+  StartHow words (Err OpenFault) = IsStart o o' words starts.not_opened
+  StartHow words (Err (Config field index)) = IsStart o o' words (starts.misconfigured field index)
   StartHow words (Err e) = e ≡ NoMemory

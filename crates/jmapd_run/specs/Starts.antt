@@ -1,8 +1,9 @@
 -- What the words of the command line and the configuration come to, before the input is read.
-use Rattle.std.specs.Prelude.{◌≡◌, ◌⊎◌, ℕ, List, Option, Some, None, Result, Ok, Err}
-use Rattle.io_edge.specs.Outside.{IsMissing, Loads, Rose}
+use Rattle.std.specs.Prelude.{◌≡◌, ◌⊎◌, ◌+◌, ℕ, List, Option, Some, None, Result, Ok, Err, option_and_then}
+use Rattle.io_edge.specs.Outside.{IsMissing, Loads, OpenerShown, Rose, file_named}
 use Rattle.model_site.specs.Configuration.{Fault, Site, built_in, configured, user_named}
 use Rattle.model_site.specs.declared.field.Field.{Field}
+use Rattle.model_site.specs.declared.limits.TheConstants.{MAX_CONFIGURATION_BYTES}
 use Rattle.command_line.specs.Commands.{Command, batch, command_of, stdio}
 
 pub data Start : Type 0 where
@@ -21,27 +22,36 @@ abbrev pub configuration_of : Command → Option (List ℕ)
 configuration_of (batch config user) = config
 configuration_of (stdio config) = Some config
 
+-- the name of the configuration that the words name, if they name one
+abbrev pub configuration_named : List (List ℕ) → Option (List ℕ)
+configuration_named words = option_and_then configuration_of (command_of words)
+
+-- The opener tells what the file of this name holds, if there is one. Without a name there are no bytes, and it needn't tell anything.
+abbrev pub HasConfiguration : Option (List ℕ) → OpenerShown → Option (List ℕ) → Type 0
+HasConfiguration None o bytes = bytes ≡ None
+HasConfiguration (Some name) o bytes = (files : List (List ℕ × List ℕ)) × (o.files ≡ Some files) × (file_named files name ≡ bytes)
+
 -- the user that `--user` names, or the first
 abbrev pub IsUser : Site → Option (List ℕ) → ℕ → Type 0
 IsUser site None user = user ≡ 0
 IsUser site (Some name) user = user_named site name ≡ Some user
 
--- the files as the opener tells them, and its count of faults before and after
-module _ (files : Option (List (List ℕ × List ℕ))) (o0 o1 : ℕ) where
+-- what is shown of the opener before and after
+module _ (o o' : OpenerShown) where
   -- the file of this name was loaded, or its first bytes; they come to this
   abbrev pub IsLoaded : List ℕ → Result Site Fault → Type 0
-  IsLoaded name what = (bytes : List ℕ) × Loads files name 1000001 bytes × (configured bytes ≡ what)
+  IsLoaded name what = (bytes : List ℕ) × Loads o.files name (MAX_CONFIGURATION_BYTES + 1) bytes × (configured bytes ≡ what)
 
   -- without a name the opener isn't asked
   abbrev pub IsSite : Option (List ℕ) → Site → Type 0
-  IsSite None site = (site ≡ built_in) × (o1 ≡ o0)
+  IsSite None site = (site ≡ built_in) × (o' ≡ o)
   IsSite (Some name) site = IsLoaded name (Ok site)
 
   abbrev pub IsNotOpened : List ℕ → Type 0
-  IsNotOpened name = IsMissing files name ⊎ Rose o0 o1
+  IsNotOpened name = IsMissing o.files name ⊎ Rose o.faults o'.faults
 
   abbrev pub IsStart : List (List ℕ) → Start → Type 0
-  IsStart words usage = ((command_of words ≡ None) × (o1 ≡ o0))
+  IsStart words usage = ((command_of words ≡ None) × (o' ≡ o))
       ⊎ ((config : Option (List ℕ)) × (name : List ℕ) × (site : Site) × (command_of words ≡ Some (batch config (Some name))) × IsSite config site × (user_named site name ≡ None))
   IsStart words not_opened = (c : Command) × (name : List ℕ) × (command_of words ≡ Some c) × (configuration_of c ≡ Some name) × IsNotOpened name
   IsStart words (misconfigured field index) = (c : Command) × (name : List ℕ) × (command_of words ≡ Some c) × (configuration_of c ≡ Some name) × IsLoaded name (Err (record { field = field; index = index }))

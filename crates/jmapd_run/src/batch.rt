@@ -37,8 +37,8 @@ pub(crate) fn run_batch<S: Source, K: Sink, C: Clock>(
     clock: &mut C,
 ) -> Status
     requires { user < length site.now.users }
-    ensures { RunsBatch (S.shown input.old).left (S.shown input.new).left (K.shown output.old).holds (K.shown output.new).holds (S.shown input.old).faults (S.shown input.new).faults
-        (K.shown output.old).faults (K.shown output.new).faults (C.moments clock.old) (C.moments clock.new) site.now user result }
+    ensures { RunsBatch (record { input = S.shown input.old; output = K.shown output.old; clock = C.moments clock.old })
+        (record { input = S.shown input.new; output = K.shown output.new; clock = C.moments clock.new }) site.now user result }
 {
     let bytes = match read_up_to(alloc, input, MAX_SIZE_REQUEST) {
         Ok(bytes) => bytes,

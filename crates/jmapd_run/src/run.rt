@@ -25,9 +25,9 @@ pub fn run<O: Opener, S: Source, K: Sink, C: Clock>(
     output: &mut K,
     clock: &mut C,
 ) -> Status
-    ensures runs { Runs (S.shown input.old).left (S.shown input.new).left (K.shown output.old).holds (K.shown output.new).holds (S.shown input.old).faults (S.shown input.new).faults
-        (K.shown output.old).faults (K.shown output.new).faults (C.moments clock.old) (C.moments clock.new)
-        (map string_bytes words.now) (O.shown opener.old).files (O.shown opener.old).faults (O.shown opener.new).faults result }
+    ensures runs { Runs (record { input = S.shown input.old; output = K.shown output.old; clock = C.moments clock.old })
+        (record { input = S.shown input.new; output = K.shown output.new; clock = C.moments clock.new })
+        (O.shown opener.old) (O.shown opener.new) (map string_bytes words.now) result }
     ensures files { (O.shown opener.new).files ≡ (O.shown opener.old).files }
 {
     match start_from(alloc, words, opener) {

@@ -6,11 +6,9 @@ ghost use Rattle.jmapd_run.specs.Shown.{BatchHow, HasItsUser, LoadHow, NamedHow,
 use crate::status::Status;
 use command_line::command::{Command, read_command};
 use io_edge::opener::{LoadError, Opener};
+use model_site::limits::MAX_CONFIGURATION_BYTES;
 use session_doc::{ConfigurationError, Site};
 use std::alloc::Global;
-
-/// The most bytes of a configuration that are loaded: one more than it may have.
-const MOST_LOADED: u64 = 1_000_001;
 
 /// What is to be run.
 #[derive(Drop)]
@@ -30,7 +28,7 @@ pub(crate) fn start_from<O: Opener>(
     words: &[String],
     opener: &mut O,
 ) -> Result<Start, Status>
-    ensures how { StartHow (O.shown opener.old).files (O.shown opener.old).faults (O.shown opener.new).faults (map string_bytes words.now) result }
+    ensures how { StartHow (O.shown opener.old) (O.shown opener.new) (map string_bytes words.now) result }
     ensures files { (O.shown opener.new).files ≡ (O.shown opener.old).files }
     ensures user { IfOk result HasItsUser }
 {
@@ -48,7 +46,7 @@ fn start_batch<O: Opener>(
     config: Option<&str>,
     user: Option<&str>,
 ) -> Result<Start, Status>
-    ensures how { BatchHow (O.shown opener.old).files (O.shown opener.old).faults (O.shown opener.new).faults (option_map (λ name. name.now) config.entry) (option_map (λ name. name.now) user.entry) result }
+    ensures how { BatchHow (O.shown opener.old) (O.shown opener.new) (option_map (λ name. name.now) config.entry) (option_map (λ name. name.now) user.entry) result }
     ensures files { (O.shown opener.new).files ≡ (O.shown opener.old).files }
     ensures user { IfOk result HasItsUser }
 {
@@ -73,7 +71,7 @@ fn start_named(site: Site, name: &str) -> Result<Start, Status>
 // The site of a configuration, or the one without.
 fn site_of<O: Opener>(alloc: Global, opener: &mut O, config: Option<&str>) -> Result<Site, Status>
     ensures files { (O.shown opener.new).files ≡ (O.shown opener.old).files }
-    ensures how { SiteHow (O.shown opener.old).files (O.shown opener.old).faults (O.shown opener.new).faults (option_map (λ name. name.now) config.entry) result }
+    ensures how { SiteHow (O.shown opener.old) (O.shown opener.new) (option_map (λ name. name.now) config.entry) result }
 {
     match config {
         Some(name) => load_site(alloc, opener, name),
@@ -86,9 +84,9 @@ fn site_of<O: Opener>(alloc: Global, opener: &mut O, config: Option<&str>) -> Re
 
 fn load_site<O: Opener>(alloc: Global, opener: &mut O, name: &str) -> Result<Site, Status>
     ensures files { (O.shown opener.new).files ≡ (O.shown opener.old).files }
-    ensures how { LoadHow (O.shown opener.old).files (O.shown opener.old).faults (O.shown opener.new).faults name.now result }
+    ensures how { LoadHow (O.shown opener.old) (O.shown opener.new) name.now result }
 {
-    match opener.load(name, MOST_LOADED) {
+    match opener.load(name, MAX_CONFIGURATION_BYTES as u64 + 1) {
         Ok(bytes) => read_site(alloc, &bytes),
         Err(LoadError::Missing | LoadError::Failed) => Err(Status::OpenFault),
         Err(LoadError::NoMemory) => Err(Status::NoMemory),

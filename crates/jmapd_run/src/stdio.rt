@@ -1,7 +1,7 @@
 //! The command `stdio`: one connection.
 ghost use Rattle.std.specs.Prelude.{◌≡◌, ◌≢◌, ◌⊎◌, Some};
 ghost use Rattle.jmapd_run.specs.declared.status.Status.TheVariants.{NoMemory};
-ghost use Rattle.jmapd_run.specs.Runs.{LeavesAll, RunsStdio, status_of};
+ghost use Rattle.jmapd_run.specs.Runs.{RunsStdio, status_of};
 
 use crate::status::Status;
 use account_desk::sole_desk::SoleDesk;
@@ -21,10 +21,9 @@ pub(crate) fn run_stdio<S: Source, K: Sink, C: Clock>(
     output: &mut K,
     clock: &mut C,
 ) -> Status
-    ensures { RunsStdio (S.shown input.old).left (S.shown input.new).left (K.shown output.old).holds (K.shown output.new).holds (S.shown input.old).faults (S.shown input.new).faults
-        (K.shown output.old).faults (K.shown output.new).faults (C.moments clock.old) (C.moments clock.new) site.now result
-        ⊎ ((result ≡ NoMemory) × IsUntouched (S.shown input.old).left (S.shown input.new).left (K.shown output.old).holds (K.shown output.new).holds (S.shown input.old).faults (S.shown input.new).faults
-        (K.shown output.old).faults (K.shown output.new).faults (C.moments clock.old) (C.moments clock.new)) }
+    ensures { RunsStdio (record { input = S.shown input.old; output = K.shown output.old; clock = C.moments clock.old })
+        (record { input = S.shown input.new; output = K.shown output.new; clock = C.moments clock.new }) site.now result
+        ⊎ ((result ≡ NoMemory) × (S.shown input.new ≡ S.shown input.old) × (K.shown output.new ≡ K.shown output.old) × (C.moments clock.new ≡ C.moments clock.old)) }
 {
     let Ok(mut desk) = SoleDesk::open(alloc, site) else {
         return Status::NoMemory;

@@ -103,9 +103,9 @@ Ticked (Some old) None ts = ⊥
 Ticked (Some old) (Some now) ts = (n : ℕ) → old n ≡ moment_behind ts now n
 
 -- What clock, fronts and desk were before and after these exchanges. All calls together are one chain.
-pub record Told (c0 c1 : Option (ℕ → ℤ)) (f0 f1 : List Front) (d0 d1 : Shown) (ts : List Exchange) : Type 0 where
-  pub ticked : Ticked c0 c1 (all_moments ts)
-  pub fronts : f1 ≡ f0 ++ map front_of (all_made ts)
-  pub chain : Chain d0 d1 (all_made ts)
+pub record Told (clock clock' : Option (ℕ → ℤ)) (fronts fronts' : List Front) (d d' : Shown) (ts : List Exchange) : Type 0 where
+  pub ticked : Ticked clock clock' (all_moments ts)
+  pub added : fronts' ≡ fronts ++ map front_of (all_made ts)
+  pub chain : Chain d d' (all_made ts)
   -- a request has at most 16 calls
   pub few : length (all_made ts) ≤ 16 * length ts

@@ -2,6 +2,9 @@
 
 use model_batch::desk::Front;
 
+/// The most messages of a connection that are answered.
+pub const MOST_MESSAGES: u64 = 10_000;
+
 /// How a connection ended.
 #[derive(Clone, Copy, Debug, PartialEq, Eq, Drop)]
 pub enum ConnEnd {

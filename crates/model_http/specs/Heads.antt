@@ -5,6 +5,7 @@ use Rattle.std.specs.Str.{bytes_eq}
 use Rattle.httparse.specs.Grammar.{RequestHead, ReadsRequest}
 use Rattle.httparse.specs.Spans.{name_and_value}
 use Rattle.model_core.specs.declared.limits.TheConstants.{MAX_SIZE_REQUEST}
+use Rattle.model_http.specs.declared.limits.TheConstants.{MOST_FIELDS, MOST_HEAD, MOST_LINES}
 use Rattle.model_http.specs.Fields.{NamedValue, values_of, first_value, length_said, Length, absent, known, unusable}
 
 -- ---- where a head ends
@@ -13,7 +14,7 @@ abbrev pub begins_with_feed : List ℕ → Bool
 begins_with_feed [] = false
 begins_with_feed (b ∷ bytes) = b == 10
 
--- the length of the line end at the front: a line feed, or CR and a line feed (section 2.2)
+-- the length of the line end that the bytes begin with: a line feed, or CR and a line feed (section 2.2)
 abbrev pub line_end_length : List ℕ → Option ℕ
 line_end_length [] = None
 line_end_length (b ∷ bytes) = if b == 10 then Some 1 else (if (b == 13) && begins_with_feed bytes then Some 2 else None)
@@ -33,24 +34,24 @@ pub data HeadEnd : Type 0 where
 
 abbrev pub end_at : Option ℕ → List ℕ → HeadEnd
 end_at (Some size) bytes = ended size
-end_at None bytes = if nat_le 16384 (length bytes) then too_long else unended
+end_at None bytes = if nat_le MOST_HEAD (length bytes) then too_long else unended
 
--- the head ends in the first 16,384 bytes, or it is too long, or it may end yet
+-- the head ends within the most bytes of a head, or it is too long, or it may end yet
 abbrev pub head_end : List ℕ → HeadEnd
-head_end bytes = end_at (head_length (take 16384 bytes)) bytes
+head_end bytes = end_at (head_length (take MOST_HEAD bytes)) bytes
 
 -- ---- how it is read
 
 abbrev pub line_feeds : List ℕ → ℕ
 line_feeds bytes = count_by (λ b. b == 10) bytes
 
--- the bytes are just this head, and it has at most 64 fields
+-- the bytes are just this head, and it has no more fields than a head may have
 abbrev pub IsHead : List ℕ → RequestHead → Type 0
-IsHead bytes head = ReadsRequest bytes head [] × (length head.fields ≤ 64)
+IsHead bytes head = ReadsRequest bytes head [] × (length head.fields ≤ MOST_FIELDS)
 
--- they have at most 66 line feeds too
+-- nor has it more line feeds
 pub record ReadsHead (bytes : List ℕ) (head : RequestHead) : Type 0 where
-  pub few_lines : line_feeds bytes ≤ 66
+  pub few_lines : line_feeds bytes ≤ MOST_LINES
   pub is_head : IsHead bytes head
 
 -- ---- what it asks for
@@ -75,6 +76,6 @@ framing method fields = if is_some (first_value (values_of (codes "transfer-enco
 -- the bytes of a head are refused with this status
 abbrev pub RefusesHead : List ℕ → ℕ → Type 0
 RefusesHead bytes status =
-    ((status ≡ 431) × (66 < line_feeds bytes))
-    ⊎ (((status ≡ 400) × (line_feeds bytes ≤ 66) × ((head : RequestHead) → IsHead bytes head → ⊥))
+    ((status ≡ 431) × (MOST_LINES < line_feeds bytes))
+    ⊎ (((status ≡ 400) × (line_feeds bytes ≤ MOST_LINES) × ((head : RequestHead) → IsHead bytes head → ⊥))
     ⊎ ((head : RequestHead) × ReadsHead bytes head × (framing head.method (fields_of head) ≡ refuse status)))

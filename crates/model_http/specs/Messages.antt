@@ -63,6 +63,6 @@ BeginsWith bytes (refused status) = ((status ≡ 431) × (head_end bytes ≡ too
 BeginsWith bytes partial = (0 < length bytes) × ((head_end bytes ≡ unended) ⊎ IsShort bytes)
 BeginsWith bytes nothing = bytes ≡ []
 
--- neither a whole message nor a refused head stands at the front
+-- they begin neither with a whole message nor with a refused head
 abbrev pub IsUndecided : List ℕ → Type 0
 IsUndecided bytes = BeginsWith bytes nothing ⊎ BeginsWith bytes partial

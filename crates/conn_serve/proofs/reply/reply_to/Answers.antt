@@ -1,7 +1,7 @@
 use Rattle.std.proofs.Common.{◌∙◌, ap, rules, subst, sym}
 use Rattle.model_batch.specs.Asked.{Asked}
 use Rattle.model_batch.specs.Reply.{asked_by_reading}
-use Rattle.conn_serve.proofs.Replying.{as_read, over_limit, refused_reply}
+use Rattle.conn_serve.proofs.Replying.{as_read, no_reply, over_limit, refused_reply}
 use Rattle.conn_serve.specs.Answering.{IsOutcome}
 use Rattle.conn_serve.proofs.reply.reply_to.Goals as goal
 
@@ -19,3 +19,6 @@ returns-in-Err-NotJson g c = refused_reply c.refusal-in-Err-NotJson.result (as_r
 
 pub returns-in-Err-NotWhole : goal.returns-in-Err-NotWhole
 returns-in-Err-NotWhole g c = refused_reply c.refusal-in-Err-NotWhole.result (as_read c.args.bytes.now (search rules) ∙ ap asked_by_reading (c.in-Err-NotWhole.ensures.not_whole (search rules))) c.refusal-in-Err-NotWhole.ensures
+
+pub returns-in-Err-NoMemory : goal.returns-in-Err-NoMemory
+returns-in-Err-NoMemory g c = no_reply

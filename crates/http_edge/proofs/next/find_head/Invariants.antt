@@ -1,11 +1,14 @@
-use Rattle.std.proofs.Common.{◌-◌, ◌≤◌, length, take}
-use Rattle.http_edge.specs.Reading.{Took}
+use Rattle.std.proofs.Common.{◌≡◌, ◌-◌, ◌≤◌, length, take}
+use Rattle.model_http.specs.Heads.{head_end, unended}
+use Rattle.http_edge.specs.Reading.{AskedWhile, Took}
 use Rattle.http_edge.specs.Searches.{IsSearched}
+use Rattle.model_http.specs.declared.limits.TheConstants.{PIECE}
 use Rattle.http_edge.proofs.next.find_head.Given as goal
 
 abbrev pub invariant-loop-size : goal.invariant-loop-size
 invariant-loop-size g l = record {
-  took : Took (g.S.Source.shown l.initial.source).left (g.S.Source.shown l.source).left (g.S.Source.shown l.initial.source).faults (g.S.Source.shown l.source).faults l.initial.kept l.kept;
+  took : Took (g.S.Source.shown l.initial.source) (g.S.Source.shown l.source) l.initial.kept l.kept;
+  asked : AskedWhile (λ bytes. head_end bytes ≡ unended) PIECE (g.S.Source.shown l.initial.source) (g.S.Source.shown l.source) l.initial.kept l.kept;
   within : l.searched ≤ length l.kept;
   few : l.searched ≤ 16384;
   searched : IsSearched (take l.searched l.kept) l.state;

@@ -7,4 +7,4 @@ use Rattle.jmapd_run.proofs.stdio.run_stdio.Goals as goal
 pub status_of-requires : goal.status_of-requires
 status_of-requires g c =
     let fresh : shown_of c.in-Ok.desk ≡ fresh_desk c.args.site.now = search rules in
-    never_spent fresh c.serve_connection-served.ensures
+    never_spent c.serve_connection-served.ensures fresh

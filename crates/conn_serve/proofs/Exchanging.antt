@@ -1,4 +1,4 @@
--- Turns follow one another.
+-- Exchanges follow one another.
 use Rattle.std.proofs.Common.{◌≡◌, ℕ, ℤ, zero, suc, ◌+◌, List, [], ◌∷◌, ◌++◌, length, length-append, map, sym, refl, ap, ◌∙◌, subst, arith, append-nil, append_assoc, Option, Some, None}
 use Rattle.std.proofs.lemmas.List.{map-append}
 use Rattle.std.proofs.lemmas.Grind.{flat_map-append}
@@ -24,14 +24,14 @@ ticked_none None = tt
 ticked_none (Some a) = λ n. refl
 
 pub told_none : (c : Option (ℕ → ℤ)) (f : List Front) (d : Shown) → Told c c f f d d []
-told_none c f d = record { ticked = ticked_none c; fronts = sym (append-nil f); chain = still d; few = omega arith }
+told_none c f d = record { ticked = ticked_none c; added = sym (append-nil f); chain = still d; few = omega arith }
 
 pub told_join : (c0 c1 c2 : Option (ℕ → ℤ)) (f0 f1 f2 : List Front) (d0 d1 d2 : Shown) (ts us : List Exchange) → Told c0 c1 f0 f1 d0 d1 ts → Told c1 c2 f1 f2 d1 d2 us → Told c0 c2 f0 f2 d0 d2 (ts ++ us)
 told_join c0 c1 c2 f0 f1 f2 d0 d1 d2 ts us h g =
     let all : all_made (ts ++ us) ≡ all_made ts ++ all_made us = flat_map-append (λ (t : Exchange). t.made) ts us in
     record {
       ticked = subst (Ticked c0 c2) (sym (flat_map-append (λ (t : Exchange). t.moments) ts us)) (ticked_join c0 c1 c2 (all_moments ts) (all_moments us) h.ticked g.ticked);
-      fronts = g.fronts ∙ (ap (λ (l : List Front). l ++ map front_of (all_made us)) h.fronts ∙ (append_assoc f0 (map front_of (all_made ts)) (map front_of (all_made us))
+      added = g.added ∙ (ap (λ (l : List Front). l ++ map front_of (all_made us)) h.added ∙ (append_assoc f0 (map front_of (all_made ts)) (map front_of (all_made us))
           ∙ ap (λ (l : List Front). f0 ++ l) (sym (ap (map front_of) all ∙ map-append front_of (all_made ts) (all_made us)))));
       chain = subst (Chain d0 d2) (sym all) (join d0 d1 d2 (all_made ts) (all_made us) h.chain g.chain);
       few = (let a = h.few in let b = g.few in let e = length-append ts us in let m = ap length all ∙ length-append (all_made ts) (all_made us) in omega arith);
