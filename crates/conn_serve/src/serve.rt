@@ -7,8 +7,6 @@ ghost use Rattle.http_edge.specs.Reading.{message_shown};
 ghost use Rattle.conn_serve.specs.Ending.{IsRefusalEnd, end_for};
 
 use crate::answer::answer;
-use model_batch::desk::{Desk, DeskError, Front};
-use model_connection::served::{ConnEnd, MOST_MESSAGES, Served};
 use http_edge::bytes::Bytes;
 use http_edge::kept::Kept;
 use http_edge::message::Message;
@@ -18,7 +16,7 @@ use io_edge::clock::Clock;
 use io_edge::sink::{Sink, put_all};
 use io_edge::source::Source;
 use model_batch::desk::{Desk, DeskError, Front};
-use model_connection::served::{ConnEnd, Served};
+use model_connection::served::{ConnEnd, MOST_MESSAGES, Served};
 use session_doc::Site;
 use std::alloc::{AllocError, Global};
 

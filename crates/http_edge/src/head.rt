@@ -10,12 +10,10 @@ ghost use Rattle.http_edge.specs.declared.head.HeadError.TheVariants.{NoMemory};
 
 use crate::bytes::Bytes;
 use crate::fields::{ContentLength, ascii_text, content_length, first_of, is_closing, token_in};
-use model_core::limits::MAX_SIZE_REQUEST;
-use model_http::limits::{MOST_FIELDS, MOST_LINES};
-use model_json::text::Text;
 use httparse::Status;
 use httparse::spans::{EMPTY_HEADER_SPAN, HeaderSpan, RequestSpans, parse_request};
 use model_core::limits::MAX_SIZE_REQUEST;
+use model_http::limits::{MOST_FIELDS, MOST_LINES};
 use model_json::text::Text;
 use std::alloc::{AllocError, Global};
 

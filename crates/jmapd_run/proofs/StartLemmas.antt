@@ -83,7 +83,7 @@ prefix_is (Some all) some what e f = ap (λ r. Some r) (sym (configured_taken al
 loaded_is : (o o' : OpenerShown) (name : List ℕ) (bytes : Option (List ℕ)) (what : Result Site Fault) → HasConfiguration (Some name) o bytes → IsLoaded o o' name what → loaded bytes ≡ Some what
 loaded_is o o' name bytes what has l =
     let told : option_map (take (MAX_CONFIGURATION_BYTES + 1)) (file_named has.0 name) ≡ Some l.0 =
-        subst (λ (f : Option (List (List ℕ × List ℕ))). IfSome f (λ files. option_map (take (MAX_CONFIGURATION_BYTES + 1)) (file_named files name) ≡ Some l.0)) has.1 l.1 in
+    subst (λ (f : Option (List (List ℕ × List ℕ))). IfSome f (λ files. option_map (take (MAX_CONFIGURATION_BYTES + 1)) (file_named files name) ≡ Some l.0)) has.1 l.1 in
     prefix_is bytes l.0 what (ap (option_map (take (MAX_CONFIGURATION_BYTES + 1))) (sym has.2) ∙ told) l.2
 
 site_is : (o o' : OpenerShown) (config : Option (List ℕ)) (bytes : Option (List ℕ)) (site : Site) → HasConfiguration config o bytes → IsSite o o' config site → site_of config bytes ≡ Some (Ok site)

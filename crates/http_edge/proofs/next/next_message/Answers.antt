@@ -69,7 +69,7 @@ pub returns-in-Err-Refused : goal.returns-in-Err-Refused
 returns-in-Err-Refused g c =
     let e : head_end c.find_head.new.kept ≡ ended c.in-Ok-At.size = c.in-Ok-At.ensures.end ∙ ap end_shown c.in-Ok-At.field-0-is in
     let refusal = head_refused_so (take c.in-Ok-At.size c.as_slice.result.now) c.in-Ok-At.size c.in-Err-Refused.status c.in-Ok-At.ensures.took c.in-Ok-At.ensures.asked e (ap (take c.in-Ok-At.size) c.as_slice.ensures)
-        c.in-Err-Refused.ensures.err c.in-Err-Refused.field-0-is in
+    c.in-Err-Refused.ensures.err c.in-Err-Refused.field-0-is in
     search (rules, refusal)
 
 pub returns-in-Err-NoMemory-read_head : goal.returns-in-Err-NoMemory-read_head
