@@ -1,7 +1,7 @@
 //! What a history says of the account's objects, by going over it.
 ghost use Rattle.std.specs.Prelude.{◌≡◌, ◌<◌, ◌+◌, ◌^◌, IfOk, map, option_map};
 ghost use Rattle.std.specs.List.{range_with_len};
-ghost use Rattle.model_history.specs.History.{changes_of, ids_at, live_at, object_at, state_at};
+ghost use Rattle.model_history.specs.History.{changes_of, ids_at, live_at, live_object, state_at};
 
 use model_history::entry::{Entry, Kind};
 use model_json::tree::Tree;
@@ -9,7 +9,7 @@ use std::alloc::{AllocError, Global};
 
 /// The object of a kind and number, where it is live. Takes no memory.
 pub fn object(history: &[Entry], kind: Kind, id: u64) -> Option<&Tree>
-    ensures { option_map (λ t. t.now) result ≡ object_at (changes_of history.now) kind id }
+    ensures { option_map (λ t. t.now) result ≡ live_object (changes_of history.now) kind id }
 {
     let mut found: Option<&Tree> = None;
     for entry in history {

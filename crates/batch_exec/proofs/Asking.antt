@@ -7,7 +7,7 @@ use Rattle.model_call.specs.declared.call.Reply.{Reply}
 use Rattle.model_batch.specs.declared.desk.DeskError.{DeskError}
 use Rattle.model_batch.specs.declared.desk.DeskError.TheVariants.{NoMemory, PassSpent}
 use Rattle.model_batch.specs.declared.desk.Front.{Front}
-use Rattle.batch_exec.specs.Stepping.{IsDeskReply, IsUnanswered, Makes}
+use Rattle.batch_exec.specs.Stepping.{IsDeskReply, HasNoAnswer, Makes}
 
 pub asking_ok : {fronts fronts' : List Front} {s t : Shown} {account : ℕ} {call : Call} {reply : Reply} (moment : ℤ) → Called s t account call moment (Ok reply)
     → fronts' ≡ fronts ++ record { account = account; place = reply.place } ∷ [] → IsDeskReply fronts fronts' s t account call moment (Ok reply)

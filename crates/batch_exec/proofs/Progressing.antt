@@ -16,7 +16,7 @@ use Rattle.model_batch.specs.declared.request.Request.{Request}
 use Rattle.model_batch.specs.declared.method_response.MethodResponse.{MethodResponse}
 use Rattle.model_core.specs.declared.user.User.{User}
 use Rattle.batch_exec.specs.Answering.{Going, HasStopped, HasAnswered}
-use Rattle.batch_exec.specs.Stepping.{IsResponse, IsUnanswered, Makes, Takes}
+use Rattle.batch_exec.specs.Stepping.{IsResponse, HasNoAnswer, Makes, Takes}
 
 module _ (user : User) (request : Request) (moment : ℤ) where
   abbrev follows_after : List Step → Step → Type 0
@@ -71,7 +71,7 @@ module _ (user : User) (request : Request) (moment : ℤ) where
 
     -- nothing came of the first of the invocations that are left
     stopped_same : (responses : List MethodResponse) (created : List (List ℕ × List ℕ)) (e : DeskError) → Going user request moment fronts fronts1 s t steps (c ∷ rest) responses created
-        → IsUnanswered fronts1 fronts2 t u e → HasStopped user request moment fronts fronts2 s u e
+        → HasNoAnswer fronts1 fronts2 t u e → HasStopped user request moment fronts fronts2 s u e
     stopped_same responses created e g k =
         let p = g.progress in
         (steps, c ∷ rest, t, record { invoked = p.invoked; fit = p.fit; chain = p.chain; fronts_grew = k.0 ∙ p.fronts_grew }, k.1)

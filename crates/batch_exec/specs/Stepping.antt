@@ -21,8 +21,8 @@ module _ (fronts fronts' : List Front) (s t : Shown) where
     pub fronts_grew : fronts' ≡ fronts ++ map front_of ms
 
   -- the desk was asked for one call at most, and answered none
-  abbrev pub IsUnanswered : DeskError → Type 0
-  IsUnanswered e = (fronts' ≡ fronts) × Stops e s t
+  abbrev pub HasNoAnswer : DeskError → Type 0
+  HasNoAnswer e = (fronts' ≡ fronts) × Stops e s t
 
   module _ (account : ℕ) (call : Call) (moment : ℤ) where
     -- this call was answered
@@ -34,13 +34,13 @@ module _ (fronts fronts' : List Front) (s t : Shown) where
 
     abbrev pub IsDeskReply : Result Reply DeskError → Type 0
     IsDeskReply (Ok reply) = (m : Made) × AnswersCall m × (m.reply ≡ reply)
-    IsDeskReply (Err e) = IsUnanswered e
+    IsDeskReply (Err e) = HasNoAnswer e
 
     -- the call's response and the created ids after it; or the call wasn't answered, or only its response is wanting
     abbrev pub IsCallResponse : List ℕ → List ℕ → List (List ℕ × List ℕ) → Result MethodResponse DeskError → Type 0
     IsCallResponse name call_id created' (Ok response) = (m : Made) × AnswersCall m × (created' ≡ call.created ++ m.reply.created) × (response ≡ reply_response name call_id m.reply.arguments m.reply.error)
-    IsCallResponse name call_id created' (Err NoMemory) = IsUnanswered NoMemory ⊎ ((m : Made) × AnswersCall m)
-    IsCallResponse name call_id created' (Err PassSpent) = IsUnanswered PassSpent
+    IsCallResponse name call_id created' (Err NoMemory) = HasNoAnswer NoMemory ⊎ ((m : Made) × AnswersCall m)
+    IsCallResponse name call_id created' (Err PassSpent) = HasNoAnswer PassSpent
 
   module _ (grants : List Grant) (using : List (List ℕ)) (moment : ℤ) (responses : List MethodResponse) (created created' : List (List ℕ × List ℕ)) (c : Invocation) where
     -- the invocation led to this step, by the responses and the created ids before it
@@ -52,5 +52,5 @@ module _ (fronts fronts' : List Front) (s t : Shown) where
     -- the response to the invocation and the created ids after it; or the step isn't taken, or only its response is wanting
     abbrev pub IsResponse : Result MethodResponse DeskError → Type 0
     IsResponse (Ok response) = (step : Step) × Takes step × (created' ≡ created ++ created_by (step ∷ [])) × (step.response ≡ response)
-    IsResponse (Err NoMemory) = IsUnanswered NoMemory ⊎ ((step : Step) × Takes step)
-    IsResponse (Err PassSpent) = IsUnanswered PassSpent
+    IsResponse (Err NoMemory) = HasNoAnswer NoMemory ⊎ ((step : Step) × Takes step)
+    IsResponse (Err PassSpent) = HasNoAnswer PassSpent

@@ -5,7 +5,7 @@ use Rattle.std.specs.Str.{bytes_eq}
 use Rattle.cal_model.specs.Calendar.{is_calendar_property}
 use Rattle.model_json.specs.Data.{Data, text, list, object, Pair, items_of, members_of}
 use Rattle.model_core.specs.declared.limits.TheConstants.{MAX_OBJECTS_IN_GET}
-use Rattle.model_history.specs.History.{object_at, live_at}
+use Rattle.model_history.specs.History.{live_object, live_at}
 use Rattle.model_history.specs.ObjectId.{object_number, state_text}
 use Rattle.model_json.specs.Parts.{behind_hash, members_in, some_of}
 use Rattle.model_json.specs.TreeData.{data_of}
@@ -35,7 +35,7 @@ different texts = fold with_text [] texts
 
 -- the live object of an id
 abbrev pub object_with_id : List Change → Kind → List ℕ → Option Tree
-object_with_id cs kind id = option_and_then (object_at cs kind) (object_number kind id)
+object_with_id cs kind id = option_and_then (live_object cs kind) (object_number kind id)
 
 -- a property that is asked for; `id` always is
 abbrev pub is_asked_for : Option (List (List ℕ)) → Pair → Bool

@@ -26,8 +26,8 @@ object_from before [] kind id = before
 object_from before (c ∷ cs) kind id = object_from (if names kind id c then c.object else before) cs kind id
 
 -- the object of a kind and number, where it is live
-abbrev pub object_at : List Change → Kind → ℕ → Option Tree
-object_at cs kind id = object_from None cs kind id
+abbrev pub live_object : List Change → Kind → ℕ → Option Tree
+live_object cs kind id = object_from None cs kind id
 
 -- the numbers with this one, which goes last where it is new
 abbrev pub with_id : List ℕ → ℕ → List ℕ
@@ -55,4 +55,4 @@ some_object (Some t) = t ∷ []
 
 -- the live objects of a kind, in order of creation
 abbrev pub live_at : List Change → Kind → List Tree
-live_at cs kind = flat_map (λ id. some_object (object_at cs kind id)) (ids_at cs kind)
+live_at cs kind = flat_map (λ id. some_object (live_object cs kind id)) (ids_at cs kind)

@@ -3,7 +3,7 @@ use Rattle.std.specs.Prelude.{ℕ, List, [], ◌∷◌, Option, Some, None, map,
 use Rattle.model_history.specs.declared.entry.Change.{Change}
 use Rattle.model_history.specs.declared.entry.Kind.TheVariants.{Event}
 use Rattle.model_json.specs.declared.tree.Tree.{Tree}
-use Rattle.model_history.specs.History.{is_kind, object_at, ids_at}
+use Rattle.model_history.specs.History.{is_kind, live_object, ids_at}
 use Rattle.model_query.specs.declared.item.Item.{Item}
 use Rattle.model_query.specs.declared.comparator.Comparator.{Comparator}
 use Rattle.model_query.specs.Results.{numbers_at, places}
@@ -19,7 +19,7 @@ match_of see id (Some tree) = with_number id (see tree)
 -- The live events of which the filter holds, each with what the comparators see of it, in order of creation. Filter and time zone are in
 -- `see`, which gives the item of an event's object, and none where the filter doesn't hold.
 abbrev pub matches : (Tree → Option Item) → List Change → List (ℕ × Item)
-matches see cs = flat_map (λ id. match_of see id (object_at cs Event id)) (ids_at cs Event)
+matches see cs = flat_map (λ id. match_of see id (live_object cs Event id)) (ids_at cs Event)
 
 -- the changes of events, so that a state of the query counts the first of them
 abbrev pub of_events : List Change → List Change

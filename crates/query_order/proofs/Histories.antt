@@ -7,7 +7,7 @@ use Rattle.std.specs.List.{list_any}
 use Rattle.model_history.specs.declared.entry.Change.{Change}
 use Rattle.model_history.specs.declared.entry.Kind.TheVariants.{Event}
 use Rattle.model_json.specs.declared.tree.Tree.{Tree}
-use Rattle.model_history.specs.History.{is_kind, names, object_from, object_at, with_id, ids_from, ids_at}
+use Rattle.model_history.specs.History.{is_kind, names, object_from, live_object, with_id, ids_from, ids_at}
 use Rattle.model_query.specs.declared.item.Item.{Item}
 use Rattle.model_query.specs.declared.comparator.Comparator.{Comparator}
 use Rattle.query_order.specs.InOrder.{in_order}
@@ -123,10 +123,10 @@ passed_over false h = refl
 pub matches_agree : (see : Tree → Option Item) (h more : List Change) → filter (λ p. not (is_in (touched_by more) p.0)) (matches see (h ++ more)) ≡ filter (λ p. not (is_in (touched_by more) p.0)) (matches see h)
 matches_agree see h more =
     let u : ℕ → Bool = λ id. not (is_in (touched_by more) id) in
-    let now : ℕ → Option Tree = λ id. object_at (h ++ more) Event id in
+    let now : ℕ → Option Tree = λ id. live_object (h ++ more) Event id in
     ap (λ ids. filter (λ p. u p.0) (flat_map (λ id. match_of see id (now id)) ids)) (ids_after h [] more)
     ∙ ids_noted see u now more (ids_at h Event) (λ id p. ap not p)
-    ∙ objects_same see u now (λ id. object_at h Event id) (λ id e. object_after None h more id ∙ object_stays more (object_at h Event id) id (passed_over (is_in (touched_by more) id) e)) (ids_at h Event)
+    ∙ objects_same see u now (λ id. live_object h Event id) (λ id e. object_after None h more id ∙ object_stays more (live_object h Event id) id (passed_over (is_in (touched_by more) id) e)) (ids_at h Event)
 
 -- the changes of events alone
 

@@ -1,6 +1,6 @@
 -- What is live at an earlier state.
 use Rattle.std.proofs.Common.{◌≡◌, ℕ, zero, suc, List, [], ◌∷◌, Bool, true, false, cond, is_some, take, map, filter, refl, sym, ap, ◌∙◌, None}
-use Rattle.model_history.specs.History.{is_kind, object_at}
+use Rattle.model_history.specs.History.{is_kind, live_object}
 use Rattle.model_history.specs.Pages.{is_live, live_from, mention_of, mentions}
 use Rattle.model_history.specs.declared.entry.Change.{Change}
 use Rattle.model_history.specs.declared.entry.Kind.{Kind}
@@ -24,7 +24,7 @@ filter_kept : (p : Change → Bool) (cs : List Change) (k : ℕ) → filter p (t
 filter_kept p [] k = ap (λ l. filter p l) (take_none k) ∙ sym (take_none k)
 filter_kept p (c ∷ cs) k = kept_step p k c (filter p cs) (p c) refl (filter_kept p cs)
 
-pub live_earlier : (cs : List Change) (kind : Kind) (k id : ℕ) → is_live (mentions kind cs) k id ≡ is_some (object_at (take k (filter (λ c. is_kind kind c.kind) cs)) kind id)
+pub live_earlier : (cs : List Change) (kind : Kind) (k id : ℕ) → is_live (mentions kind cs) k id ≡ is_some (live_object (take k (filter (λ c. is_kind kind c.kind) cs)) kind id)
 live_earlier cs kind k id =
     let p = λ (c : Change). is_kind kind c.kind in
     ap (λ l. live_from false l id) (take_map k (filter p cs) ∙ ap (λ l. map mention_of l) (sym (filter_kept p cs k))) ∙ live_objects (take k (filter p cs)) None kind id

@@ -4,7 +4,7 @@ use Rattle.std.specs.Prelude.{nat_le}
 use Rattle.std.proofs.lemmas.Bool.{lt-leb}
 use Rattle.std.proofs.lemmas.Grind.{common_steps}
 use Rattle.std.proofs.lemmas.List.Elements.{filter_agree}
-use Rattle.model_history.specs.History.{ids_at, ids_from, is_kind, object_at, object_from, with_id}
+use Rattle.model_history.specs.History.{ids_at, ids_from, is_kind, live_object, object_from, with_id}
 use Rattle.model_history.specs.declared.entry.Change.{Change}
 use Rattle.model_history.specs.declared.entry.Kind.{Kind}
 use Rattle.model_json.specs.declared.tree.Tree.{Tree}
@@ -65,7 +65,7 @@ up_to_first (c ∷ cs) n (suc i) k e =
     let p : Put Tree = record { id = c.id; state = suc n; object = c.object } in
     keep_first p (puts_after (suc n) cs) k true (le-leb (suc n) k (omega (arith, e))) ∙ ap (λ l. p ∷ l) (up_to_first cs (suc n) i k (omega (arith, e)))
 
-pub at_state : (cs : List Change) (kind : Kind) (id k : ℕ) → version_at (puts_in kind cs) id k ≡ object_at (take k (of_kind kind cs)) kind id
+pub at_state : (cs : List Change) (kind : Kind) (id k : ℕ) → version_at (puts_in kind cs) id k ≡ live_object (take k (of_kind kind cs)) kind id
 at_state cs kind id k = ap (λ l. latest_from None l id) (up_to_first (of_kind kind cs) 0 k k (omega arith)) ∙ first_are cs kind id k 0 None
 
 -- ---- the ids
@@ -80,7 +80,7 @@ ids_are : (cs : List Change) (kind : Kind) (n : ℕ) (ids : List ℕ) → fold (
 ids_are [] kind n ids = refl
 ids_are (c ∷ cs) kind n ids = ids_step c cs kind n ids (is_kind kind c.kind) (λ m is. ids_are cs kind m is)
 
-pub live : (cs : List Change) (kind : Kind) (k : ℕ) → live_ids_at (puts_in kind cs) k ≡ filter (λ id. is_some (object_at (take k (of_kind kind cs)) kind id)) (ids_at cs kind)
+pub live : (cs : List Change) (kind : Kind) (k : ℕ) → live_ids_at (puts_in kind cs) k ≡ filter (λ id. is_some (live_object (take k (of_kind kind cs)) kind id)) (ids_at cs kind)
 live cs kind k =
     ap (λ l. filter (λ id. is_some (version_at (puts_in kind cs) id k)) l) (ids_are cs kind 0 [])
-    ∙ filter_agree (λ id. is_some (version_at (puts_in kind cs) id k)) (λ id. is_some (object_at (take k (of_kind kind cs)) kind id)) (λ id. ap is_some (at_state cs kind id k)) (ids_at cs kind)
+    ∙ filter_agree (λ id. is_some (version_at (puts_in kind cs) id k)) (λ id. is_some (live_object (take k (of_kind kind cs)) kind id)) (λ id. ap is_some (at_state cs kind id k)) (ids_at cs kind)

@@ -1,6 +1,6 @@
 //! What a table that follows a history tells of it, each law the contract of a function that does nothing.
 ghost use Rattle.std.specs.Prelude.{◌≡◌, ℕ, List, filter, is_some, option_map, take};
-ghost use Rattle.model_history.specs.History.{ids_at, object_at};
+ghost use Rattle.model_history.specs.History.{ids_at, live_object};
 ghost use Rattle.model_history.specs.declared.entry.Change.{Change};
 ghost use Rattle.model_history.specs.declared.entry.Kind.{Kind};
 ghost use Rattle.version_table.specs.Histories.{of_kind, puts_in, read_by};
@@ -11,9 +11,9 @@ ghost use Rattle.version_table.specs.Puts.{Put, latest, live_ids_at, version_at}
 /// At a state it shows the objects after so many changes of the kind, and the ids that were live then, in order of creation
 /// (RFC 8620 section 5.1). Takes no memory.
 pub fn puts_show_histories()
-    ensures newest { (cs : List Change) (kind : Kind) (id : ℕ) → latest (puts_in kind cs) id ≡ object_at cs kind id }
-    ensures at_state { (cs : List Change) (kind : Kind) (id k : ℕ) → version_at (puts_in kind cs) id k ≡ object_at (take k (of_kind kind cs)) kind id }
-    ensures live { (cs : List Change) (kind : Kind) (k : ℕ) → live_ids_at (puts_in kind cs) k ≡ filter (λ id. is_some (object_at (take k (of_kind kind cs)) kind id)) (ids_at cs kind) }
+    ensures newest { (cs : List Change) (kind : Kind) (id : ℕ) → latest (puts_in kind cs) id ≡ live_object cs kind id }
+    ensures at_state { (cs : List Change) (kind : Kind) (id k : ℕ) → version_at (puts_in kind cs) id k ≡ live_object (take k (of_kind kind cs)) kind id }
+    ensures live { (cs : List Change) (kind : Kind) (k : ℕ) → live_ids_at (puts_in kind cs) k ≡ filter (λ id. is_some (live_object (take k (of_kind kind cs)) kind id)) (ids_at cs kind) }
 {}
 
 /// A table of what objects are read from, as places where they stand, shows what it would show of the objects. Takes no memory.
