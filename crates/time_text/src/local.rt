@@ -1,0 +1,41 @@
+//! Local times and moments.
+ghost use Rattle.std.specs.Prelude.{◌≡◌, true, IfSome};
+ghost use Rattle.model_series.specs.LocalTimes.{local_in, utc_in};
+ghost use Rattle.model_series.specs.Walls.{is_in_years};
+
+use crate::fields::{fits_form, spaced_fields, wall};
+use model_time::wall::Wall;
+
+/// Reads a LocalDateTime (RFC 8984 section 1.4.4). None where the text is anything else. Takes no memory.
+pub fn read_local(text: &[u8]) -> Option<Wall>
+    ensures value { result ≡ local_in text.now }
+    ensures years { IfSome result (λ w. is_in_years w ≡ true) }
+{
+    if fits_form(text, b"0000-00-00T00:00:00") {
+        wall(spaced_fields(text))
+    } else {
+        None
+    }
+}
+
+/// Reads a UTCDate (RFC 8984 section 1.4.5). None where the text is anything else. Takes no memory.
+pub fn read_utc(text: &[u8]) -> Option<i64>
+    ensures value { result ≡ utc_in text.now }
+    ensures years { IfSome result (λ w. is_in_years w ≡ true) }
+{
+    if fits_form(text, b"0000-00-00T00:00:00Z") {
+        seconds_of(wall(spaced_fields(text)))
+    } else {
+        None
+    }
+}
+
+// The seconds of a wall second, where there is one.
+fn seconds_of(wall: Option<Wall>) -> Option<i64>
+    ensures { result ≡ wall }
+{
+    match wall {
+        Some(wall) => Some(wall.seconds()),
+        None => None,
+    }
+}
