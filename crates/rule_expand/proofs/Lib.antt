@@ -1,0 +1,17 @@
+pub mod Dates
+pub mod Cycle
+pub mod Nth
+pub mod Next
+pub mod Periods
+pub mod Remainder
+pub mod Ends
+pub mod Places
+pub mod Reach
+pub mod PeriodWalk
+pub mod Range
+pub mod Sets
+pub mod Regular
+pub mod Least
+pub mod Sooner
+pub mod Own
+pub mod From
