@@ -8,3 +8,4 @@ pub mod Occurrences
 pub mod Forms
 pub mod LocalTimes
 pub mod Durations
+pub mod RuleObjects
