@@ -1,8 +1,8 @@
 -- Recurrence rules as JSON objects (RFC 8984 section 4.3.3, in the profile of this project).
-use Rattle.std.specs.Prelude.{ℕ, ℤ, pos, int_le, List, [], ◌∷◌, ◌&&◌, ◌||◌, ◌==◌, Bool, true, false, not, Option, Some, None, codes, is_some, length, nat_le, option_and_then, option_map, unsigned_abs, if◌then◌else◌}
+use Rattle.std.specs.Prelude.{map, ℕ, ℤ, pos, int_le, List, [], ◌∷◌, ◌&&◌, ◌||◌, ◌==◌, Bool, true, false, not, Option, Some, None, codes, decimal, is_some, length, nat_le, option_and_then, option_map, unsigned_abs, if◌then◌else◌}
 use Rattle.std.specs.List.{list_all, list_any}
 use Rattle.std.specs.Str.{bytes_eq}
-use Rattle.model_json.specs.Data.{Data, null, text, list, object, no_items, field}
+use Rattle.model_json.specs.Data.{Data, null, whole, text, list, object, no_items, field, items_of, members_of}
 use Rattle.model_json.specs.Number.{number_in}
 use Rattle.model_json.specs.Parts.{all_some, as_list, as_text, as_whole, members_in}
 use Rattle.model_time.specs.CivilDay.{day_of_month, month_of, weekday_of}
@@ -12,7 +12,7 @@ use Rattle.model_series.specs.declared.by_part.End.{End}
 use Rattle.model_series.specs.declared.by_part.End.TheVariants.{Never, Count, Until}
 use Rattle.model_series.specs.declared.by_part.NDay.{NDay}
 use Rattle.model_series.specs.declared.rule.Rule.{Rule}
-use Rattle.model_series.specs.LocalTimes.{local_in}
+use Rattle.model_series.specs.LocalTimes.{local_in, local_text}
 use Rattle.model_series.specs.RuleLimits.{is_place_to}
 use Rattle.model_series.specs.Walls.{day_of_wall}
 
@@ -45,7 +45,7 @@ value_at key d = option_and_then present (field key d)
 
 -- each member that isn't absent has one of these names
 abbrev pub has_only : List (List ℕ) → Data → Bool
-has_only names d = list_all (λ p. is_absent p.1 || list_any (λ name. bytes_eq p.0 name) names) (members_in d)
+has_only names d = list_all (λ p. list_any (λ name. bytes_eq p.0 name) names || is_absent p.1) (members_in d)
 
 -- absent, or this very word
 abbrev pub is_word_or_absent : List ℕ → Option Data → Bool
@@ -242,3 +242,51 @@ rules_of n ds = if nat_le (length ds) 4 then all_some (rule_in n) ds else None
 
 abbrev pub rules_in : ℤ → Data → Option (List RuleParts)
 rules_in start d = option_and_then (rules_of (day_of_wall start)) (as_list d)
+
+-- The object of a rule, with all members; of `count` and `until` one or both are null.
+
+unfoldable pub weekday_text : ℕ → List ℕ
+weekday_text n =
+    if n == 0 then codes "mo" else (if n == 1 then codes "tu" else (if n == 2 then codes "we" else (if n == 3 then codes "th"
+    else (if n == 4 then codes "fr" else (if n == 5 then codes "sa" else codes "su")))))
+
+unfoldable pub frequency_text : Freq → List ℕ
+frequency_text Daily = codes "daily"
+frequency_text Weekly = codes "weekly"
+frequency_text Monthly = codes "monthly"
+frequency_text Yearly = codes "yearly"
+
+abbrev pub nth_data : Option ℤ → Data
+nth_data None = null
+nth_data (Some k) = whole k
+
+abbrev pub nday_data : NDay → Data
+nday_data x = object (members_of
+    ((codes "@type", text (codes "NDay")) ∷ (codes "day", text (weekday_text x.day)) ∷ (codes "nthOfPeriod", nth_data x.nth) ∷ []))
+
+abbrev pub month_data : ℤ → Data
+month_data m = text (decimal (unsigned_abs m))
+
+abbrev pub count_data : End → Data
+count_data (Count c) = whole (pos c)
+count_data Never = null
+count_data (Until w) = null
+
+abbrev pub until_data : End → Data
+until_data (Until w) = text (local_text w)
+until_data Never = null
+until_data (Count c) = null
+
+unfoldable pub rule_data : RuleParts → Data
+rule_data p = object (members_of
+    ((codes "@type", text (codes "RecurrenceRule"))
+    ∷ (codes "byDay", list (items_of (map nday_data p.by_day)))
+    ∷ (codes "byMonth", list (items_of (map month_data p.by_month)))
+    ∷ (codes "byMonthDay", list (items_of (map whole p.by_month_day)))
+    ∷ (codes "bySetPosition", list (items_of (map whole p.by_set)))
+    ∷ (codes "count", count_data p.end)
+    ∷ (codes "firstDayOfWeek", text (weekday_text p.week_start))
+    ∷ (codes "frequency", text (frequency_text p.frequency))
+    ∷ (codes "interval", whole (pos p.interval))
+    ∷ (codes "until", until_data p.end)
+    ∷ []))

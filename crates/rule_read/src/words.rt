@@ -85,10 +85,10 @@ fn has_rule_names(tree: &Tree) -> bool
 }
 
 fn are_of_rules(members: &[Member]) -> bool
-    ensures { result ≡ list_all (λ p. is_absent p.1 || list_any (λ name. bytes_eq p.0 name) rule_names) (map pair_of members.now) }
+    ensures { result ≡ list_all (λ p. list_any (λ name. bytes_eq p.0 name) rule_names || is_absent p.1) (map pair_of members.now) }
 {
     for member in members {
-        if !is_absent(&member.value) && !is_rule_name(member.key.as_str()) {
+        if !is_rule_name(member.key.as_str()) && !is_absent(&member.value) {
             return false;
         }
     }
@@ -136,10 +136,10 @@ fn has_nday_names(tree: &Tree) -> bool
 }
 
 fn are_of_ndays(members: &[Member]) -> bool
-    ensures { result ≡ list_all (λ p. is_absent p.1 || list_any (λ name. bytes_eq p.0 name) nday_names) (map pair_of members.now) }
+    ensures { result ≡ list_all (λ p. list_any (λ name. bytes_eq p.0 name) nday_names || is_absent p.1) (map pair_of members.now) }
 {
     for member in members {
-        if !is_absent(&member.value) && !is_nday_name(member.key.as_str()) {
+        if !is_nday_name(member.key.as_str()) && !is_absent(&member.value) {
             return false;
         }
     }

@@ -12,6 +12,6 @@ mod text;
 pub use duration::read_duration;
 pub use id::read_id;
 pub use laws::{written_times_are_read, years_have_four_digits};
-pub use local::{read_local, read_utc};
+pub use local::{is_in_years, read_local, read_utc};
 pub use number::read_number;
 pub use text::{local_text, utc_text};

@@ -8,5 +8,5 @@ use Rattle.rule_read.proofs.words.are_of_ndays.Given as goal
 
 abbrev pub invariant-loop-member : goal.invariant-loop-member
 invariant-loop-member l =
-    list_all (λ p. is_absent p.1 || list_any (λ name. bytes_eq p.0 name) nday_names) (map pair_of (drop l.member-index l.members))
-    ≡ list_all (λ p. is_absent p.1 || list_any (λ name. bytes_eq p.0 name) nday_names) (map pair_of l.members)
+    list_all (λ p. list_any (λ name. bytes_eq p.0 name) nday_names || is_absent p.1) (map pair_of (drop l.member-index l.members))
+    ≡ list_all (λ p. list_any (λ name. bytes_eq p.0 name) nday_names || is_absent p.1) (map pair_of l.members)
