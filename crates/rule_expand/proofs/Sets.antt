@@ -23,6 +23,7 @@ use Rattle.rule_expand.proofs.Remainder.{modulo-steps}
 use Rattle.model_series.specs.RuleLimits.{is_end}
 use Rattle.rule_expand.specs.Sets.{IsEnd}
 use Rattle.rule_expand.proofs.Range.{years_near}
+use Rattle.rule_expand.specs.Near.{IsNear}
 use Rattle.rule_expand.proofs.Places.{and_both, is_late, late_is, count_le}
 use Rattle.std.proofs.Math.Nat.{mul_comm}
 use borrow.Author.Differences.{up, down}
@@ -283,6 +284,16 @@ module _ (due : ℤ → Bool) (t : ℕ) (d : ℤ) where
         let past : d <ℤ y.0 = omega (arith, signed_arith, x.0, y.1.0) in
         (y.0, (y.1.0, in_by due Never t d y.0 (counted_later due Never t d y.0 past y.1.1 refl) refl))
   ]
+
+-- the last day lies near the start
+pub near_more : (n : ℤ) → IsNear 5000000 n → IsNear 147000000000 n
+near_more n h = (omega (arith, signed_arith, h), omega (arith, signed_arith, h))
+
+pub last_near : (due : ℤ → Bool) (d high last : ℤ) → IsLastDue due d high last → IsNear 5000000 d → IsNear 5000000 high → IsNear 147000000000 last
+last_near due d high last h near far = elim h.is [
+  | inl same ↦ rw same (near_more d near)
+  | inr more ↦ (omega (arith, signed_arith, more, near), omega (arith, signed_arith, more, far))
+]
 
 -- the rule's set by its parts
 pub set_is : (r : Rule) (start d : ℤ) (e : End) (t : ℕ) → d ≡ day_of_wall start → r.end ≡ e → t ≡ second_of_wall start → (n : ℤ) → is_in_set r start n ≡ is_in (is_due r d) e t d n

@@ -6,7 +6,7 @@ ghost use Rattle.model_series.specs.RuleSets.{is_due, is_counted, is_in, is_in_s
 ghost use Rattle.model_series.specs.Walls.{day_of_wall, is_in_years, second_of_wall};
 ghost use Rattle.model_time.specs.Floor.{floor_div, modulo};
 ghost use Rattle.rule_expand.specs.Near.{IsNear};
-ghost use Rattle.rule_expand.specs.Sets.{IsGreatest, IsLastDue, IsFirstFrom, IsCountAt, is_by_last, is_up_to, IsNext, IsBound};
+ghost use Rattle.rule_expand.specs.Sets.{IsGreatest, IsLastDue, IsNearBound, IsFirstFrom, IsCountAt, is_by_last, is_up_to, IsNext, IsBound};
 ghost use Rattle.model_series.specs.declared.by_part.End.TheVariants.{Count};
 
 use crate::bound::Bound;
@@ -76,7 +76,8 @@ fn last_due(rule: &Rule, start_day: i64, high: i64) -> i64
 fn last_counted(rule: &Rule, start_day: i64, count: u32) -> i64
     requires start { IsNear 10000000 start_day }
     requires count { (1 ≤ count) × (count ≤ 1000) }
-    ensures { (t : ℕ) → IsGreatest (is_in (is_due rule.now start_day) (Count count) t start_day) result }
+    ensures greatest { (t : ℕ) → IsGreatest (is_in (is_due rule.now start_day) (Count count) t start_day) result }
+    ensures near { IsNear 147000000000 result }
 {
     let mut here = start_day;
     for k in 1..count {
@@ -89,9 +90,10 @@ fn last_counted(rule: &Rule, start_day: i64, count: u32) -> i64
 }
 
 // The last day of a rule's set.
-fn end_of(rule: &Rule, start: i64) -> Bound
+pub(crate) fn end_of(rule: &Rule, start: i64) -> Bound
     requires start { IsNear 400000000000 start }
-    ensures { IsBound (is_in_set rule.now start) result }
+    ensures bound { IsBound (is_in_set rule.now start) result }
+    ensures near { IsNearBound result }
 {
     let day = day_of_second(start);
     match rule.end {
