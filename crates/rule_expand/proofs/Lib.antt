@@ -15,3 +15,5 @@ pub mod Least
 pub mod Sooner
 pub mod Own
 pub mod From
+pub mod NextDates
+pub mod MatchingDays

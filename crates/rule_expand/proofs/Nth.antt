@@ -54,7 +54,7 @@ nday-by : (b : Bool) (month : Bool) (n : ℤ) (before after : ℕ) (d : NDay) �
 nday-by true month n before after d e f l = nth-is month n before after d.day d.nth f l (grind (arith, nat_tests))
 nday-by false month n before after d e f l = refl
 
-nday-is : (month : Bool) (n : ℤ) (before after : ℕ) (d : NDay) → scope_first month n ≡ n -ℤ pos before → scope_last month n ≡ n +ℤ pos after → nday_at (weekday_of n) (before / 7 + 1) (after / 7 + 1) d ≡ nday_matches month n d
+pub nday-is : (month : Bool) (n : ℤ) (before after : ℕ) (d : NDay) → scope_first month n ≡ n -ℤ pos before → scope_last month n ≡ n +ℤ pos after → nday_at (weekday_of n) (before / 7 + 1) (after / 7 + 1) d ≡ nday_matches month n d
 unfolding nday_matches
 nday-is month n before after d f l = nday-by (nat_eq (weekday_of n) d.day) month n before after d refl f l
 

@@ -64,6 +64,9 @@ date_near n h =
     let b = place_in_year n a.0 in
     omega (arith, signed_arith, a.1, b, h)
 
+pub year_in : (n : ℤ) → IsNear 2199023262000 n → IsNear 12100000000 (year_of n)
+year_in n h = date_near n (omega (arith, signed_arith, h), omega (arith, signed_arith, h))
+
 first_near : (f : Freq) (w : ℕ) (n : ℤ) → n ≤ℤ (period_first f w n +ℤ pos 400)
 unfolding period_first
 first_near Daily w n = omega (arith, signed_arith)

@@ -57,7 +57,7 @@ module _ (xs : List Exception) (set : ℤ → Bool) (t : ℕ) where
 pub named_early : (xs : List Exception) (n : ℤ) (t : ℕ) → ((w : ℤ) → is_named xs w ≡ true → IsNear 400000000000 w) → is_named xs (n *ℤ pos 86400 +ℤ pos t) ≡ true → n ≤ℤ pos 5000000
 named_early xs n t h k = let x = h (n *ℤ pos 86400 +ℤ pos t) k in omega (arith, signed_arith, x)
 
-int_gap_is : (a b : ℤ) → up (pos (int_gap a b)) + (down b + up a) ≡ max (up b + down a) (down b + up a)
+pub int_gap_is : (a b : ℤ) → up (pos (int_gap a b)) + (down b + up a) ≡ max (up b + down a) (down b + up a)
 int_gap_is (pos a) (pos b) = omega (arith, signed_arith)
 int_gap_is (pos a) (negsuc b) = omega (arith, signed_arith)
 int_gap_is (negsuc a) (pos b) = omega (arith, signed_arith)

@@ -8,7 +8,7 @@ use Rattle.model_series.specs.declared.by_part.NDay.{NDay}
 use Rattle.model_series.specs.declared.rule.Rule.{Rule}
 use Rattle.model_series.specs.Places.{is_place}
 use Rattle.model_series.specs.Periods.{period_first, period_last, period_number, is_in_phase}
-use Rattle.model_series.specs.RuleSets.{is_kept}
+use Rattle.model_series.specs.RuleSets.{day_matches, is_kept}
 
 -- the place, if one is named, from the front or from the end
 abbrev pub nth_at : ℕ → ℕ → Option ℤ → Bool
@@ -81,3 +81,22 @@ abbrev pub IsWholePeriod : Rule → ℤ → ℕ → Type 0
 IsWholePeriod r first count = (k : ℕ) → k < count
     → (period_first r.frequency r.week_start (first +ℤ pos k) ≡ first)
     × (period_last r.frequency r.week_start (first +ℤ pos k) +ℤ pos 1 ≡ first +ℤ pos count)
+
+-- the first matching day from one to another
+pub record IsFirstMatch (r : Rule) (from last n : ℤ) : Type 0 where
+  pub low : from ≤ℤ n
+  pub high : n ≤ℤ last
+  pub matches : day_matches r n ≡ true
+  pub before : (m : ℤ) → from ≤ℤ m → m <ℤ n → day_matches r m ≡ true → ⊥
+
+-- of a period that begins with `first` and has so many days more, no day after `after` matches
+abbrev pub NonePlain : Rule → ℤ → ℤ → ℕ → Type 0
+NonePlain r after first more = (n : ℤ) → first ≤ℤ n → n ≤ℤ (first +ℤ pos more) → after <ℤ n → day_matches r n ≡ true → ⊥
+
+-- the first such day
+pub record IsFirstPlain (r : Rule) (after first : ℤ) (more : ℕ) (n : ℤ) : Type 0 where
+  pub low : first ≤ℤ n
+  pub high : n ≤ℤ (first +ℤ pos more)
+  pub past : after <ℤ n
+  pub matches : day_matches r n ≡ true
+  pub before : (m : ℤ) → first ≤ℤ m → m <ℤ n → after <ℤ m → day_matches r m ≡ true → ⊥

@@ -5,7 +5,10 @@
 #![tactic(auto)]
 
 mod bound;
+mod dated;
 mod laws;
+mod matching;
+mod months;
 mod occurs;
 mod series;
 mod set;

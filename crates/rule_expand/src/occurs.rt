@@ -11,7 +11,10 @@ ghost use Rattle.model_time.specs.Floor.{floor_div, modulo};
 ghost use Rattle.rule_expand.specs.Near.{IsNear};
 ghost use Rattle.rule_expand.specs.Walk.{nday_at};
 
-use civil_days::{Civil, civil, weekday};
+use crate::dated::with_date;
+use crate::matching::matches;
+use crate::months::{days_in_month, days_in_year};
+use civil_days::{Civil, civil};
 use model_series::by_part::{Freq, NDay};
 use model_series::rule::Rule;
 
@@ -25,27 +28,6 @@ pub(crate) fn date_at(day: i64) -> Civil
     ensures bound { IsNear 12100000000 result.year }
 {
     civil(day)
-}
-
-// Whether the year has 366 days.
-#[tactic(auto, unfolding(model_time::specs::CivilDay::is_leap))]
-fn is_leap_year(year: i64) -> bool
-    ensures { result ≡ is_leap year }
-{
-    year.rem_euclid(4) == 0 && (year.rem_euclid(100) != 0 || year.rem_euclid(400) == 0)
-}
-
-// The days of a month.
-#[tactic(auto, unfolding(model_time::specs::CivilDay::month_length))]
-fn days_in_month(year: i64, month: u8) -> u8
-    ensures value { result ≡ month_length year month }
-    ensures bound { IsInRange 28 31 result }
-{
-    match month {
-        2 => { if is_leap_year(year) { 29 } else { 28 } }
-        4 | 6 | 9 | 11 => 30,
-        _ => 31,
-    }
 }
 
 // Whether an item is a place, counted from the front or from the end.
@@ -95,16 +77,8 @@ fn in_month(day: i64) -> Around
     }
 }
 
-// The days of a year.
-fn days_in_year(year: i64) -> u32
-    ensures value { result ≡ days_through_month year 12 }
-    ensures bound { result ≤ 366 }
-{
-    if is_leap_year(year) { 366 } else { 365 }
-}
-
 // The year of a day.
-fn in_year(day: i64) -> Around
+pub(crate) fn in_year(day: i64) -> Around
     requires { IsNear 2199023260000 day }
     ensures first { year_first day ≡ day -ℤ pos result.before }
     ensures last { year_last day ≡ day +ℤ pos result.after }
@@ -184,7 +158,7 @@ fn has_month(months: &[i32], month: u8) -> bool
 }
 
 // Whether an item of a part that isn't empty is the day's month.
-fn in_months(months: &[i32], month: u8) -> bool
+pub(crate) fn in_months(months: &[i32], month: u8) -> bool
     ensures { result ≡ empty_or_any (λ k. int_eq k (pos month)) months.now }
 {
     months.is_empty() || has_month(months, month)
@@ -215,7 +189,7 @@ fn has_weekday(days: &[NDay], weekday: u8, front: u32, back: u32) -> bool
 }
 
 // The same of a part that may be empty.
-fn in_weekdays(days: &[NDay], weekday: u8, front: u32, back: u32) -> bool
+pub(crate) fn in_weekdays(days: &[NDay], weekday: u8, front: u32, back: u32) -> bool
     requires front { front < 1000 }
     requires back { back < 1000 }
     ensures { result ≡ empty_or_any (nday_at weekday front back) days.now }
@@ -223,50 +197,12 @@ fn in_weekdays(days: &[NDay], weekday: u8, front: u32, back: u32) -> bool
     days.is_empty() || has_weekday(days, weekday, front, back)
 }
 
-// How the weekdays of a rule are counted around a day.
-fn in_scope(rule: &Rule, day: i64) -> Around
-    requires { IsNear 2199023260000 day }
-    ensures first { scope_first (counts_in_month rule.now.frequency rule.now.by_month) day ≡ day -ℤ pos result.before }
-    ensures last { scope_last (counts_in_month rule.now.frequency rule.now.by_month) day ≡ day +ℤ pos result.after }
-    ensures before { result.before ≤ 366 }
-    ensures after { result.after ≤ 366 }
-{
-    match rule.frequency {
-        Freq::Monthly => in_month(day),
-        _ => {
-            if rule.by_month.items().is_empty() {
-                in_year(day)
-            } else {
-                in_month(day)
-            }
-        }
-    }
-}
-
 // Whether each part matches the day.
 pub(crate) fn matches_day(rule: &Rule, day: i64) -> bool
     requires { IsNear 2199023260000 day }
     ensures { result ≡ day_matches rule.now day }
 {
-    let date = date_at(day);
-    let scope = in_scope(rule, day);
-    let month = in_month(day);
-    let weekdays = in_weekdays(
-        rule.by_day.items(),
-        weekday(day),
-        scope.before / 7 + 1,
-        scope.after / 7 + 1,
-    );
-    let days = in_month_days(rule.by_month_day.items(), date.day as u32, month.after + 1);
-    let months = in_months(rule.by_month.items(), date.month);
-    all_of(weekdays, days, months)
-}
-
-// Whether all three hold.
-fn all_of(a: bool, b: bool, c: bool) -> bool
-    ensures { result ≡ (a && (b && c)) }
-{
-    a && b && c
+    matches(rule, with_date(day))
 }
 
 // How many of some days in a row match.

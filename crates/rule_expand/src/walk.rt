@@ -1,5 +1,5 @@
 //! The next day that is kept and in phase.
-ghost use Rattle.std.specs.Prelude.{◌^◌, unsigned_abs, ◌&&◌, ℕ, ◌≡◌, ◌+◌, ◌-◌, ◌+ℤ◌, ◌*◌, ◌-ℤ◌, ◌*ℤ◌, ◌<◌, ◌≤◌, ◌≤ℤ◌, ◌<ℤ◌, ◌↔◌, ℤ, pos, neg_ℤ, true, IsSome, IfSome, IsNone};
+ghost use Rattle.std.specs.Prelude.{[], ◌^◌, unsigned_abs, ◌&&◌, ℕ, ◌≡◌, ◌+◌, ◌-◌, ◌+ℤ◌, ◌*◌, ◌-ℤ◌, ◌*ℤ◌, ◌<◌, ◌≤◌, ◌≤ℤ◌, ◌<ℤ◌, ◌↔◌, ℤ, pos, neg_ℤ, true, IsSome, IfSome, IsNone};
 ghost use Rattle.std.specs.Int.{IsInRange};
 ghost use Rattle.model_series.specs.Periods.{period_number};
 ghost use Rattle.model_series.specs.Places.{empty_or_any, is_place, count_days};
@@ -9,6 +9,7 @@ ghost use Rattle.model_time.specs.Floor.{floor_div, modulo};
 ghost use Rattle.rule_expand.specs.Near.{IsNear, most};
 ghost use Rattle.rule_expand.specs.Walk.{IsWholePeriod, first_of, IsFirstPeriod, IsPhaseDay, IsNextDay, NoneThrough, NoneIn, IsFirstIn, periods, NoneKept, IsFirstKept};
 
+use crate::matching::first_plain;
 use crate::occurs::{ahead, count_matching, date_at, in_month_days, in_period, matches_day};
 use civil_days::day_of;
 use model_series::by_part::Freq;
@@ -141,6 +142,35 @@ fn first_day(rule: &Rule, number: i64) -> i64
 
 // The first day of a period that lies after another and is kept.
 fn first_in_period(rule: &Rule, number: i64, after: i64) -> Option<i64>
+    requires near { IsNear (most rule.now.frequency) number }
+    requires days { IsNear 2199023248000 (first_of rule.now.frequency rule.now.week_start number) }
+    requires after { IsNear 2198000000000 after }
+    ensures none { IsNone result → NoneIn rule.now after number }
+    ensures some { IfSome result (IsFirstIn rule.now after number) }
+{
+    if rule.by_set.items().is_empty() {
+        first_matching_in(rule, number, after)
+    } else {
+        first_placed_in(rule, number, after)
+    }
+}
+
+// The same for a rule without places, which keeps every matching day.
+fn first_matching_in(rule: &Rule, number: i64, after: i64) -> Option<i64>
+    requires near { IsNear (most rule.now.frequency) number }
+    requires days { IsNear 2199023248000 (first_of rule.now.frequency rule.now.week_start number) }
+    requires after { IsNear 2198000000000 after }
+    requires plain { rule.now.by_set ≡ [] }
+    ensures none { IsNone result → NoneIn rule.now after number }
+    ensures some { IfSome result (IsFirstIn rule.now after number) }
+{
+    let day = first_day(rule, number);
+    let length = in_period(rule, day).after;
+    first_plain(rule, day, length, after)
+}
+
+// The same for a rule with places.
+fn first_placed_in(rule: &Rule, number: i64, after: i64) -> Option<i64>
     requires near { IsNear (most rule.now.frequency) number }
     requires days { IsNear 2199023248000 (first_of rule.now.frequency rule.now.week_start number) }
     ensures none { IsNone result → NoneIn rule.now after number }
