@@ -1,1 +1,4 @@
-mod NumberLemmas
+pub mod NumberLemmas
+pub mod DateLemmas
+pub mod FormLemmas
+pub mod WrittenLemmas

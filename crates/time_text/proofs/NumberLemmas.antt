@@ -2,7 +2,7 @@
 use Rattle.std.proofs.Common.{zero, suc, ◌≡◌, ℕ, ◌+◌, ◌-◌, ◌*◌, ◌<◌, ◌^◌, ◌==◌, List, length, Bool, true, false, Some, None, Result, Ok, Err, fold, nat_lt, if◌then◌else◌, arith, rules, get_or, sym, ap, ◌∙◌, refl, subst}
 use Rattle.std.proofs.lemmas.Bool.{and_from, and_parts}
 use Rattle.std.proofs.lemmas.Bool.Decides.{nat_tests}
-use Rattle.std.proofs.lemmas.Fmt.{decimal-digits_value, digits_decimal, first_decimal, decimal_digit, decimal_nonempty, IsAscii-from_digits}
+use Rattle.std.proofs.lemmas.Fmt.{decimal-digits_value, digits_decimal, digits_value-decimal, first_decimal, decimal_digit, decimal_nonempty, IsAscii-from_digits}
 use Rattle.std.proofs.lemmas.Slice.Eq.{bytes_eq-Decides}
 use Rattle.std.proofs.lemmas.Str.{IsUtf8-from_ascii}
 use Rattle.std.proofs.lemmas.Str.Parse.{IsNumeralModel, numerals_by_fold, parse_digits}
@@ -60,3 +60,9 @@ parsed {E} s (Err e) h d z =
 
 pub digits_are_utf8 : (s : List ℕ) → are_digits s ≡ true → IsUtf8 s
 digits_are_utf8 s h = IsUtf8-from_ascii s (IsAscii-from_digits s (own.to s h))
+
+-- a number that was written is read back
+pub decimal_back : (n : ℕ) → n < 2 ^ 64 → number_in (decimal n) ≡ Some n
+decimal_back n h =
+    let v : value_of_digits (decimal n) ≡ n = digits_value-decimal own n h in
+    some_where (decimal n) (subst (λ m. m < 2 ^ 64) (sym v) h) (ap decimal v) ∙ ap Some v

@@ -1,0 +1,22 @@
+//! The days that recurrence rules give, and the occurrences of a series, on all days without end.
+//!
+//! Nothing here takes memory. Days count from 1970-01-01; rules and series are those of `model_series`, whose types keep their
+//! limits.
+#![tactic(auto)]
+
+mod bound;
+mod dated;
+mod laws;
+mod matching;
+mod months;
+mod occurs;
+mod series;
+mod set;
+mod walk;
+
+pub use bound::Bound;
+pub use laws::rules_repeat;
+pub use occurs::kept_on;
+pub use series::next_from;
+pub use set::{last_day, occurs_on};
+pub use walk::period;

@@ -1,0 +1,155 @@
+//! The days that match a rule, one after another.
+ghost use Rattle.std.specs.Prelude.{◌≡◌, ◌≤◌, ◌<◌, ℤ, pos, true, false, ◌+ℤ◌, ◌-ℤ◌, ◌<ℤ◌, ◌≤ℤ◌, IfSome, IsNone};
+ghost use Rattle.model_series.specs.Periods.{month_first, month_last};
+ghost use Rattle.model_series.specs.Places.{empty_or_any};
+ghost use Rattle.model_series.specs.RuleSets.{counts_in_month, day_matches, month_day_matches, nday_matches, scope_first, scope_last};
+ghost use Rattle.rule_expand.specs.Near.{IsNear};
+ghost use Rattle.rule_expand.specs.Walk.{IsFirstMatch, IsFirstPlain, NonePlain};
+
+use crate::dated::{Dated, next, next_month, with_date};
+use crate::occurs::{Around, in_month_days, in_months, in_weekdays, in_year};
+use model_series::by_part::Freq;
+use model_series::rule::Rule;
+
+/// Whether each part of a rule matches the day.
+pub(crate) fn matches(rule: &Rule, at: Dated) -> bool
+    requires { IsNear 2199023260000 at.day }
+    ensures { result ≡ day_matches rule.now at.day }
+{
+    if !in_months(rule.by_month.items(), at.month) {
+        return false;
+    }
+    if !is_month_day(rule, at) {
+        return false;
+    }
+    is_weekday(rule, at)
+}
+
+// Whether `byMonthDay` matches the day.
+fn is_month_day(rule: &Rule, at: Dated) -> bool
+    ensures { result ≡ empty_or_any (month_day_matches at.day) rule.now.by_month_day }
+{
+    let around = around_in_month(at);
+    in_month_days(
+        rule.by_month_day.items(),
+        around.before + 1,
+        around.after + 1,
+    )
+}
+
+// Whether `byDay` matches the day.
+fn is_weekday(rule: &Rule, at: Dated) -> bool
+    requires { IsNear 2199023260000 at.day }
+    ensures { result ≡ empty_or_any (nday_matches (counts_in_month rule.now.frequency rule.now.by_month) at.day) rule.now.by_day }
+{
+    if rule.by_day.items().is_empty() {
+        return true;
+    }
+    let scope = scope_of(rule, at);
+    in_weekdays(
+        rule.by_day.items(),
+        at.weekday,
+        scope.before / 7 + 1,
+        scope.after / 7 + 1,
+    )
+}
+
+// The days of the month before and after a day.
+fn around_in_month(at: Dated) -> Around
+    ensures first { month_first at.day ≡ at.day -ℤ pos result.before }
+    ensures last { month_last at.day ≡ at.day +ℤ pos result.after }
+    ensures before { result.before ≤ 366 }
+    ensures after { result.after ≤ 366 }
+{
+    Around {
+        before: at.month_day as u32 - 1,
+        after: (at.length - at.month_day) as u32,
+    }
+}
+
+// The days before and after a day among which days of the week are counted.
+fn scope_of(rule: &Rule, at: Dated) -> Around
+    requires { IsNear 2199023260000 at.day }
+    ensures first { scope_first (counts_in_month rule.now.frequency rule.now.by_month) at.day ≡ at.day -ℤ pos result.before }
+    ensures last { scope_last (counts_in_month rule.now.frequency rule.now.by_month) at.day ≡ at.day +ℤ pos result.after }
+    ensures before { result.before ≤ 366 }
+    ensures after { result.after ≤ 366 }
+{
+    match rule.frequency {
+        Freq::Monthly => around_in_month(at),
+        _ => {
+            if rule.by_month.items().is_empty() {
+                in_year(at.day)
+            } else {
+                around_in_month(at)
+            }
+        }
+    }
+}
+
+// The next day that may match, where a day doesn't: a month that `byMonth` leaves out is passed over.
+fn step(rule: &Rule, at: Dated) -> Dated
+    requires near { IsNear 2199023260000 at.day }
+    requires unmatched { day_matches rule.now at.day ≡ false }
+    ensures later { at.day <ℤ result.day }
+    ensures near { result.day ≤ℤ (at.day +ℤ pos 31) }
+    ensures none { (n : ℤ) → at.day ≤ℤ n → n <ℤ result.day → day_matches rule.now n ≡ false }
+{
+    if in_months(rule.by_month.items(), at.month) {
+        next(at)
+    } else {
+        next_month(at)
+    }
+}
+
+// The first matching day of some days in a row.
+fn first_matching(rule: &Rule, from: i64, last: i64) -> Option<i64>
+    requires from { IsNear 2199023250000 from }
+    requires last { last ≤ℤ (from +ℤ pos 400) }
+    ensures none { IsNone result → (n : ℤ) → from ≤ℤ n → n ≤ℤ last → day_matches rule.now n ≡ true → ⊥ }
+    ensures some { IfSome result (IsFirstMatch rule.now from last) }
+{
+    let mut at = with_date(from);
+    while at.day <= last {
+        if matches(rule, at) {
+            return Some(at.day);
+        }
+        at = step(rule, at);
+    }
+    None
+}
+
+// The later of a period's first day and the day after another.
+fn low_of(first: i64, after: i64) -> i64
+    requires { IsNear 2199023248000 after }
+    ensures low { first ≤ℤ result }
+    ensures past { after <ℤ result }
+    ensures least { (n : ℤ) → first ≤ℤ n → after <ℤ n → result ≤ℤ n }
+    ensures near { IsNear 2199023248000 first → IsNear 2199023250000 result }
+{
+    if first > after { first } else { after + 1 }
+}
+
+/// The first day after another of a period that begins with `first` and has so many days more, for a rule that keeps every matching day.
+pub(crate) fn first_plain(rule: &Rule, first: i64, more: u32, after: i64) -> Option<i64>
+    requires near { IsNear 2199023248000 first }
+    requires after { IsNear 2199023248000 after }
+    requires more { more ≤ 366 }
+    ensures none { IsNone result → NonePlain rule.now after first more }
+    ensures some { IfSome result (IsFirstPlain rule.now after first more) }
+{
+    let from = low_of(first, after);
+    let last = last_of(first, more);
+    if from > last {
+        return None;
+    }
+    first_matching(rule, from, last)
+}
+
+fn last_of(first: i64, more: u32) -> i64
+    requires near { IsNear 2199023248000 first }
+    requires more { more ≤ 366 }
+    ensures { result ≡ first +ℤ pos more }
+{
+    first + i64::from(more)
+}

@@ -1,0 +1,273 @@
+//! The occurrences of a series.
+ghost use Rattle.std.specs.Prelude.{◌^◌, ◌&&◌, ◌||◌, int_lt, unsigned_abs, int_le, ℕ, ◌≡◌, ◌+◌, ◌-◌, ◌+ℤ◌, ◌*◌, ◌-ℤ◌, ◌*ℤ◌, ◌<◌, ◌≤◌, ◌≤ℤ◌, ◌<ℤ◌, ℤ, pos, true, IsSome, IfSome, IsNone, Some, slice_get};
+ghost use Rattle.model_series.specs.Occurrences.{IsOccurrence, IsRegular};
+ghost use Rattle.model_series.specs.RuleSets.{is_in_set};
+ghost use Rattle.model_series.specs.SeriesLimits.{is_named};
+ghost use Rattle.model_series.specs.Walls.{second_of_wall};
+ghost use Rattle.model_time.specs.Floor.{floor_div};
+ghost use Rattle.rule_expand.specs.Later.{IsLaterRid, IsLaterOwn, IsLaterOne, IsOwnSecond, is_after, is_sooner, sooner, IsFirstOf, IsLater, IsLaterAt};
+ghost use Rattle.rule_expand.specs.Near.{IsNear};
+ghost use Rattle.rule_expand.specs.Sets.{is_regular, IsFirstFrom};
+ghost use Rattle.model_series.specs.declared.rule.Rule.{Rule};
+ghost use Rattle.std.specs.Ordering.{int_eq};
+ghost use Rattle.rule_expand.specs.Least.{IsLeastOf, IsSomeDay, lower};
+
+use crate::set::{next_in_set, second_of_day};
+use model_series::exception::Exception;
+use model_series::occurrence::Occurrence;
+use model_series::rule::Rule;
+use model_series::series::Series;
+use model_time::wall::Wall;
+
+// Whether an exception names the wall second.
+#[tactic(auto, unfolding(model_series::specs::SeriesLimits::is_named))]
+fn names(exceptions: &[Exception], wall: i64) -> bool
+    ensures { result ≡ is_named exceptions.now wall }
+{
+    exceptions.iter().any(|x| x.rid.seconds() == wall)
+}
+
+// The wall second of a day.
+fn wall_of(day: i64, second: u32) -> i64
+    requires day { IsNear 2198000000000 day }
+    requires second { second < 86400 }
+    ensures { result ≡ day *ℤ pos 86400 +ℤ pos second }
+{
+    day * 86_400 + second as i64
+}
+
+// The day after.
+fn day_after(day: i64) -> i64
+    requires { IsNear 2198000000000 day }
+    ensures { result ≡ day +ℤ pos 1 }
+{
+    day + 1
+}
+
+// The first day of a rule's set at or after a day that no exception names.
+fn next_regular(rule: &Rule, start: i64, exceptions: &[Exception], from: i64) -> Option<i64>
+    requires start { IsNear 400000000000 start }
+    requires from { IsNear 2197000000000 from }
+    requires rids { (w : ℤ) → is_named exceptions.now w ≡ true → IsNear 400000000000 w }
+    ensures none { IsNone result → (n : ℤ) → from ≤ℤ n → is_regular exceptions.now (is_in_set rule.now start) (second_of_wall start) n ≡ true → ⊥ }
+    ensures some { IfSome result (IsFirstFrom (is_regular exceptions.now (is_in_set rule.now start) (second_of_wall start)) from) }
+    ensures near { IfSome result (IsNear 2198000000000) }
+{
+    let second = second_of_day(start);
+    let mut here = from;
+    loop {
+        let Some(n) = next_in_set(rule, start, here) else {
+            return None;
+        };
+        if !names(exceptions, wall_of(n, second)) {
+            return Some(n);
+        }
+        here = day_after(n);
+    }
+}
+
+// The lower of two.
+fn lower_of(a: Option<i64>, b: Option<i64>) -> Option<i64>
+    ensures { result ≡ lower a b }
+{
+    match (a, b) {
+        (None, _) => b,
+        (Some(x), None) => Some(x),
+        (Some(x), Some(y)) => Some(x.min(y)),
+    }
+}
+
+// The first day at or after one of any rule's set that no exception names.
+fn next_of_rules(rules: &[Rule], start: i64, exceptions: &[Exception], from: i64) -> Option<i64>
+    requires start { IsNear 400000000000 start }
+    requires from { IsNear 2197000000000 from }
+    requires rids { (w : ℤ) → is_named exceptions.now w ≡ true → IsNear 400000000000 w }
+    ensures least { IsLeastOf (IsSomeDay exceptions.now start from rules.now) result }
+    ensures near { IfSome result (IsNear 2198000000000) }
+{
+    let mut best = None;
+    for r in rules {
+        best = lower_of(best, next_regular(r, start, exceptions, from));
+    }
+    best
+}
+
+// Whether a start and its recurrence id come after others.
+#[tactic(auto, unfolding(crate::specs::Later::is_after))]
+fn comes_after(start: i64, rid: i64, from: i64, past: Option<i64>) -> bool
+    ensures { result ≡ is_after from past start rid }
+{
+    from < start
+        || (start == from
+            && match past {
+                None => true,
+                Some(p) => p < rid,
+            })
+}
+
+// Whether an occurrence comes before another.
+#[tactic(auto, unfolding(crate::specs::Later::is_sooner))]
+fn comes_sooner(a: Occurrence, b: Occurrence) -> bool
+    ensures { result ≡ is_sooner a b }
+{
+    precedes(
+        a.start.seconds(),
+        a.rid.seconds(),
+        b.start.seconds(),
+        b.rid.seconds(),
+    )
+}
+
+// Whether a start and its recurrence id come before others.
+fn precedes(start: i64, rid: i64, other: i64, other_rid: i64) -> bool
+    ensures { result ≡ (int_lt start other || (int_eq start other && int_lt rid other_rid)) }
+{
+    start < other || (start == other && rid < other_rid)
+}
+
+// The sooner of two.
+fn sooner_of(a: Option<Occurrence>, b: Option<Occurrence>) -> Option<Occurrence>
+    ensures { result ≡ sooner a b }
+{
+    match (a, b) {
+        (None, _) => b,
+        (Some(_), None) => a,
+        (Some(x), Some(y)) => { if comes_sooner(y, x) { b } else { a } }
+    }
+}
+
+// What an exception gives after a start and a recurrence id.
+fn replacement(x: &Exception, from: i64, past: Option<i64>) -> Option<Occurrence>
+    ensures { IsFirstOf (IsLater from past x.now) result }
+{
+    let Some(span) = x.replaced else {
+        return None;
+    };
+    if !comes_after(span.start.seconds(), x.rid.seconds(), from, past) {
+        return None;
+    }
+    Some(Occurrence {
+        rid: x.rid,
+        start: span.start,
+        length: span.length,
+        occupying: span.occupying,
+    })
+}
+
+// The first of those that the exceptions give.
+fn next_replacement(exceptions: &[Exception], from: i64, past: Option<i64>) -> Option<Occurrence>
+    ensures { IsFirstOf (λ o. (k : ℕ) × IsLaterAt from past exceptions.now k o) result }
+{
+    let mut best = None;
+    for x in exceptions {
+        best = sooner_of(best, replacement(x, from, past));
+    }
+    best
+}
+
+// The first wall second that is itself after a start and a recurrence id.
+fn first_second(from: i64, past: Option<i64>) -> i64
+    requires { IsNear 144115188075855872 from }
+    ensures value { (w : ℤ) → is_after from past w w ≡ int_le result w }
+    ensures near { (from ≤ℤ result) × (result ≤ℤ (from +ℤ pos 1)) }
+{
+    match past {
+        None => from,
+        Some(p) => { if p < from { from } else { from + 1 } }
+    }
+}
+
+// The first day whose second of the day isn't before a wall second.
+fn day_at_or_after(wall: i64, second: u32) -> i64
+    requires wall { IsNear 144115188075855873 wall }
+    requires second { second < 86400 }
+    ensures value { result ≡ floor_div (wall -ℤ pos second +ℤ pos 86399) 86400 }
+    ensures near { IsNear 2197000000000 result }
+{
+    (wall - second as i64 + 86_399).div_euclid(86_400)
+}
+
+// The first occurrence of a recurrence id, where there are rules.
+fn next_own_day(series: &Series, from: i64, past: Option<i64>) -> Option<i64>
+    requires from { IsNear 144115188075855872 from }
+    requires start { IsNear 400000000000 series.now.start }
+    requires rids { (w : ℤ) → is_named series.now.exceptions w ≡ true → IsNear 400000000000 w }
+    ensures { IsLeastOf (IsOwnSecond series.now from past) result }
+{
+    let start = series.start.seconds();
+    let second = second_of_day(start);
+    let low = first_second(from, past);
+    let day = day_at_or_after(low, second);
+    let Some(n) = next_of_rules(series.rules.items(), start, series.exceptions.items(), day) else {
+        return None;
+    };
+    Some(wall_of(n, second))
+}
+
+// The first second of a recurrence id that no exception names.
+fn own_second(series: &Series, from: i64, past: Option<i64>) -> Option<i64>
+    requires from { IsNear 144115188075855872 from }
+    requires start { IsNear 400000000000 series.now.start }
+    requires rids { (w : ℤ) → is_named series.now.exceptions w ≡ true → IsNear 400000000000 w }
+    ensures { IsLeastOf (IsLaterRid series.now from past) result }
+{
+    if !series.rules.items().is_empty() {
+        return next_own_day(series, from, past);
+    }
+    let start = series.start.seconds();
+    if !comes_after(start, start, from, past) {
+        return None;
+    }
+    if names(series.exceptions.items(), start) {
+        return None;
+    }
+    Some(start)
+}
+
+// Its occurrence.
+fn next_own(series: &Series, from: i64, past: Option<i64>) -> Option<Occurrence>
+    requires from { IsNear 144115188075855872 from }
+    requires start { IsNear 400000000000 series.now.start }
+    requires rids { (w : ℤ) → is_named series.now.exceptions w ≡ true → IsNear 400000000000 w }
+    ensures { IsFirstOf (IsLaterOwn series.now from past) result }
+{
+    let Some(w) = own_second(series, from, past) else {
+        return None;
+    };
+    Some(Occurrence {
+        rid: Wall::new(w),
+        start: Wall::new(w),
+        length: series.length,
+        occupying: series.occupying,
+    })
+}
+
+// The first occurrence after a start and a recurrence id.
+fn first_after(series: &Series, from: i64, past: Option<i64>) -> Option<Occurrence>
+    requires from { IsNear 144115188075855872 from }
+    requires start { IsNear 400000000000 series.now.start }
+    requires rids { (w : ℤ) → is_named series.now.exceptions w ≡ true → IsNear 400000000000 w }
+    ensures { IsFirstOf (IsLaterOne series.now from past) result }
+{
+    let own = next_own(series, from, past);
+    sooner_of(own, next_replacement(series.exceptions.items(), from, past))
+}
+
+// The seconds of a wall second, where there is one.
+fn seconds_of(wall: Option<Wall>) -> Option<i64>
+    ensures { result ≡ wall }
+{
+    match wall {
+        Some(wall) => Some(wall.seconds()),
+        None => None,
+    }
+}
+
+/// The first occurrence of a series, by start and then recurrence id, that starts after `from`, or at it with a recurrence
+/// id after `past`, if that is given. `None` where there is none on all days. Takes no memory.
+pub fn next_from(series: &Series, from: Wall, past: Option<Wall>) -> Option<Occurrence>
+    requires { unsigned_abs from < 2 ^ 57 }
+    ensures { IsFirstOf (IsLaterOne series.now from past) result }
+{
+    first_after(series, from.seconds(), seconds_of(past))
+}

@@ -1,0 +1,229 @@
+//! The set of a rule.
+ghost use Rattle.std.specs.Prelude.{◌^◌, unsigned_abs, ◌&&◌, int_le, ℕ, ◌≡◌, ◌+◌, ◌-◌, ◌+ℤ◌, ◌*◌, ◌-ℤ◌, ◌*ℤ◌, ◌<◌, ◌≤◌, ◌≤ℤ◌, ◌<ℤ◌, ℤ, pos, true, IsSome, IfSome, IsNone};
+ghost use Rattle.model_series.specs.Periods.{is_in_phase};
+ghost use Rattle.model_series.specs.Places.{count_from};
+ghost use Rattle.model_series.specs.RuleSets.{is_due, is_counted, is_in, is_in_set};
+ghost use Rattle.model_series.specs.Walls.{day_of_wall, is_in_years, second_of_wall};
+ghost use Rattle.model_time.specs.Floor.{floor_div, modulo};
+ghost use Rattle.rule_expand.specs.Near.{IsNear};
+ghost use Rattle.rule_expand.specs.Sets.{IsGreatest, IsLastDue, IsNearBound, IsFirstFrom, IsCountAt, is_by_last, is_up_to, IsNext, IsBound};
+ghost use Rattle.model_series.specs.declared.by_part.End.TheVariants.{Count};
+
+use crate::bound::Bound;
+use crate::occurs::is_kept_day;
+use crate::walk::{next_day, number_of};
+use model_series::by_part::End;
+use model_series::rule::Rule;
+use model_time::wall::Wall;
+
+// The first day after another that is kept and in phase.
+fn next_due(rule: &Rule, start_day: i64, after: i64) -> Option<i64>
+    requires start { IsNear 10000000 start_day }
+    requires after { IsNear 2198000000000 after }
+    ensures none { IsNone result → (m : ℤ) → after <ℤ m → is_due rule.now start_day m ≡ true → ⊥ }
+    ensures some { IfSome result (IsNext (is_due rule.now start_day) after) }
+    ensures near { IfSome result (λ n. n ≤ℤ (after +ℤ pos 146097000)) }
+{
+    next_day(rule, start_day, after)
+}
+
+// The day of a wall second.
+pub(crate) fn day_of_second(wall: i64) -> i64
+    requires { IsNear 400000000000 wall }
+    ensures value { result ≡ day_of_wall wall }
+    ensures near { IsNear 5000000 result }
+{
+    wall.div_euclid(86_400)
+}
+
+// The second of its day.
+pub(crate) fn second_of_day(wall: i64) -> u32
+    ensures value { result ≡ second_of_wall wall }
+    ensures bound { result < 86400 }
+{
+    wall.rem_euclid(86_400) as u32
+}
+
+// The last day whose wall second isn't past another.
+fn last_by(until: i64, second: u32) -> i64
+    requires until { IsNear 400000000000 until }
+    requires second { second < 86400 }
+    ensures value { result ≡ floor_div (until -ℤ pos second) 86400 }
+    ensures near { IsNear 5000000 result }
+{
+    (until - second as i64).div_euclid(86_400)
+}
+
+// The last of the first day and the due days up to one.
+fn last_due(rule: &Rule, start_day: i64, high: i64) -> i64
+    requires start { IsNear 10000000 start_day }
+    requires high { IsNear 10000000 high }
+    ensures { IsLastDue (is_due rule.now start_day) start_day high result }
+{
+    let mut here = start_day;
+    loop {
+        let Some(n) = next_due(rule, start_day, here) else {
+            return here;
+        };
+        if n > high {
+            return here;
+        }
+        here = n;
+    }
+}
+
+// The last of the first day and the due days after it, up to a number of days.
+fn last_counted(rule: &Rule, start_day: i64, count: u32) -> i64
+    requires start { IsNear 10000000 start_day }
+    requires count { (1 ≤ count) × (count ≤ 1000) }
+    ensures greatest { (t : ℕ) → IsGreatest (is_in (is_due rule.now start_day) (Count count) t start_day) result }
+    ensures near { IsNear 147000000000 result }
+{
+    let mut here = start_day;
+    for k in 1..count {
+        let Some(n) = next_due(rule, start_day, here) else {
+            return here;
+        };
+        here = n;
+    }
+    here
+}
+
+// The last day of a rule's set.
+pub(crate) fn end_of(rule: &Rule, start: i64) -> Bound
+    requires start { IsNear 400000000000 start }
+    ensures bound { IsBound (is_in_set rule.now start) result }
+    ensures near { IsNearBound result }
+{
+    let day = day_of_second(start);
+    match rule.end {
+        End::Never => match next_due(rule, day, day) {
+            Some(_) => Bound::Endless,
+            None => Bound::Last(day),
+        },
+        End::Count(count) => Bound::Last(last_counted(rule, day, count)),
+        End::Until(until) => Bound::Last(last_due(
+            rule,
+            day,
+            last_by(until.seconds(), second_of_day(start)),
+        )),
+    }
+}
+
+// Whether a number isn't greater than another.
+fn is_at_most(a: i64, b: i64) -> bool
+    ensures { result ≡ int_le a b }
+{
+    a <= b
+}
+
+// What a number leaves.
+fn remainder(number: i64, interval: u32) -> u32
+    requires { (1 ≤ interval) × (interval ≤ 1000) }
+    ensures { result ≡ modulo number interval }
+{
+    number.rem_euclid(interval as i64) as u32
+}
+
+// Whether a day is in phase with the start's day.
+fn is_phase_day(rule: &Rule, start_day: i64, day: i64) -> bool
+    requires start { IsNear 10000000 start_day }
+    requires day { IsNear 2199023255552 day }
+    ensures { result ≡ is_in_phase rule.now start_day day }
+{
+    let here = remainder(number_of(rule, day), rule.interval);
+    let start = remainder(number_of(rule, start_day), rule.interval);
+    here == start
+}
+
+// Whether a day is kept and in phase.
+#[tactic(auto, unfolding(model_series::specs::RuleSets::is_due))]
+fn is_due_day(rule: &Rule, start_day: i64, day: i64) -> bool
+    requires start { IsNear 10000000 start_day }
+    requires day { IsNear 2199023255552 day }
+    ensures { result ≡ is_due rule.now start_day day }
+{
+    is_kept_day(rule, day) && is_phase_day(rule, start_day, day)
+}
+
+// Whether a due day after the start's is in the set.
+fn is_within(rule: &Rule, start: i64, start_day: i64, day: i64) -> bool
+    requires start { IsNear 400000000000 start }
+    requires start_day { start_day ≡ day_of_wall start }
+    requires day { start_day <ℤ day }
+    requires due { is_due rule.now start_day day ≡ true }
+    ensures { result ≡ is_in_set rule.now start day }
+{
+    match rule.end {
+        End::Never => true,
+        End::Count(count) => is_at_most(day, last_counted(rule, day_of_second(start), count)),
+        End::Until(until) => is_at_most(day, last_by(until.seconds(), second_of_day(start))),
+    }
+}
+
+// Whether a day is in the rule's set.
+fn is_set_day(rule: &Rule, start: i64, day: i64) -> bool
+    requires start { IsNear 400000000000 start }
+    requires day { IsNear 2199023255552 day }
+    ensures { result ≡ is_in_set rule.now start day }
+{
+    let first = day_of_second(start);
+    if day == first {
+        return true;
+    }
+    if day < first {
+        return false;
+    }
+    if !is_due_day(rule, first, day) {
+        return false;
+    }
+    is_within(rule, start, first, day)
+}
+
+// The day before.
+fn day_before(day: i64) -> i64
+    requires { IsNear 2199023255552 day }
+    ensures { result ≡ day -ℤ pos 1 }
+{
+    day - 1
+}
+
+// The first day of a rule's set at or after a day.
+pub(crate) fn next_in_set(rule: &Rule, start: i64, from: i64) -> Option<i64>
+    requires start { IsNear 400000000000 start }
+    requires from { IsNear 2197000000000 from }
+    ensures none { IsNone result → (n : ℤ) → from ≤ℤ n → is_in_set rule.now start n ≡ true → ⊥ }
+    ensures some { IfSome result (IsFirstFrom (is_in_set rule.now start) from) }
+    ensures near { IfSome result (IsNear 2198000000000) }
+{
+    let first = day_of_second(start);
+    if from <= first {
+        return Some(first);
+    }
+    let Some(n) = next_due(rule, first, day_before(from)) else {
+        return None;
+    };
+    if is_within(rule, start, first, n) {
+        return Some(n);
+    }
+    None
+}
+
+/// The last day of the set of a rule for a series that starts at a wall second of the years 0 to 9999. Takes no memory.
+#[tactic(auto, using(crate::proofs::Range::years_near))]
+pub fn last_day(rule: &Rule, start: Wall) -> Bound
+    requires { is_in_years start ≡ true }
+    ensures { IsBound (is_in_set rule.now start) result }
+{
+    end_of(rule, start.seconds())
+}
+
+/// Whether a day is in the set of a rule for a series that starts at a wall second of the years 0 to 9999. Takes no memory.
+#[tactic(auto, using(crate::proofs::Range::years_near, crate::proofs::Range::size_41))]
+pub fn occurs_on(rule: &Rule, start: Wall, day: i64) -> bool
+    requires start { is_in_years start ≡ true }
+    requires day { unsigned_abs day < 2 ^ 41 }
+    ensures { result ≡ is_in_set rule.now start day }
+{
+    is_set_day(rule, start.seconds(), day)
+}

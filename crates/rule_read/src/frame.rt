@@ -1,0 +1,18 @@
+//! The members of a rule that aren't lists.
+ghost use Rattle.std.specs.Prelude.{◌≡◌, ◌<◌, true};
+ghost use Rattle.std.specs.Int.{IsInRange};
+ghost use Rattle.model_series.specs.RuleLimits.{is_end};
+
+use model_series::by_part::{End, Freq};
+
+/// How long periods are, which of them count, and where the rule ends.
+#[derive(Clone, Copy, Drop)]
+pub(crate) struct Frame {
+    pub frequency: Freq,
+    pub interval: u32,
+    pub week_start: u8,
+    pub end: End,
+    ghost interval_in: { IsInRange 1 1000 interval },
+    ghost week_start_in: { week_start < 7 },
+    ghost end_in: { is_end end ≡ true },
+}

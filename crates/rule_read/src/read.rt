@@ -1,0 +1,221 @@
+//! Reads recurrence rules.
+ghost use Rattle.std.specs.Prelude.{◌≡◌, ◌≤◌, ◌<◌, ◌^◌, Some, None, length, map, option_and_then, option_map, true, unsigned_abs, IfErr, IfOk, IfSome};
+ghost use Rattle.model_json.specs.Parts.{all_some};
+ghost use Rattle.model_json.specs.TreeData.{data_of};
+ghost use Rattle.model_series.specs.RuleLimits.{are_by_parts};
+ghost use Rattle.model_series.specs.RuleObjects.{filled, frequency_in, parts_of, rule_in, rules_in, rules_of, settled_rule, with_lists, with_members};
+ghost use Rattle.model_series.specs.Walls.{day_of_wall, is_in_years};
+ghost use Rattle.rule_read.specs.declared.error.RulesError.TheVariants.{BadRules, NoMemory};
+
+use crate::error::RulesError;
+use crate::frame::Frame;
+use crate::implied::{is_settled, with_days, with_month_days, with_months};
+use crate::lists::{items_of, months, ndays, places};
+use crate::values::{end, frequency, interval, week_start};
+use crate::words::{is_rule_object, value_at};
+use model_json::tree::Tree;
+use model_series::by_part::{Freq, NDays, Small};
+use model_series::rule::Rule;
+use model_series::rules::Rules;
+use model_time::wall::Wall;
+use std::alloc::{AllocError, Global};
+
+/// The most rules of a series.
+const MOST_RULES: usize = 4;
+
+/// Reads the rules of a series that starts at a wall second of the years 0 to 9999, with their implied parts filled in.
+///
+/// `BadRules` exactly where the value isn't a list of at most 4 objects, each of them a rule.
+pub fn read_rules(alloc: Global, tree: &Tree, start: Wall) -> Result<Rules, RulesError>
+    requires { is_in_years start ≡ true }
+    ensures ok { IfOk result (λ rules. rules_in start (data_of tree.now) ≡ Some (map parts_of rules)) }
+    ensures few { IfOk result (λ rules. length rules ≤ 4) }
+    ensures bad { IfErr result (λ error. error ≡ BadRules → rules_in start (data_of tree.now) ≡ None) }
+{
+    match rules(alloc, tree, start)? {
+        Some(rules) => Ok(rules),
+        None => Err(RulesError::BadRules),
+    }
+}
+
+// The rules, where the value is a list of such.
+fn rules(alloc: Global, tree: &Tree, start: Wall) -> Result<Option<Rules>, AllocError>
+    requires { is_in_years start ≡ true }
+    ensures value { IfOk result (λ o. option_map (λ rules. map parts_of rules) o ≡ rules_in start (data_of tree.now)) }
+    ensures few { IfOk result (λ o. IfSome o (λ rules. length rules ≤ 4)) }
+{
+    match items_of(tree) {
+        Some(items) => few_rules(alloc, items, day_of(start)),
+        None => Ok(None),
+    }
+}
+
+// The day of a wall second.
+fn day_of(wall: Wall) -> i64
+    requires { is_in_years wall ≡ true }
+    ensures value { result ≡ day_of_wall wall }
+    ensures bound { unsigned_abs result < 2 ^ 42 }
+{
+    wall.seconds().div_euclid(86_400)
+}
+
+fn few_rules(alloc: Global, items: &[Tree], day: i64) -> Result<Option<Rules>, AllocError>
+    requires { unsigned_abs day < 2 ^ 42 }
+    ensures value { IfOk result (λ o. option_map (λ rules. map parts_of rules) o ≡ rules_of day (map data_of items.now)) }
+    ensures few { IfOk result (λ o. IfSome o (λ rules. length rules ≤ 4)) }
+{
+    if items.len() <= MOST_RULES {
+        each_rule(alloc, items, day)
+    } else {
+        Ok(None)
+    }
+}
+
+#[tactic(auto, using(crate::proofs::RuleLemmas::push_parts))]
+fn each_rule(alloc: Global, items: &[Tree], day: i64) -> Result<Option<Rules>, AllocError>
+    requires { unsigned_abs day < 2 ^ 42 }
+    ensures value { IfOk result (λ o. option_map (λ rules. map parts_of rules) o ≡ all_some (rule_in day) (map data_of items.now)) }
+    ensures count { IfOk result (λ o. IfSome o (λ rules. length rules ≡ length items.now)) }
+{
+    let mut rules = Vec::new(alloc);
+    for item in items {
+        match rule(alloc, item, day)? {
+            Some(rule) => rules.push(rule)?,
+            None => return Ok(None),
+        }
+    }
+    Ok(Some(Rules::new(rules)))
+}
+
+// The rule that a value is, for a series whose start's day is given.
+#[tactic(auto, unfolding(model_series::specs::RuleObjects::rule_in))]
+fn rule(alloc: Global, tree: &Tree, day: i64) -> Result<Option<Rule>, AllocError>
+    requires { unsigned_abs day < 2 ^ 42 }
+    ensures { IfOk result (λ o. option_map parts_of o ≡ rule_in day (data_of tree.now)) }
+{
+    if !is_rule_object(tree) {
+        return Ok(None);
+    }
+    match frequency_at(value_at(tree, "frequency")) {
+        Some(frequency) => with_members(alloc, tree, day, frequency),
+        None => Ok(None),
+    }
+}
+
+fn frequency_at(value: Option<&Tree>) -> Option<Freq>
+    ensures { result ≡ option_and_then frequency_in (option_map (λ t. data_of t.now) value.entry) }
+{
+    match value {
+        Some(value) => frequency(value),
+        None => None,
+    }
+}
+
+#[tactic(auto, unfolding(model_series::specs::RuleObjects::with_members))]
+fn with_members(
+    alloc: Global,
+    tree: &Tree,
+    day: i64,
+    frequency: Freq,
+) -> Result<Option<Rule>, AllocError>
+    requires { unsigned_abs day < 2 ^ 42 }
+    ensures { IfOk result (λ o. option_map parts_of o ≡ with_members day (data_of tree.now) frequency) }
+{
+    let Some(interval) = interval(value_at(tree, "interval")) else {
+        return Ok(None);
+    };
+    let Some(week_start) = week_start(value_at(tree, "firstDayOfWeek")) else {
+        return Ok(None);
+    };
+    let Some(end) = end(value_at(tree, "count"), value_at(tree, "until")) else {
+        return Ok(None);
+    };
+    let frame = Frame {
+        frequency,
+        interval,
+        week_start,
+        end,
+    };
+    with_lists(alloc, tree, day, frame)
+}
+
+#[tactic(auto, unfolding(model_series::specs::RuleObjects::with_lists))]
+fn with_lists(
+    alloc: Global,
+    tree: &Tree,
+    day: i64,
+    frame: Frame,
+) -> Result<Option<Rule>, AllocError>
+    requires { unsigned_abs day < 2 ^ 42 }
+    ensures { IfOk result (λ o. option_map parts_of o ≡ with_lists day (data_of tree.now) frame.frequency frame.interval frame.week_start frame.end) }
+{
+    let Some(by_day) = ndays(alloc, frame.frequency, value_at(tree, "byDay"))? else {
+        return Ok(None);
+    };
+    let Some(by_month_day) = places(alloc, 31, value_at(tree, "byMonthDay"))? else {
+        return Ok(None);
+    };
+    let Some(by_month) = months(alloc, value_at(tree, "byMonth"))? else {
+        return Ok(None);
+    };
+    let Some(by_set) = places(alloc, 366, value_at(tree, "bySetPosition"))? else {
+        return Ok(None);
+    };
+    settled(alloc, day, frame, by_day, by_month_day, by_month, by_set)
+}
+
+// The rule with its implied parts, where it leaves nothing open.
+fn settled(
+    alloc: Global,
+    day: i64,
+    frame: Frame,
+    by_day: NDays,
+    by_month_day: Small,
+    by_month: Small,
+    by_set: Small,
+) -> Result<Option<Rule>, AllocError>
+    requires day { unsigned_abs day < 2 ^ 42 }
+    requires parts { are_by_parts frame.frequency by_day by_month_day by_month by_set ≡ true }
+    ensures { IfOk result (λ o. option_map parts_of o ≡ settled_rule day (record { frequency = frame.frequency; interval = frame.interval; week_start = frame.week_start; by_day = by_day; by_month_day = by_month_day; by_month = by_month; by_set = by_set; end = frame.end })) }
+{
+    if is_settled(frame.frequency, &by_day, &by_month_day, &by_month) {
+        Ok(Some(filled(alloc, day, frame, by_day, by_month_day, by_month, by_set)?))
+    } else {
+        Ok(None)
+    }
+}
+
+fn filled(
+    alloc: Global,
+    day: i64,
+    frame: Frame,
+    by_day: NDays,
+    by_month_day: Small,
+    by_month: Small,
+    by_set: Small,
+) -> Result<Rule, AllocError>
+    requires day { unsigned_abs day < 2 ^ 42 }
+    requires parts { are_by_parts frame.frequency by_day by_month_day by_month by_set ≡ true }
+    ensures { IfOk result (λ r. parts_of r ≡ filled day (record { frequency = frame.frequency; interval = frame.interval; week_start = frame.week_start; by_day = by_day; by_month_day = by_month_day; by_month = by_month; by_set = by_set; end = frame.end })) }
+{
+    let by_month = with_months(
+        alloc,
+        frame.frequency,
+        day,
+        &by_day,
+        &by_month_day,
+        by_month,
+    )?;
+    let by_month_day = with_month_days(alloc, frame.frequency, day, &by_day, by_month_day)?;
+    let by_day = with_days(alloc, frame.frequency, day, by_day)?;
+    Ok(Rule {
+        frequency: frame.frequency,
+        interval: frame.interval,
+        week_start: frame.week_start,
+        by_day,
+        by_month_day,
+        by_month,
+        by_set,
+        end: frame.end,
+    })
+}

@@ -1,0 +1,173 @@
+//! Writes recurrence rules.
+ghost use Rattle.std.specs.Prelude.{◌≡◌, ◌≤◌, ◌<◌, ◌^◌, codes, decimal, map, pos, true, unsigned_abs, IfOk};
+ghost use Rattle.std.specs.List.{list_all};
+ghost use Rattle.model_json.specs.Data.{items_of, list, text, whole};
+ghost use Rattle.model_json.specs.TreeData.{data_of};
+ghost use Rattle.model_series.specs.RuleLimits.{is_end};
+ghost use Rattle.model_series.specs.RuleObjects.{count_data, frequency_text, month_data, nday_data, nth_data, parts_of, rule_data, until_data, weekday_text};
+
+use model_json::num::Num;
+use model_json::text::Text;
+use model_json::tree::{Tree, TreeList};
+use model_series::by_part::{End, Freq, NDay};
+use model_series::rule::Rule;
+use std::alloc::{AllocError, Global};
+use time_text::local_text;
+
+/// The JSON object of a rule (RFC 8984 section 4.3.3). `read_rules` reads it as this rule, at the start for which the rule was read.
+pub fn rule_tree(alloc: Global, rule: &Rule) -> Result<Tree, AllocError>
+    ensures { IfOk result (λ t. data_of t ≡ rule_data (parts_of rule.now)) }
+{
+    let lists = Lists {
+        by_day: nday_list(alloc, rule.by_day.items())?,
+        by_month: month_list(alloc, rule.by_month.items())?,
+        by_month_day: number_list(alloc, rule.by_month_day.items())?,
+        by_set: number_list(alloc, rule.by_set.items())?,
+    };
+    with_lists(alloc, rule, lists)
+}
+
+// The lists of a rule as trees.
+#[derive(Drop)]
+struct Lists {
+    by_day: Tree,
+    by_month: Tree,
+    by_month_day: Tree,
+    by_set: Tree,
+}
+
+#[tactic(auto, unfolding(model_series::specs::RuleObjects::rule_data))]
+fn with_lists(alloc: Global, rule: &Rule, lists: Lists) -> Result<Tree, AllocError>
+    requires days { data_of lists.by_day ≡ list (items_of (map nday_data rule.now.by_day)) }
+    requires months { data_of lists.by_month ≡ list (items_of (map month_data rule.now.by_month)) }
+    requires month_days { data_of lists.by_month_day ≡ list (items_of (map whole rule.now.by_month_day)) }
+    requires places { data_of lists.by_set ≡ list (items_of (map whole rule.now.by_set)) }
+    ensures { IfOk result (λ t. data_of t ≡ rule_data (parts_of rule.now)) }
+{
+    let kind = text_tree(alloc, "RecurrenceRule")?;
+    let week_start = text_tree(alloc, weekday_name(rule.week_start))?;
+    let frequency = text_tree(alloc, frequency_name(rule.frequency))?;
+    let until = until_tree(alloc, rule.end)?;
+    let members = vec![
+        in alloc;
+        ("@type", kind),
+        ("byDay", lists.by_day),
+        ("byMonth", lists.by_month),
+        ("byMonthDay", lists.by_month_day),
+        ("bySetPosition", lists.by_set),
+        ("count", count_tree(rule.end)),
+        ("firstDayOfWeek", week_start),
+        ("frequency", frequency),
+        ("interval", Tree::Whole(Num::new(i128::from(rule.interval)))),
+        ("until", until),
+    ]?;
+    Tree::object(alloc, members)
+}
+
+fn text_tree(alloc: Global, word: &str) -> Result<Tree, AllocError>
+    ensures { IfOk result (λ t. data_of t ≡ text word.now) }
+{
+    Ok(Tree::Text(Text::from_str(alloc, word)?))
+}
+
+#[tactic(auto, unfolding(model_series::specs::RuleObjects::weekday_text))]
+fn weekday_name(day: u8) -> &'static str
+    ensures { result.now ≡ weekday_text day }
+{
+    match day {
+        0 => "mo",
+        1 => "tu",
+        2 => "we",
+        3 => "th",
+        4 => "fr",
+        5 => "sa",
+        _ => "su",
+    }
+}
+
+#[tactic(auto, unfolding(model_series::specs::RuleObjects::frequency_text))]
+fn frequency_name(frequency: Freq) -> &'static str
+    ensures { result.now ≡ frequency_text frequency }
+{
+    match frequency {
+        Freq::Daily => "daily",
+        Freq::Weekly => "weekly",
+        Freq::Monthly => "monthly",
+        Freq::Yearly => "yearly",
+    }
+}
+
+fn count_tree(end: End) -> Tree
+    ensures { data_of result ≡ count_data end }
+{
+    match end {
+        End::Count(count) => Tree::Whole(Num::new(i128::from(count))),
+        _ => Tree::Null,
+    }
+}
+
+fn until_tree(alloc: Global, end: End) -> Result<Tree, AllocError>
+    requires { is_end end ≡ true }
+    ensures { IfOk result (λ t. data_of t ≡ until_data end) }
+{
+    match end {
+        End::Until(until) => Ok(Tree::Text(local_text(alloc, until)?)),
+        _ => Ok(Tree::Null),
+    }
+}
+
+// The place, null where there is none.
+fn nth_tree(nth: Option<i32>) -> Tree
+    ensures { data_of result ≡ nth_data nth }
+{
+    match nth {
+        Some(place) => Tree::Whole(Num::new(i128::from(place))),
+        None => Tree::Null,
+    }
+}
+
+fn nday_tree(alloc: Global, day: NDay) -> Result<Tree, AllocError>
+    ensures { IfOk result (λ t. data_of t ≡ nday_data day) }
+{
+    let kind = text_tree(alloc, "NDay")?;
+    let name = text_tree(alloc, weekday_name(day.day))?;
+    let members = vec![in alloc; ("@type", kind), ("day", name), ("nthOfPeriod", nth_tree(day.nth))]?;
+    Tree::object(alloc, members)
+}
+
+fn nday_list(alloc: Global, days: &[NDay]) -> Result<Tree, AllocError>
+    ensures { IfOk result (λ t. data_of t ≡ list (items_of (map nday_data days.now))) }
+{
+    let mut items = Vec::new(alloc);
+    for day in days {
+        items.push(nday_tree(alloc, *day)?)?;
+    }
+    Ok(Tree::List(TreeList::new(items)))
+}
+
+fn month_tree(alloc: Global, month: i32) -> Result<Tree, AllocError>
+    ensures { IfOk result (λ t. data_of t ≡ month_data month) }
+{
+    let number = month.unsigned_abs();
+    Ok(Tree::Text(Text::from_string(format!(in alloc; "{number}")?)))
+}
+
+fn month_list(alloc: Global, months: &[i32]) -> Result<Tree, AllocError>
+    ensures { IfOk result (λ t. data_of t ≡ list (items_of (map month_data months.now))) }
+{
+    let mut items = Vec::new(alloc);
+    for month in months {
+        items.push(month_tree(alloc, *month)?)?;
+    }
+    Ok(Tree::List(TreeList::new(items)))
+}
+
+fn number_list(alloc: Global, numbers: &[i32]) -> Result<Tree, AllocError>
+    ensures { IfOk result (λ t. data_of t ≡ list (items_of (map whole numbers.now))) }
+{
+    let mut items = Vec::new(alloc);
+    for number in numbers {
+        items.push(Tree::Whole(Num::new(i128::from(*number))))?;
+    }
+    Ok(Tree::List(TreeList::new(items)))
+}

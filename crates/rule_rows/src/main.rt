@@ -1,0 +1,173 @@
+//! Reads the recurrence rules of a table, and tells which give other days than the table has.
+#![tactic(auto)]
+
+ghost use Rattle.std.specs.Prelude.{◌≡◌, ◌≤◌, length, true};
+ghost use Rattle.model_series.specs.Walls.{is_in_years};
+
+use model_json::tree::Tree;
+use model_series::by_part::End;
+use model_series::exception::Exceptions;
+use model_series::length::Length;
+use model_series::rules::Rules;
+use model_series::series::Series;
+use model_time::wall::Wall;
+use row_table::line::tree_in;
+use row_table::row::{Row, read_rows};
+use row_table::tally::Tally;
+use rule_expand::{Bound, last_day, next_from, occurs_on};
+use rule_read::{RulesError, read_rules};
+use std::alloc::{AllocError, Global};
+use std::fmt::Write;
+use std::io;
+use time_text::{is_in_years, local_text, read_local};
+
+/// How many occurrences of a series are told.
+const TOLD: u32 = 10;
+
+/// The end of the wall seconds that `next_from` is asked about.
+const FAR: u64 = 1 << 57;
+
+/// What came of a row, where it isn't what the table has.
+fn other_than(alloc: Global, row: &Row) -> Result<Option<String>, AllocError> {
+    let came = match tree_in(alloc, row.asked.as_str())? {
+        Some(asked) => told(alloc, &asked)?,
+        None => String::from_str(alloc, "the row can't be read")?,
+    };
+    if came.as_str() == row.answer.as_str() {
+        Ok(None)
+    } else {
+        Ok(Some(came))
+    }
+}
+
+// The wall second at a key.
+fn wall_at(tree: &Tree, key: &str) -> Option<Wall> {
+    match tree.get(key) {
+        Some(Tree::Text(text)) => read_local(text.as_str().as_bytes()),
+        _ => None,
+    }
+}
+
+fn told(alloc: Global, asked: &Tree) -> Result<String, AllocError> {
+    match (wall_at(asked, "start"), asked.get("rules")) {
+        (Some(start), Some(rules)) => told_of(alloc, start, rules, asked),
+        _ => String::from_str(alloc, "the row can't be read"),
+    }
+}
+
+fn told_of(
+    alloc: Global,
+    start: Wall,
+    rules: &Tree,
+    asked: &Tree,
+) -> Result<String, AllocError> {
+    if !is_in_years(start) {
+        return String::from_str(alloc, "the row can't be read");
+    }
+    match read_rules(alloc, rules, start) {
+        Ok(rules) => told_of_rules(alloc, start, rules, asked),
+        Err(RulesError::BadRules) => String::from_str(alloc, "bad"),
+        Err(RulesError::NoMemory) => Err(AllocError),
+    }
+}
+
+// What the table asks of the rules: the first occurrences, the last day, or whether a day is in the set.
+fn told_of_rules(
+    alloc: Global,
+    start: Wall,
+    rules: Rules,
+    asked: &Tree,
+) -> Result<String, AllocError>
+    requires years { is_in_years start ≡ true }
+    requires few { length rules ≤ 4 }
+{
+    if asked.get("last").is_some() {
+        return last_days(alloc, start, &rules);
+    }
+    if let Some(Tree::Whole(day)) = asked.get("day") {
+        return on_day(alloc, start, &rules, day.get());
+    }
+    let series = Series {
+        start,
+        length: Length {
+            days: 0,
+            seconds: 3600,
+        },
+        occupying: true,
+        rules,
+        exceptions: Exceptions::new(Vec::new(alloc)),
+    };
+    first_occurrences(alloc, &series)
+}
+
+// The starts of the first occurrences, one after another.
+fn first_occurrences(alloc: Global, series: &Series) -> Result<String, AllocError> {
+    let mut text = String::new(alloc);
+    let mut from = series.start;
+    let mut past = None;
+    for _ in 0..TOLD {
+        if from.seconds().unsigned_abs() >= FAR {
+            break;
+        }
+        let Some(next) = next_from(series, from, past) else {
+            break;
+        };
+        if !text.is_empty() {
+            text.push(' ')?;
+        }
+        push_wall(alloc, &mut text, next.start)?;
+        from = next.start;
+        past = Some(next.rid);
+    }
+    Ok(text)
+}
+
+// A wall second as a LocalDateTime, or as its number where it lies behind the year 9999.
+fn push_wall(alloc: Global, text: &mut String, wall: Wall) -> Result<(), AllocError> {
+    if is_in_years(wall) {
+        text.push_str(local_text(alloc, wall)?.as_str())
+    } else {
+        write!(text, "{}", wall.seconds())
+    }
+}
+
+// The last day of each rule.
+fn last_days(alloc: Global, start: Wall, rules: &Rules) -> Result<String, AllocError>
+    requires { is_in_years start ≡ true }
+{
+    let mut text = String::new(alloc);
+    for rule in rules.items() {
+        match last_day(rule, start) {
+            Bound::Endless => text.push_str("endless")?,
+            Bound::Last(day) => write!(&mut text, "{day}")?,
+        }
+    }
+    Ok(text)
+}
+
+// For each rule whether the day is in its set.
+fn on_day(alloc: Global, start: Wall, rules: &Rules, day: i128) -> Result<String, AllocError>
+    requires { is_in_years start ≡ true }
+{
+    let mut text = String::new(alloc);
+    for rule in rules.items() {
+        if day.unsigned_abs() < 1 << 41 && occurs_on(rule, start, day as i64) {
+            text.push_str("yes")?;
+        } else {
+            text.push_str("no")?;
+        }
+    }
+    Ok(text)
+}
+
+fn main(rt: HostRuntime) -> io::Result<()> {
+    let mut tally = Tally::new();
+    for row in &read_rows(&rt)? {
+        let other = other_than(rt.alloc(), row)?;
+        if let Some(other) = &other {
+            row.tell(&rt, other.as_str())?;
+        }
+        tally.count(other.is_none());
+    }
+    println!(rt; "{tally}")
+}

@@ -1,0 +1,6 @@
+-- Dates that are written with two digits to each part.
+use Rattle.std.specs.Prelude.{◌≤◌}
+use Rattle.time_text.specs.declared.text.Date.{Date}
+
+abbrev pub IsTwoDigits : Date → Type 0
+IsTwoDigits d = (d.year ≤ 9999) × (d.month ≤ 12) × (d.day ≤ 31)
