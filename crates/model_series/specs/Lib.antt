@@ -1,11 +1,7 @@
-pub mod Walls
 pub mod Places
 pub mod Periods
 pub mod RuleLimits
 pub mod SeriesLimits
 pub mod RuleSets
 pub mod Occurrences
-pub mod Forms
-pub mod LocalTimes
-pub mod Durations
 pub mod RuleObjects

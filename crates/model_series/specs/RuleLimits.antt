@@ -6,7 +6,7 @@ use Rattle.model_series.specs.declared.by_part.Freq.TheVariants.{Daily, Weekly, 
 use Rattle.model_series.specs.declared.by_part.End.{End}
 use Rattle.model_series.specs.declared.by_part.End.TheVariants.{Never, Count, Until}
 use Rattle.model_series.specs.declared.by_part.NDay.{NDay}
-use Rattle.model_series.specs.Walls.{is_in_years}
+use Rattle.model_time.specs.Walls.{is_in_years}
 
 -- a place from 1 to `most`, or from -1 to minus that
 abbrev pub is_place_to : ℕ → ℤ → Bool

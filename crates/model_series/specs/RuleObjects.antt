@@ -12,9 +12,9 @@ use Rattle.model_series.specs.declared.by_part.End.{End}
 use Rattle.model_series.specs.declared.by_part.End.TheVariants.{Never, Count, Until}
 use Rattle.model_series.specs.declared.by_part.NDay.{NDay}
 use Rattle.model_series.specs.declared.rule.Rule.{Rule}
-use Rattle.model_series.specs.LocalTimes.{local_in, local_text}
+use Rattle.model_time.specs.LocalTimes.{local_in, local_text}
 use Rattle.model_series.specs.RuleLimits.{is_place_to}
-use Rattle.model_series.specs.Walls.{day_of_wall}
+use Rattle.model_time.specs.Walls.{day_of_wall}
 
 -- the members of a rule
 pub record RuleParts : Type 0 where

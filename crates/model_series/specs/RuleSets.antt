@@ -9,7 +9,7 @@ use Rattle.model_series.specs.declared.by_part.End.{End}
 use Rattle.model_series.specs.declared.by_part.End.TheVariants.{Never, Count, Until}
 use Rattle.model_series.specs.declared.by_part.NDay.{NDay}
 use Rattle.model_series.specs.declared.rule.Rule.{Rule}
-use Rattle.model_series.specs.Walls.{day_of_wall, second_of_wall, wall_at}
+use Rattle.model_time.specs.Walls.{day_of_wall, second_of_wall, wall_at}
 use Rattle.model_series.specs.Places.{count_from, empty_or_any, is_place}
 use Rattle.model_series.specs.Periods.{month_first, month_last, year_first, year_last, period_first, period_last, is_in_phase}
 

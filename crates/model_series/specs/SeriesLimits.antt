@@ -4,8 +4,8 @@ use Rattle.std.specs.List.{list_all, list_any}
 use Rattle.std.specs.Ordering.{int_eq}
 use Rattle.model_series.specs.declared.exception.Exception.{Exception}
 use Rattle.model_series.specs.declared.exception.Span.{Span}
-use Rattle.model_series.specs.declared.length.Length.{Length}
-use Rattle.model_series.specs.Walls.{is_in_years}
+use Rattle.model_time.specs.declared.length.Length.{Length}
+use Rattle.model_time.specs.Walls.{is_in_years}
 
 -- all of a length in wall seconds, where a day has 86400
 abbrev pub wall_seconds : Length → ℕ

@@ -1,3 +1,7 @@
 pub mod Floor
 pub mod CivilDay
 pub mod Moments
+pub mod Walls
+pub mod Forms
+pub mod LocalTimes
+pub mod Durations

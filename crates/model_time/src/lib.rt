@@ -2,5 +2,6 @@
 #![tactic(auto)]
 
 pub mod day;
+pub mod length;
 pub mod moment;
 pub mod wall;

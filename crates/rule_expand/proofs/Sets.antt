@@ -7,7 +7,7 @@ use Rattle.jiff_core.proofs.SignedLemmas.{signed_arith}
 use Rattle.model_series.specs.Periods.{period_number, is_in_phase}
 use Rattle.model_series.specs.Places.{count_days, count_from}
 use Rattle.model_series.specs.RuleSets.{is_in_set, is_kept, is_due, is_counted, is_in, is_by_end, is_within_count}
-use Rattle.model_series.specs.Walls.{day_of_wall, second_of_wall}
+use Rattle.model_time.specs.Walls.{day_of_wall, second_of_wall}
 use Rattle.model_time.specs.Floor.{floor_div}
 use Rattle.rule_expand.specs.Sets.{is_by_last, is_up_to, IsNext, IsBound, IsGreatest, IsLastDue, IsFirstFrom, IsCountAt}
 use Rattle.rule_expand.specs.Walk.{periods, IsPhaseDay, IsNextDay}

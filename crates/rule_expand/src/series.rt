@@ -3,7 +3,7 @@ ghost use Rattle.std.specs.Prelude.{◌^◌, ◌&&◌, ◌||◌, int_lt, unsigne
 ghost use Rattle.model_series.specs.Occurrences.{IsOccurrence, IsRegular};
 ghost use Rattle.model_series.specs.RuleSets.{is_in_set};
 ghost use Rattle.model_series.specs.SeriesLimits.{is_named};
-ghost use Rattle.model_series.specs.Walls.{second_of_wall};
+ghost use Rattle.model_time.specs.Walls.{second_of_wall};
 ghost use Rattle.model_time.specs.Floor.{floor_div};
 ghost use Rattle.rule_expand.specs.Later.{IsLaterRid, IsLaterOwn, IsLaterOne, IsOwnSecond, is_after, is_sooner, sooner, IsFirstOf, IsLater, IsLaterAt};
 ghost use Rattle.rule_expand.specs.Near.{IsNear};

@@ -3,7 +3,7 @@ ghost use Rattle.std.specs.Prelude.{◌^◌, unsigned_abs, ◌&&◌, int_le, ℕ
 ghost use Rattle.model_series.specs.Periods.{is_in_phase};
 ghost use Rattle.model_series.specs.Places.{count_from};
 ghost use Rattle.model_series.specs.RuleSets.{is_due, is_counted, is_in, is_in_set};
-ghost use Rattle.model_series.specs.Walls.{day_of_wall, is_in_years, second_of_wall};
+ghost use Rattle.model_time.specs.Walls.{day_of_wall, is_in_years, second_of_wall};
 ghost use Rattle.model_time.specs.Floor.{floor_div, modulo};
 ghost use Rattle.rule_expand.specs.Near.{IsNear};
 ghost use Rattle.rule_expand.specs.Sets.{IsGreatest, IsLastDue, IsNearBound, IsFirstFrom, IsCountAt, is_by_last, is_up_to, IsNext, IsBound};

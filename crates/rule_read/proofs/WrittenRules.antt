@@ -18,7 +18,7 @@ use Rattle.model_series.specs.declared.by_part.End.{End}
 use Rattle.model_series.specs.declared.by_part.End.TheVariants.{Never, Count, Until}
 use Rattle.model_series.specs.declared.by_part.NDay.{NDay}
 use Rattle.model_series.specs.declared.rule.Rule.{Rule}
-use Rattle.model_series.specs.LocalTimes.{local_in, local_text}
+use Rattle.model_time.specs.LocalTimes.{local_in, local_text}
 use Rattle.model_series.specs.RuleLimits.{are_by_parts, is_end, is_month, is_nday, is_nth, is_place_to}
 use Rattle.model_series.specs.RuleObjects.{RuleParts, count_data, each_in, end_in, filled, frequency_in, frequency_named, frequency_text, implied_days, implied_month_days, implied_months, interval_in, is_empty, is_monthly, is_rule_object, is_settled, is_settled_by, is_weekly, is_yearly, month_data, month_in, month_of_number, nday_data, nday_in, nth_data, nth_in, parts_of, place_in, place_of, present, rule_data, rule_in, settled_rule, thousand_of, until_data, value_at, week_start_in, weekday_in, weekday_named, weekday_text, with_lists, with_members}
 use Rattle.time_text.proofs.NumberLemmas.{decimal_back}
@@ -142,7 +142,7 @@ made_by n q p false h = absurd (none-some p h)
 
 lists_by : (n : ℤ) (f : Freq) (i w : ℕ) (e : End) (p : RuleParts) (ds : Option (List NDay)) (md m s : Option (List ℤ))
     → option_and_then (λ by_day. option_and_then (λ by_month_day. option_and_then (λ by_month. option_and_then (λ by_set.
-        settled_rule n (record { frequency = f; interval = i; week_start = w; by_day = by_day; by_month_day = by_month_day; by_month = by_month; by_set = by_set; end = e })) s) m) md) ds ≡ Some p
+    settled_rule n (record { frequency = f; interval = i; week_start = w; by_day = by_day; by_month_day = by_month_day; by_month = by_month; by_set = by_set; end = e })) s) m) md) ds ≡ Some p
     → Made n p
 lists_by n f i w e p None md m s h = absurd (none-some p h)
 lists_by n f i w e p (Some ds) None m s h = absurd (none-some p h)
@@ -150,13 +150,13 @@ lists_by n f i w e p (Some ds) (Some md) None s h = absurd (none-some p h)
 lists_by n f i w e p (Some ds) (Some md) (Some m) None h = absurd (none-some p h)
 lists_by n f i w e p (Some ds) (Some md) (Some m) (Some s) h =
     made_by n (record { frequency = f; interval = i; week_start = w; by_day = ds; by_month_day = md; by_month = m; by_set = s; end = e }) p
-        (is_settled (record { frequency = f; interval = i; week_start = w; by_day = ds; by_month_day = md; by_month = m; by_set = s; end = e })) h
+    (is_settled (record { frequency = f; interval = i; week_start = w; by_day = ds; by_month_day = md; by_month = m; by_set = s; end = e })) h
 
 made_with_lists : (n : ℤ) (d : Data) (f : Freq) (i w : ℕ) (e : End) (p : RuleParts) → with_lists n d f i w e ≡ Some p → Made n p
 unfolding with_lists
 made_with_lists n d f i w e p h =
     lists_by n f i w e p (each_in (nday_in f) (value_at (codes "byDay") d)) (each_in (place_in 31) (value_at (codes "byMonthDay") d))
-        (each_in month_in (value_at (codes "byMonth") d)) (each_in (place_in 366) (value_at (codes "bySetPosition") d)) h
+    (each_in month_in (value_at (codes "byMonth") d)) (each_in (place_in 366) (value_at (codes "bySetPosition") d)) h
 
 members_by : (n : ℤ) (d : Data) (f : Freq) (p : RuleParts) (i w : Option ℕ) (e : Option End)
     → option_and_then (λ interval. option_and_then (λ week_start. option_and_then (λ end. with_lists n d f interval week_start end) e) w) i ≡ Some p → Made n p
@@ -169,7 +169,7 @@ made_with_members : (n : ℤ) (d : Data) (f : Freq) (p : RuleParts) → with_mem
 unfolding with_members
 made_with_members n d f p h =
     members_by n d f p (interval_in (value_at (codes "interval") d)) (week_start_in (value_at (codes "firstDayOfWeek") d))
-        (end_in (value_at (codes "count") d) (value_at (codes "until") d)) h
+    (end_in (value_at (codes "count") d) (value_at (codes "until") d)) h
 
 made_if : (n : ℤ) (d : Data) (p : RuleParts) (b : Bool) (o : Option Freq) → (if b then option_and_then (with_members n d) o else None) ≡ Some p → Made n p
 made_if n d p true None h = absurd (none-some p h)
@@ -188,11 +188,17 @@ filled_back r n still same =
     let a = and_parts (list_all (is_nday f) r.by_day) _ r.by_parts_in in
     let b = and_parts (list_all (is_place_to 31) r.by_month_day) _ a.1 in
     let c = and_parts (list_all is_month r.by_month) (list_all (is_place_to 366) r.by_set) b.1 in
-    rw (frequency_back f, thousand_back r.interval r.interval_in, weekday_back_at r.week_start r.week_start_in, end_back r.end r.end_in,
-        list_back (nday_in f) nday_data (is_nday f) (nday_back f) r.by_day a.0,
-        list_back (place_in 31) whole (is_place_to 31) (place_back 31) r.by_month_day b.0,
-        list_back month_in month_data is_month month_back r.by_month c.0,
-        list_back (place_in 366) whole (is_place_to 366) (place_back 366) r.by_set c.1, still) (ap Some same)
+    rw (
+      frequency_back f,
+      thousand_back r.interval r.interval_in,
+      weekday_back_at r.week_start r.week_start_in,
+      end_back r.end r.end_in,
+      list_back (nday_in f) nday_data (is_nday f) (nday_back f) r.by_day a.0,
+      list_back (place_in 31) whole (is_place_to 31) (place_back 31) r.by_month_day b.0,
+      list_back month_in month_data is_month month_back r.by_month c.0,
+      list_back (place_in 366) whole (is_place_to 366) (place_back 366) r.by_set c.1,
+      still,
+    ) (ap Some same)
 
 pub read_back : (r : Rule) (n : ℤ) (d : Data) → rule_in n d ≡ Some (parts_of r) → rule_in n (rule_data (parts_of r)) ≡ Some (parts_of r)
 read_back r n d h =

@@ -48,8 +48,7 @@ fn with_lists(alloc: Global, rule: &Rule, lists: Lists) -> Result<Tree, AllocErr
     let week_start = text_tree(alloc, weekday_name(rule.week_start))?;
     let frequency = text_tree(alloc, frequency_name(rule.frequency))?;
     let until = until_tree(alloc, rule.end)?;
-    let members = vec![
-        in alloc;
+    let members = vec![in alloc;
         ("@type", kind),
         ("byDay", lists.by_day),
         ("byMonth", lists.by_month),
@@ -131,7 +130,11 @@ fn nday_tree(alloc: Global, day: NDay) -> Result<Tree, AllocError>
 {
     let kind = text_tree(alloc, "NDay")?;
     let name = text_tree(alloc, weekday_name(day.day))?;
-    let members = vec![in alloc; ("@type", kind), ("day", name), ("nthOfPeriod", nth_tree(day.nth))]?;
+    let members = vec![in alloc;
+        ("@type", kind),
+        ("day", name),
+        ("nthOfPeriod", nth_tree(day.nth)),
+    ]?;
     Tree::object(alloc, members)
 }
 

@@ -2,14 +2,14 @@
 #![tactic(auto)]
 
 ghost use Rattle.std.specs.Prelude.{◌≡◌, ◌≤◌, length, true};
-ghost use Rattle.model_series.specs.Walls.{is_in_years};
+ghost use Rattle.model_time.specs.Walls.{is_in_years};
 
 use model_json::tree::Tree;
 use model_series::by_part::End;
 use model_series::exception::Exceptions;
-use model_series::length::Length;
 use model_series::rules::Rules;
 use model_series::series::Series;
+use model_time::length::Length;
 use model_time::wall::Wall;
 use row_table::line::tree_in;
 use row_table::row::{Row, read_rows};
@@ -55,12 +55,7 @@ fn told(alloc: Global, asked: &Tree) -> Result<String, AllocError> {
     }
 }
 
-fn told_of(
-    alloc: Global,
-    start: Wall,
-    rules: &Tree,
-    asked: &Tree,
-) -> Result<String, AllocError> {
+fn told_of(alloc: Global, start: Wall, rules: &Tree, asked: &Tree) -> Result<String, AllocError> {
     if !is_in_years(start) {
         return String::from_str(alloc, "the row can't be read");
     }

@@ -11,9 +11,9 @@ use Rattle.std.proofs.lemmas.Int.{by_lt_z}
 use Rattle.std.proofs.lemmas.Option.{same_Some}
 use Rattle.std.specs.Prelude.{◌↔◌, int_le, ◌+ℤ◌, ◌-◌, nat_lt, List, [], ◌∷◌, IfSome}
 use Rattle.jiff_core.proofs.SignedLemmas.{signed_arith}
-use Rattle.model_series.specs.Forms.{fits_mark, fits_marks, pair_at}
-use Rattle.model_series.specs.LocalTimes.{HasFourDigitYear, is_date, day_in, second_in, spaced_wall, wall_of, year_in}
-use Rattle.model_series.specs.Walls.{day_of_wall, is_in_years, wall_at}
+use Rattle.model_time.specs.Forms.{fits_mark, fits_marks, pair_at}
+use Rattle.model_time.specs.LocalTimes.{HasFourDigitYear, is_date, day_in, second_in, spaced_wall, wall_of, year_in}
+use Rattle.model_time.specs.Walls.{day_of_wall, is_in_years, wall_at}
 use Rattle.std.specs.Char.{is_ascii_digit}
 
 facts_of : (y m d : ℕ) → is_date y m d ≡ true → IsDate (pos y) m d

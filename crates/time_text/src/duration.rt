@@ -3,9 +3,9 @@ ghost use Rattle.std.specs.Prelude.{◌≡◌, ◌≤◌, ◌<◌, IfSome, true,
 ghost use Rattle.std.specs.Char.{is_ascii_digit};
 ghost use Rattle.std.specs.List.{list_all};
 ghost use Rattle.model_json.specs.Number.{value_of_digits};
-ghost use Rattle.model_series.specs.Durations.{amount, behind, clock_in, digits_first, duration_in, has_part, parts_in, seconds_in, IsShort};
+ghost use Rattle.model_time.specs.Durations.{amount, behind, clock_in, digits_first, duration_in, has_part, parts_in, seconds_in, IsShort};
 
-use model_series::length::Length;
+use model_time::length::Length;
 
 // A number with its letter, or none, and what stands behind.
 #[derive(Clone, Copy)]
@@ -78,7 +78,7 @@ fn read_clock(text: &[u8]) -> Option<u64>
 }
 
 // The part of this letter that stands first, if there is one.
-#[tactic(auto, unfolding(model_series::specs::Durations::amount, model_series::specs::Durations::behind))]
+#[tactic(auto, unfolding(model_time::specs::Durations::amount, model_time::specs::Durations::behind))]
 fn first_part(text: &[u8], letter: u8) -> Part<'_>
     requires { 0 < letter }
     ensures is_there { result.is_there ≡ has_part letter text.now }
@@ -102,7 +102,7 @@ fn first_part(text: &[u8], letter: u8) -> Part<'_>
     }
 }
 
-#[tactic(auto, unfolding(model_series::specs::Durations::has_part))]
+#[tactic(auto, unfolding(model_time::specs::Durations::has_part))]
 fn has_part(text: &[u8], digits: usize, letter: u8) -> bool
     requires digits { digits ≡ digits_first text.now }
     requires letter { 0 < letter }

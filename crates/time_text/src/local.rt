@@ -1,7 +1,7 @@
 //! Local times and moments.
 ghost use Rattle.std.specs.Prelude.{◌≡◌, ◌&&◌, int_le, true, IfSome};
-ghost use Rattle.model_series.specs.LocalTimes.{local_in, utc_in};
-ghost use Rattle.model_series.specs.Walls.{is_in_years};
+ghost use Rattle.model_time.specs.LocalTimes.{local_in, utc_in};
+ghost use Rattle.model_time.specs.Walls.{is_in_years};
 
 use crate::fields::{fits_form, spaced_fields, wall};
 use model_time::wall::Wall;

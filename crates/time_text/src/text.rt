@@ -2,9 +2,9 @@
 ghost use Rattle.std.specs.Prelude.{◌≡◌, ◌++◌, ◌∷◌, ◌+◌, ◌<◌, ◌≤◌, [], true, IfOk, OnOk, pos, string_bytes, unsigned_abs, ◌^◌, ◌≤ℤ◌};
 ghost use Rattle.model_time.specs.CivilDay.{day_of_month, month_of, year_of};
 ghost use Rattle.time_text.specs.Written.{IsTwoDigits};
-ghost use Rattle.model_series.specs.Forms.{two};
-ghost use Rattle.model_series.specs.LocalTimes.{clock_text, date_text, local_text, utc_text};
-ghost use Rattle.model_series.specs.Walls.{day_of_wall, is_in_years, second_of_wall};
+ghost use Rattle.model_time.specs.Forms.{two};
+ghost use Rattle.model_time.specs.LocalTimes.{clock_text, date_text, local_text, utc_text};
+ghost use Rattle.model_time.specs.Walls.{day_of_wall, is_in_years, second_of_wall};
 
 use civil_days::civil;
 use model_json::text::Text;

@@ -3,7 +3,7 @@ use Rattle.std.specs.Prelude.{ℕ, List, [], ◌∷◌, ◌+◌, ◌*◌, ◌<�
 use Rattle.std.specs.Char.{is_ascii_digit}
 use Rattle.std.specs.List.{prefix_len}
 use Rattle.model_json.specs.Number.{value_of_digits}
-use Rattle.model_series.specs.declared.length.Length.{Length}
+use Rattle.model_time.specs.declared.length.Length.{Length}
 
 -- as short as every length that is read
 abbrev pub IsShort : Length → Type 0

@@ -1,8 +1,8 @@
 -- Local times and moments as texts (RFC 8984 sections 1.4.4 and 1.4.5, whose dates and times are those of RFC 3339).
 use Rattle.std.specs.Prelude.{◌≤ℤ◌, ℕ, ℤ, pos, List, [], ◌∷◌, ◌++◌, ◌+◌, ◌*◌, ◌/◌, ◌%◌, ◌&&◌, Bool, Option, Some, None, option_and_then, option_map, codes, nat_le, nat_lt, unsigned_abs, if◌then◌else◌}
 use Rattle.model_time.specs.CivilDay.{day_number, day_of_month, month_length, month_of, year_of}
-use Rattle.model_series.specs.Forms.{fits_form, pair_at, two}
-use Rattle.model_series.specs.Walls.{day_of_wall, second_of_wall, wall_at}
+use Rattle.model_time.specs.Forms.{fits_form, pair_at, two}
+use Rattle.model_time.specs.Walls.{day_of_wall, second_of_wall, wall_at}
 
 -- the calendar has this date (RFC 3339 section 5.7)
 abbrev pub is_date : ℕ → ℕ → ℕ → Bool
