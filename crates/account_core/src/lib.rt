@@ -2,17 +2,17 @@
 #![tactic(auto)]
 
 pub mod account;
-pub mod asked_ids;
-pub mod calendar;
-pub mod entries;
-pub mod found;
-pub mod get_reply;
-pub mod outcome;
-pub mod plain;
-pub mod plan;
-pub mod properties;
-pub mod replay;
-pub mod reply;
-pub mod set_reply;
-pub mod tally;
-pub mod texts;
+mod asked_ids;
+mod calendar;
+mod entries;
+mod found;
+mod get_reply;
+mod outcome;
+mod plain;
+mod plan;
+mod properties;
+mod replay;
+mod reply;
+mod set_reply;
+mod tally;
+mod texts;

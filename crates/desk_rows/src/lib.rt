@@ -5,7 +5,7 @@
 mod connections;
 #[cfg(test)]
 mod desks;
-pub mod pair_desk;
+mod pair_desk;
 #[cfg(test)]
 mod quotas;
-pub mod zones;
+mod zones;

@@ -15,6 +15,6 @@ mod lock;
 mod outside;
 #[cfg(test)]
 mod patches;
-pub mod reporting_book;
+mod reporting_book;
 #[cfg(test)]
 mod system_files;
