@@ -36,7 +36,7 @@ pub fn matches_in<'a>(
 ) -> Result<Option<ArgMatches<'a>>, AllocError>
     requires { is_simple_and_free (app_of command) ≡ true }
     ensures taken { IfOk result (λ found. IfSome found (λ matches.
-        (takes (app_of command.entry) (map string_bytes words.entry.now) ≡ true) × HasMatchesOf (app_of command.entry) (map string_bytes words.entry.now) matches)) }
+        (accepts (app_of command.entry) (map string_bytes words.entry.now) ≡ true) × HasMatchesOf (app_of command.entry) (map string_bytes words.entry.now) matches)) }
     ensures refused { IfOk result (λ found. IfNone found (accepts (app_of command.entry) (map string_bytes words.entry.now) ≡ false)) }
 {
     match command.try_get_matches_from(words) {
