@@ -42,7 +42,7 @@ fn objects_by_number(
 ) -> Result<Vec<Option<&Tree>>, AllocError>
     requires { most < 2 ^ 32 }
     ensures { IfOk result (λ v. map (option_map (λ t. t.now)) v.items
-        ≡ map (object_at (changes_of history.now) kind) (range_with_len 0 (most + 1))) }
+        ≡ map (live_object (changes_of history.now) kind) (range_with_len 0 (most + 1))) }
 {
     let mut objects = vec![in alloc; None; most as usize + 1]?;
     for entry in history {
