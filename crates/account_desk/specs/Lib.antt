@@ -1,4 +1,2 @@
 pub mod FreshDesk
-pub mod Determined
-pub mod InTurn
 pub mod SoleDesk

@@ -1,5 +1,4 @@
 //! What answers calls on the accounts of a site.
 #![tactic(auto)]
 
-pub mod laws;
 pub mod sole_desk;
