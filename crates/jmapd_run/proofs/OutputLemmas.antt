@@ -2,9 +2,8 @@
 use Rattle.std.proofs.Common.{◌≡◌, ◌≢◌, ◌+◌, ◌<◌, ◌≤◌, ◌++◌, ◌∷◌, [], ℕ, ℤ, List, Option, Some, None, Bool, true, false, inl, inr, length, take, refl, sym, ap, ◌∙◌, subst, arith}
 use Rattle.std.specs.Io.KnownBytes.{Consumes}
 use Rattle.std.specs.Prelude.{◌⊎◌, if◌then◌else◌}
-use Rattle.account_desk.proofs.ConnectionLemmas.{connections_determined}
-use Rattle.account_desk.proofs.ReplyLemmas.{replies_determined}
-use Rattle.account_desk.specs.Determined.{RepliesAlone, ServesAlone}
+use Rattle.desk_laws.proofs.FreshLaws.{fresh_connections_determined, fresh_replies_determined}
+use Rattle.desk_laws.specs.Determined.{RepliesAlone, ServesAlone}
 use Rattle.model_time.specs.Moments.{clamped}
 use Rattle.model_batch.specs.Reply.{asked_in}
 use Rattle.model_core.specs.declared.limits.TheConstants.{MAX_SIZE_REQUEST}
@@ -78,12 +77,12 @@ module _ (site : Site) (user : ℕ) (input : List ℕ) (clock : ℕ → ℤ) whe
   abbrev bytes_read : List ℕ
   bytes_read = take (MAX_SIZE_REQUEST + 1) input
 
-  alone : {moment : ℤ} {bytes text : List ℕ} {is_refusal : Bool} (a : IsAnswer site user moment bytes is_refusal text) → RepliesAlone site (user_at site user) moment (asked_in bytes) a.reply
+  alone : {moment : ℤ} {bytes text : List ℕ} {is_refusal : Bool} (a : IsAnswer site user moment bytes is_refusal text) → RepliesAlone (fresh_desk site) (user_at site user) moment (asked_in bytes) a.reply
   alone a = record { made = a.made; desk = a.desk; chain = a.chain; sole = a.sole; replied = a.replied }
 
   same_answers : {moment : ℤ} {bytes text other : List ℕ} {p q : Bool} → IsAnswer site user moment bytes p text → IsAnswer site user moment bytes q other → (p ≡ q) × (text ≡ other)
   same_answers {moment} {bytes} a b =
-      let reply : a.reply ≡ b.reply = replies_determined site (user_at site user) moment (asked_in bytes) a.reply b.reply (alone a) (alone b) in
+      let reply : a.reply ≡ b.reply = fresh_replies_determined site (user_at site user) moment (asked_in bytes) a.reply b.reply (alone a) (alone b) in
       (sym a.refusal ∙ b.refusal, a.written ∙ (ap (λ (d : Data). text_of d ++ 10 ∷ []) reply ∙ sym b.written))
 
   settled : {status : Status} {text : List ℕ} (e : IsBatchEnd site user input clock status text) → IsAnswer site user (clamped (clock 0)) bytes_read e.is_refusal text
@@ -136,7 +135,7 @@ module _ (site : Site) (input : List ℕ) (clock : ℕ → ℤ) {x x' : Surround
     had_memory = had_memory;
   }
 
-  serves_alone : ServesAlone site MOST_MESSAGES clock r.serves.exchanges
+  serves_alone : ServesAlone (fresh_desk site) site MOST_MESSAGES clock r.serves.exchanges
   serves_alone = record {
     fit = r.serves.fit;
     unwritten = r.serves.unwritten;
@@ -166,7 +165,7 @@ module _ (site : Site) (input : List ℕ) (clock : ℕ → ℤ) where
       → RunsStdio x x' site s → RunsStdio y y' site t → s ≢ NoMemory → t ≢ NoMemory → (s ≡ t) × (text ≡ other)
   same_connections {s = s} {t = t} k l fine well a b m n =
       let same = faultless_determined MOST_MESSAGES input _ _ a.served.end b.served.end (faultless site input clock k fine a m) (faultless site input clock l well b n) in
-      let bytes = connections_determined site MOST_MESSAGES clock a.serves.exchanges b.serves.exchanges (serves_alone site input clock k fine a m) (serves_alone site input clock l well b n) same.0 in (
+      let bytes = fresh_connections_determined site MOST_MESSAGES clock a.serves.exchanges b.serves.exchanges (serves_alone site input clock k fine a m) (serves_alone site input clock l well b n) same.0 in (
         some_same s t (sym a.ended ∙ (ap status_of same.1 ∙ b.ended)),
         text_is site input clock k fine a m ∙ ((λ i. bytes i ++ closing (same.1 i)) ∙ sym (text_is site input clock l well b n)),
       )
