@@ -7,7 +7,7 @@ mod outcome;
 use bytes::bytes_in;
 use outcome::outcome;
 use row_table::row::{Row, read_rows};
-use row_table::tally::Tally;
+use row_table::tally::RowTally;
 use std::alloc::{AllocError, Global};
 use std::io;
 
@@ -28,7 +28,7 @@ fn other_than(alloc: Global, row: &Row) -> Result<Option<String>, AllocError> {
 }
 
 fn main(rt: HostRuntime) -> io::Result<()> {
-    let mut tally = Tally::new();
+    let mut tally = RowTally::new();
     for row in &read_rows(&rt)? {
         let other = other_than(rt.alloc(), row)?;
         if let Some(other) = &other {

@@ -10,7 +10,7 @@ mod windows;
 use model_json::tree::Tree;
 use row_table::line::tree_in;
 use row_table::row::{Row, read_rows};
-use row_table::tally::Tally;
+use row_table::tally::RowTally;
 use std::alloc::{AllocError, Global};
 use std::io;
 
@@ -44,7 +44,7 @@ fn other_than(alloc: Global, row: &Row) -> Result<Option<String>, AllocError> {
 }
 
 fn main(rt: HostRuntime) -> io::Result<()> {
-    let mut tally = Tally::new();
+    let mut tally = RowTally::new();
     for row in &read_rows(&rt)? {
         let other = other_than(rt.alloc(), row)?;
         if let Some(other) = &other {

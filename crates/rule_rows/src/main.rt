@@ -13,7 +13,7 @@ use model_time::length::Length;
 use model_time::wall::Wall;
 use row_table::line::tree_in;
 use row_table::row::{Row, read_rows};
-use row_table::tally::Tally;
+use row_table::tally::RowTally;
 use rule_expand::{Bound, last_day, next_from, occurs_on};
 use rule_read::{RulesError, read_rules};
 use std::alloc::{AllocError, Global};
@@ -156,7 +156,7 @@ fn on_day(alloc: Global, start: Wall, rules: &Rules, day: i128) -> Result<String
 }
 
 fn main(rt: HostRuntime) -> io::Result<()> {
-    let mut tally = Tally::new();
+    let mut tally = RowTally::new();
     for row in &read_rows(&rt)? {
         let other = other_than(rt.alloc(), row)?;
         if let Some(other) = &other {

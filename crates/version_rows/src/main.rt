@@ -10,7 +10,7 @@ mod words;
 
 use row_table::line::unrolled;
 use row_table::row::{Row, read_rows};
-use row_table::tally::Tally;
+use row_table::tally::RowTally;
 use std::alloc::{AllocError, Global};
 use std::{env, io};
 use words::has_same_words;
@@ -48,7 +48,7 @@ fn other_than(alloc: Global, row: &Row) -> Result<Option<String>, AllocError> {
 }
 
 fn compare_rows(rt: &HostRuntime) -> io::Result<()> {
-    let mut tally = Tally::new();
+    let mut tally = RowTally::new();
     for row in &read_rows(rt)? {
         let other = other_than(rt.alloc(), row)?;
         if let Some(other) = &other {
