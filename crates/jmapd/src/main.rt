@@ -11,6 +11,7 @@ use io_edge::system_files::SystemFiles;
 use jmapd_run::run::run;
 use jmapd_run::status::Status;
 use std::alloc::Global;
+use std::io::ErrorKind;
 use std::process::ExitCode;
 use std::{env, io};
 
@@ -51,12 +52,12 @@ fn message(alloc: Global, status: Status) -> io::Result<String> {
 }
 
 /// How a run ends whose words weren't read: a word that isn't UTF-8 is no command's.
-fn unread(error: io::ErrorKind) -> Status
-    ensures memory { error ≡ io::ErrorKind.OutOfMemory → result ≡ Status.NoMemory }
-    ensures other { error ≢ io::ErrorKind.OutOfMemory → result ≡ Status.Usage }
+fn unread(error: ErrorKind) -> Status
+    ensures memory { error ≡ ErrorKind.OutOfMemory → result ≡ Status.NoMemory }
+    ensures other { error ≢ ErrorKind.OutOfMemory → result ≡ Status.Usage }
 {
     match error {
-        io::ErrorKind::OutOfMemory => Status::NoMemory,
+        ErrorKind::OutOfMemory => Status::NoMemory,
         _ => Status::Usage,
     }
 }
