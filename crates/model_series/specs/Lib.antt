@@ -5,6 +5,8 @@ pub mod RuleLimits
 pub mod SeriesLimits
 pub mod RuleSets
 pub mod Occurrences
+pub mod Lengths
+pub mod Shared
 pub mod Forms
 pub mod LocalTimes
 pub mod Durations
