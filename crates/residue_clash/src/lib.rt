@@ -7,6 +7,7 @@
 
 mod cycle;
 mod decision;
+mod kept;
 mod meeting;
 mod outline;
 mod pairs;

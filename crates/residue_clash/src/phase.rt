@@ -5,7 +5,7 @@ ghost use Rattle.model_time.specs.Floor.{modulo};
 ghost use Rattle.model_series.specs.Periods.{is_in_phase};
 ghost use Rattle.residue_solve.specs.Cong.{IsInRange, Solves};
 ghost use Rattle.rule_expand.specs.Walk.{periods};
-ghost use Rattle.residue_clash.specs.Repeats.{repeats_after};
+ghost use Rattle.residue_clash.specs.Repeats.{is_of_weekdays, periods_after, repeats_after};
 
 use model_series::by_part::Freq;
 use model_series::rule::Rule;
@@ -32,8 +32,20 @@ pub(crate) fn is_phase_day(rule: &Rule, first: i64, day: i64) -> bool
     here == start
 }
 
-// The periods of the days after which what a rule keeps comes again.
-fn periods_in(frequency: Freq) -> i64
+/// Whether a rule looks at days of the week alone.
+pub(crate) fn looks_at_weekdays(rule: &Rule) -> bool
+    ensures { result ≡ is_of_weekdays rule.now }
+{
+    match rule.frequency {
+        Freq::Daily | Freq::Weekly => {
+            rule.by_month_day.items().is_empty() && rule.by_month.items().is_empty()
+        }
+        Freq::Monthly | Freq::Yearly => false,
+    }
+}
+
+// The periods of the 400 years of the calendar's cycle.
+fn periods_of_cycle(frequency: Freq) -> i64
     ensures value { result ≡ pos (periods frequency) }
     ensures size { unsigned_abs result < 2 ^ 40 }
 {
@@ -42,6 +54,21 @@ fn periods_in(frequency: Freq) -> i64
         Freq::Weekly => 20_871,
         Freq::Monthly => 4_800,
         Freq::Yearly => 400,
+    }
+}
+
+// The periods of so many days.
+fn periods_in(frequency: Freq, days: u32) -> i64
+    ensures value { result ≡ pos (periods_after frequency days) }
+    ensures size { unsigned_abs result < 2 ^ 40 }
+{
+    if days != 7 {
+        return periods_of_cycle(frequency);
+    }
+    match frequency {
+        Freq::Daily => 7,
+        Freq::Weekly => 1,
+        Freq::Monthly | Freq::Yearly => 0,
     }
 }
 
@@ -67,7 +94,7 @@ pub(crate) fn phase_of(rule: &Rule, first: i64, day: i64, cycle: u32) -> Cong
     let start = period(rule, first);
     let here = period(rule, day);
     Cong {
-        a: periods_in(rule.frequency),
+        a: periods_in(rule.frequency, cycle),
         b: rest_of(start, here, rule.interval),
         n: rule.interval,
     }

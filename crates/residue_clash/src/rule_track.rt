@@ -4,11 +4,11 @@ ghost use Rattle.model_series.specs.Periods.{is_in_phase};
 ghost use Rattle.model_series.specs.RuleSets.{is_kept};
 ghost use Rattle.residue_clash.specs.Repeats.{repeats_after};
 
-use crate::phase::{is_phase_day, phase_of};
+use crate::kept::is_kept_on;
+use crate::phase::{is_phase_day, looks_at_weekdays, phase_of};
 use crate::track::Track;
 use model_series::rule::Rule;
 use residue_solve::Cong;
-use rule_expand::kept_on;
 
 /// The days of a rule after the start's.
 #[derive(Drop)]
@@ -35,7 +35,7 @@ impl Track for RuleTrack<'_> {
     ghost repeats = { λ t c. repeats_after t.rule.now c };
 
     fn is_kept(&self, day: i64) -> bool {
-        kept_on(self.rule, day)
+        is_kept_on(self.rule, day)
     }
 
     fn is_in_phase(&self, day: i64) -> bool {
@@ -51,7 +51,7 @@ impl Track for RuleTrack<'_> {
     }
 
     fn repeats_weekly(&self) -> bool {
-        false
+        looks_at_weekdays(self.rule)
     }
 
     ghost again = { λ t c h n. kept_again t.rule.now c h n };
