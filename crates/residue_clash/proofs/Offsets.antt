@@ -1,12 +1,12 @@
 -- Regular occurrences of two series, by the offset of their days and the first day whole cycles before the one.
-use Rattle.std.proofs.Common.{◌≡◌, ℕ, ◌+◌, ◌*◌, ◌<◌, ◌≤◌, ℤ, pos, ◌+ℤ◌, ◌-ℤ◌, ◌*ℤ◌, ◌≤ℤ◌, ◌<ℤ◌, arith, Option, Some, None, nat_abs, Bool, true, false, not, subst, sym, ap, ◌∙◌, refl, ◌⊎◌, inl, inr, option_map}
+use Rattle.std.proofs.Common.{◌≡◌, ℕ, ◌+◌, ◌-◌, ◌*◌, ◌<◌, ◌≤◌, ℤ, pos, ◌+ℤ◌, ◌-ℤ◌, ◌*ℤ◌, ◌≤ℤ◌, ◌<ℤ◌, arith, Option, Some, None, nat_abs, Bool, true, false, not, subst, sym, ap, ◌∙◌, refl, ◌⊎◌, inl, inr, option_map}
 use Rattle.std.specs.Int.{int_max, int_min}
 use Rattle.std.proofs.lemmas.Int.{ints, clamps}
 use Rattle.std.proofs.lemmas.Bool.{and_parts}
 use Rattle.model_series.specs.SeriesLimits.{is_named, wall_seconds}
 use Rattle.model_series.specs.Walls.{wall_at}
-use Rattle.rule_expand.specs.Least.{IsLeast, IsLeastOf}
-use Rattle.rule_expand.proofs.Least.{Among, same-least, by_lt}
+use Rattle.rule_expand.specs.Least.{IsLeast, IsLeastOf, lower}
+use Rattle.rule_expand.proofs.Least.{Among, same-least, lower-least, by_lt}
 use Rattle.residue_clash.specs.declared.outline.Outline.{Outline}
 use Rattle.residue_clash.specs.Covers.{wall, Within}
 use Rattle.residue_clash.specs.Hidden.{unnamed}
@@ -211,3 +211,33 @@ module _ {A B : Type 0} (same : Bool) (keeps_a phase_a : A → ℤ → Bool) (la
       let kept = g.first.on_b.given.kept in
       let here : keeps_b rb (n0 +ℤ d) ≡ true = sym (same_later (keeps_b rb) cycle again (n0 +ℤ d) g.turns) ∙ ap (keeps_b rb) (sym on_b) ∙ kept in
       cc
+
+-- the residues from j up to the next that counts
+pub more-least : {A B : Type 0} (same : Bool) (keeps_a phase_a : A → ℤ → Bool) (last_a : A → Option ℤ) (keeps_b phase_b : B → ℤ → Bool) (last_b : B → Option ℤ)
+    (a : Outline) (ra : A) (b : Outline) (rb : B) (cycle : ℕ) → ((n : ℤ) → keeps_a ra (n +ℤ pos cycle) ≡ keeps_a ra n)
+    → (j k unkept : ℕ) → j < k → (k ≤ j + 1) ⊎ (k ≤ j + unkept) → ((i : ℕ) → i < unkept → keeps_a ra (((a.first +ℤ pos 1) +ℤ pos j) +ℤ pos i) ≡ false)
+    → (best found : Option ℤ)
+    → IsLeastOf (Among (OnResidue same (Gives keeps_a phase_a last_a) (Gives keeps_b phase_b last_b) a ra b rb cycle) j) best
+    → IsLeastOf (OnResidue same (Gives keeps_a phase_a last_a) (Gives keeps_b phase_b last_b) a ra b rb cycle j) found
+    → IsLeastOf (Among (OnResidue same (Gives keeps_a phase_a last_a) (Gives keeps_b phase_b last_b) a ra b rb cycle) k) (lower best found)
+more-least same keeps_a phase_a last_a keeps_b phase_b last_b a ra b rb cycle again j k unkept lt near shut best found h f =
+    same-least (λ x. Among On j x ⊎ On j x) (Among On k) (lower best found)
+    (λ x m. elim m [ inl g ↦ (g.0, omega (arith, g.1, lt), g.2) | inr g ↦ (j, lt, g) ])
+    (λ x m.
+    by_lt m.0 j (λ below. inl (m.0, below, m.2))
+    (λ ge. by_lt j m.0 (λ above. absurd (none x m above)) (λ le. let e : m.0 ≡ j = omega (arith, ge, le) in inr (rw e at m.2))))
+    (lower-least (Among On j) (On j) best found h f)
+  where
+    On : ℕ → ℤ → Type 0
+    On = OnResidue same (Gives keeps_a phase_a last_a) (Gives keeps_b phase_b last_b) a ra b rb cycle
+
+    none : (x : ℤ) (m : Among On k x) → j < m.0 → ⊥
+    none x m above =
+        elim near [
+          | inl one ↦ omega (arith, above, one, m.1)
+          | inr more ↦
+              let i = m.0 - j in
+              let e : ((a.first +ℤ pos 1) +ℤ pos j) +ℤ pos i ≡ (a.first +ℤ pos 1) +ℤ pos m.0 = omega (arith, ints, above) in
+              let here = ap (keeps_a ra) (sym e) ∙ shut i (omega (arith, above, more, m.1)) in
+              unkept_a same keeps_a phase_a last_a keeps_b phase_b last_b a ra b rb cycle ((a.first +ℤ pos 1) +ℤ pos m.0) (pos m.2.0 -ℤ pos 8) again here x m.2.2
+        ]

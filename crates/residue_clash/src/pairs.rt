@@ -1,5 +1,5 @@
 //! The regular occurrences of two series.
-ghost use Rattle.std.specs.Prelude.{◌≡◌, ℕ, ◌+◌, ◌*◌, ◌<◌, ◌≤◌, ◌^◌, ℤ, pos, ◌+ℤ◌, ◌-ℤ◌, ◌*ℤ◌, ◌≤ℤ◌, ◌<ℤ◌, Bool, true, unsigned_abs, IfSome, IfNone, IsTrue, ◌↔◌, Some, option_map};
+ghost use Rattle.std.specs.Prelude.{◌≡◌, ◌⊎◌, ℕ, ◌+◌, ◌*◌, ◌<◌, ◌≤◌, ◌^◌, ℤ, pos, ◌+ℤ◌, ◌-ℤ◌, ◌*ℤ◌, ◌≤ℤ◌, ◌<ℤ◌, Bool, true, unsigned_abs, IfSome, IfNone, IsTrue, ◌↔◌, Some, option_map};
 ghost use Rattle.std.specs.Int.{int_max, int_min};
 ghost use Rattle.model_series.specs.SeriesLimits.{wall_seconds};
 ghost use Rattle.rule_expand.specs.Least.{IsLeastOf};
@@ -180,6 +180,21 @@ fn is_over(best: &Option<Shared>, last: Option<i64>, day: i64) -> bool
     }
 }
 
+// The next of the residues that count, where so many from one on don't.
+fn next_residue(j: u32, unkept: u32, cycle: u32) -> u32
+    requires j { j < cycle }
+    requires cycle { cycle ≤ 146097 }
+    requires unkept { unkept ≤ 367 }
+    ensures later { j < result }
+    ensures within { result ≤ cycle }
+    ensures near { (result ≤ j + 1) ⊎ (result ≤ j + unkept) }
+{
+    if unkept <= 1 {
+        return j + 1;
+    }
+    if unkept < cycle - j { j + unkept } else { cycle }
+}
+
 // The least second that regular occurrences of two rules share.
 fn pair<A: Track, B: Track>(
     a: &Outline<'_>,
@@ -199,12 +214,14 @@ fn pair<A: Track, B: Track>(
     let cycle = cycle_of(ra, rb);
     let last = ra.last();
     let mut best = None;
-    for j in 0..cycle {
+    let mut j: u32 = 0;
+    while j < cycle {
         let n0 = day_at(a.first, j);
         if is_over(&best, last, n0) {
             return best;
         }
         best = lower_of(best, meet_on(a, ra, b, rb, cycle, n0, same));
+        j = next_residue(j, ra.unkept(n0), cycle);
     }
     best
 }

@@ -9,6 +9,7 @@ use crate::phase::{is_phase_day, looks_at_weekdays, phase_of};
 use crate::track::Track;
 use model_series::rule::Rule;
 use residue_solve::Cong;
+use rule_expand::unkept_days;
 
 /// The days of a rule after the start's.
 #[derive(Drop)]
@@ -44,6 +45,15 @@ impl Track for RuleTrack<'_> {
 
     fn phase_from(&self, day: i64, cycle: u32) -> Cong {
         phase_of(self.rule, self.first, day, cycle)
+    }
+
+    fn unkept(&self, day: i64) -> u32 {
+        // Without places of days one day after another is told at less cost.
+        if self.rule.by_set.items().is_empty() {
+            0
+        } else {
+            unkept_days(self.rule, day)
+        }
     }
 
     fn last(&self) -> Option<i64> {

@@ -1,9 +1,8 @@
 -- Why the residues of one cycle are all, and later ones can be left.
 use Rattle.std.proofs.Common.{rules, ◌≡◌, arith, sym, ◌∙◌, FitsSigned, w64}
 use Rattle.std.proofs.lemmas.Int.{to_z-of_z}
-use Rattle.rule_expand.proofs.Least.{least_more}
 use Rattle.residue_clash.specs.Tracks.{Gives}
-use Rattle.residue_clash.proofs.Offsets.{OnResidue, pair-least, over-least}
+use Rattle.residue_clash.proofs.Offsets.{pair-least, over-least, more-least}
 use Rattle.residue_clash.proofs.pairs.pair.Goals as goal
 
 pub returns-then-is_over : goal.returns-then-is_over
@@ -14,7 +13,7 @@ returns-then-is_over g c =
     let over = rw (at, c.last-last.ensures) at (simp to_z-of_z at (c.is_over.ensures c.if-is_over.true)) in
     let some = c.cycle_of-cycle.ensures.range.0 in
     pair-least c.args.same (Gives g.A.Track.keeps g.A.Track.phase g.A.Track.last_of) (Gives g.B.Track.keeps g.B.Track.phase g.B.Track.last_of) c.args.a.now c.args.ra.now c.args.b.now c.args.rb.now c.cycle_of-cycle.result (omega (arith, some)) (λ n given. given.later) c.loop-j.best
-    (over-least c.args.same (Gives g.A.Track.keeps g.A.Track.phase g.A.Track.last_of) (Gives g.B.Track.keeps g.B.Track.phase g.B.Track.last_of) c.args.a.now c.args.ra.now c.args.b.now c.args.rb.now c.cycle_of-cycle.result (g.A.Track.last_of c.args.ra.now) (λ n given. given.up_to) c.loop-j.j (omega arith) c.loop-j.best over c.loop-j.invariant)
+    (over-least c.args.same (Gives g.A.Track.keeps g.A.Track.phase g.A.Track.last_of) (Gives g.B.Track.keeps g.B.Track.phase g.B.Track.last_of) c.args.a.now c.args.ra.now c.args.b.now c.args.rb.now c.cycle_of-cycle.result (g.A.Track.last_of c.args.ra.now) (λ n given. given.up_to) c.loop-j.j c.loop-j.invariant.within c.loop-j.best over c.loop-j.invariant.least)
 
 pub loop-j-preserved : goal.loop-j-preserved
 loop-j-preserved g c =
@@ -22,11 +21,17 @@ loop-j-preserved g c =
     let f1 : FitsSigned w64 c.day_at-n0.result = search rules in
     let at = simp to_z-of_z at c.day_at-n0.ensures.value in
     let on = rw at at (simp to_z-of_z at c.meet_on.ensures) in
-    rw c.lower_of-best.ensures
-    (least_more (OnResidue c.args.same (Gives g.A.Track.keeps g.A.Track.phase g.A.Track.last_of) (Gives g.B.Track.keeps g.B.Track.phase g.B.Track.last_of) c.args.a.now c.args.ra.now c.args.b.now c.args.rb.now c.cycle_of-cycle.result) c.loop-j.j c.loop-j.best c.meet_on.result c.loop-j.invariant on)
+    let shut = rw at at (simp to_z-of_z at c.unkept.ensures.unkept) in
+    let n = c.next_residue-j.ensures in
+    record {
+      within = n.within;
+      least = rw c.lower_of-best.ensures (more-least c.args.same g.A.Track.keeps g.A.Track.phase g.A.Track.last_of g.B.Track.keeps g.B.Track.phase g.B.Track.last_of c.args.a.now c.args.ra.now c.args.b.now c.args.rb.now c.cycle_of-cycle.result
+          (g.met.A.Track.again c.args.ra.now c.cycle_of-cycle.result c.cycle_of-cycle.ensures.repeats_a) c.loop-j.j c.next_residue-j.result c.unkept.result n.later n.near shut c.loop-j.best c.meet_on.result c.loop-j.invariant.least on);
+    }
 
 pub returns : goal.returns
 returns g c =
     let some = c.cycle_of-cycle.ensures.range.0 in
-    let e : c.loop-j.j ≡ c.cycle_of-cycle.result = omega arith in
-    pair-least c.args.same (Gives g.A.Track.keeps g.A.Track.phase g.A.Track.last_of) (Gives g.B.Track.keeps g.B.Track.phase g.B.Track.last_of) c.args.a.now c.args.ra.now c.args.b.now c.args.rb.now c.cycle_of-cycle.result (omega (arith, some)) (λ n given. given.later) c.loop-j.best (rw e at c.loop-j.invariant)
+    let within = c.loop-j.invariant.within in
+    let e : c.loop-j.j ≡ c.cycle_of-cycle.result = omega (arith, within, c.loop-j-test.false) in
+    pair-least c.args.same (Gives g.A.Track.keeps g.A.Track.phase g.A.Track.last_of) (Gives g.B.Track.keeps g.B.Track.phase g.B.Track.last_of) c.args.a.now c.args.ra.now c.args.b.now c.args.rb.now c.cycle_of-cycle.result (omega (arith, some)) (λ n given. given.later) c.loop-j.best (rw e at c.loop-j.invariant.least)
