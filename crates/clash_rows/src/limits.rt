@@ -13,14 +13,18 @@ use time_text::is_in_years;
 pub fn is_week(length: Length) -> bool
     ensures { result ≡ nat_le (wall_seconds length) 604800 }
 {
-    length.days <= 7 && length.seconds <= 604_800 && 86_400 * length.days + length.seconds <= 604_800
+    length.days <= 7
+        && length.seconds <= 604_800
+        && 86_400 * length.days + length.seconds <= 604_800
 }
 
 /// Whether a length is at most 366 days.
 fn is_short(length: Length) -> bool
     ensures { result ≡ nat_le (wall_seconds length) 31622400 }
 {
-    length.days <= 366 && length.seconds <= 31_622_400 && 86_400 * length.days + length.seconds <= 31_622_400
+    length.days <= 366
+        && length.seconds <= 31_622_400
+        && 86_400 * length.days + length.seconds <= 31_622_400
 }
 
 fn is_in_its_years(exception: &Exception) -> bool

@@ -1,5 +1,5 @@
 -- The tests of what a series covers say what the facts over its occurrences say.
-use Rattle.std.proofs.Common.{◌≡◌, ℕ, zero, suc, ◌<◌, ◌≤◌, ◌+◌, ◌*◌, ◌/◌, ℤ, pos, ◌+ℤ◌, ◌-ℤ◌, ◌*ℤ◌, ◌≤ℤ◌, ◌<ℤ◌, int_lt, int_le, ◌⊎◌, inl, inr, ◌&&◌, ◌||◌, Bool, true, false, not, Option, Some, None, List, [], ◌∷◌, ◌++◌, slice_get, refl, sym, ap, ◌∙◌, arith, subst, ◌↔◌, if◌then◌else◌, eq-eqb}
+use Rattle.std.proofs.Common.{◌≡◌, ℕ, zero, suc, ◌<◌, ◌+◌, ◌/◌, ℤ, pos, ◌+ℤ◌, ◌-ℤ◌, ◌≤ℤ◌, ◌<ℤ◌, int_lt, int_le, ◌⊎◌, inl, inr, ◌&&◌, ◌||◌, Bool, true, false, not, Option, Some, None, List, [], ◌∷◌, ◌++◌, slice_get, refl, sym, ap, ◌∙◌, arith, subst, ◌↔◌, if◌then◌else◌, eq-eqb}
 use Rattle.std.specs.Prelude.{◌==◌}
 use Rattle.std.specs.List.{list_any}
 use Rattle.std.specs.Ordering.{int_eq}
@@ -8,7 +8,6 @@ use Rattle.std.proofs.lemmas.Option.{same_Some}
 use Rattle.std.proofs.lemmas.Bool.Decides.{Decides-int_eq}
 use Rattle.jiff_core.proofs.SignedLemmas.{signed_arith}
 use borrow.Author.Tests.{eqb-true}
-use Rattle.model_time.specs.Floor.{floor_div, modulo}
 use Rattle.model_series.specs.declared.exception.Exception.{Exception}
 use Rattle.model_series.specs.declared.exception.Span.{Span}
 use Rattle.model_series.specs.declared.length.Length.{Length}
@@ -16,9 +15,9 @@ use Rattle.model_series.specs.declared.occurrence.Occurrence.{Occurrence}
 use Rattle.model_series.specs.declared.series.Series.{Series}
 use Rattle.model_series.specs.Walls.{day_of_wall, second_of_wall, wall_at}
 use Rattle.model_series.specs.SeriesLimits.{is_named, wall_seconds}
-use Rattle.model_series.specs.Occurrences.{is_day, is_rid, IsRegular, IsOccurrence, Covers}
+use Rattle.model_series.specs.Occurrences.{is_day, IsOccurrence, Covers}
 use Rattle.model_series.specs.Shared.{IsShared, IsSelfShared, is_within, span_covers, replaced_covers, own_second, own_covers, days_down, own_rids, replaced_rids, days_back, covering_rids, has_some, has_two, covers, covers_twice}
-use Rattle.rule_expand.proofs.Places.{and_both, false_true}
+use Rattle.rule_expand.proofs.Places.{and_both}
 use Rattle.rule_expand.proofs.Sets.{both_and, or_cases, int_le_is, is_int_le}
 use Rattle.rule_expand.proofs.Places.{is_late, late_is}
 use Rattle.rule_expand.specs.Least.{IsLeastOf}

@@ -1,23 +1,19 @@
 -- The occurrences by the outline and the tracks are those of the series.
-use Rattle.std.proofs.Common.{◌≡◌, ◌⊎◌, inl, inr, ℕ, zero, suc, ◌<◌, ◌≤◌, ℤ, pos, ◌+ℤ◌, ◌*ℤ◌, ◌≤ℤ◌, ◌<ℤ◌, ◌&&◌, Bool, true, false, List, [], ◌∷◌, slice_get, length, Option, Some, None, refl, sym, ap, ◌∙◌, arith, subst, eq-eqb}
+use Rattle.std.proofs.Common.{◌≡◌, ◌⊎◌, inl, inr, ℕ, zero, suc, ◌<◌, ℤ, Bool, true, false, List, [], ◌∷◌, slice_get, Option, Some, None, refl, sym, ap, ◌∙◌, arith, subst, eq-eqb}
 use Rattle.std.specs.Prelude.{◌==◌}
 use Rattle.std.specs.List.{list_any}
-use Rattle.std.specs.Ordering.{int_eq}
 use Rattle.std.proofs.lemmas.Option.{same_Some, slice_get_within}
 use Rattle.std.proofs.lemmas.Bool.Decides.{Decides-int_eq}
 use Rattle.jiff_core.proofs.SignedLemmas.{signed_arith}
 use borrow.Author.Tests.{eqb-true}
-use Rattle.model_series.specs.declared.exception.Exception.{Exception}
 use Rattle.model_series.specs.declared.exception.Span.{Span}
-use Rattle.model_series.specs.declared.length.Length.{Length}
 use Rattle.model_series.specs.declared.occurrence.Occurrence.{Occurrence}
 use Rattle.model_series.specs.declared.rule.Rule.{Rule}
 use Rattle.model_series.specs.declared.series.Series.{Series}
 use Rattle.model_series.specs.Walls.{day_of_wall, second_of_wall, wall_at}
-use Rattle.model_series.specs.SeriesLimits.{is_named, wall_seconds}
 use Rattle.model_series.specs.Periods.{is_in_phase}
 use Rattle.model_series.specs.RuleSets.{is_kept, is_in_set}
-use Rattle.model_series.specs.Occurrences.{is_day, is_rid, IsRegular, IsOccurrence, Covers}
+use Rattle.model_series.specs.Occurrences.{is_day, IsOccurrence, Covers}
 use Rattle.model_series.specs.Shared.{IsShared, IsSelfShared}
 use Rattle.rule_expand.specs.Least.{IsLeastOf}
 use Rattle.rule_expand.proofs.Least.{same-least}
@@ -26,8 +22,8 @@ use Rattle.rule_expand.proofs.Sets.{both_and, or_cases, or_left, or_right}
 use Rattle.residue_clash.specs.declared.outline.Outline.{Outline}
 use Rattle.residue_clash.specs.declared.rule_track.RuleTrack.{RuleTrack}
 use Rattle.residue_clash.specs.Tracks.{IsGiven, Gives}
-use Rattle.residue_clash.specs.Covers.{wall, IsDay, IsOccurrenceAt, Within, Blocks}
-use Rattle.residue_clash.specs.Parts.{IsSharedAs, IsApart, except_of}
+use Rattle.residue_clash.specs.Covers.{IsDay, IsOccurrenceAt, Blocks}
+use Rattle.residue_clash.specs.Parts.{IsSharedAs}
 use Rattle.residue_clash.specs.RuleTracks.{IsTrackOf, IsSlotOf, AreTracks}
 
 any_at : {A : Type 0} (p : A → Bool) (xs : List A) → list_any p xs ≡ true → (k : ℕ) × ((x : A) × ((slice_get xs k ≡ Some x) × (p x ≡ true)))

@@ -5,14 +5,14 @@ use Rattle.std.proofs.lemmas.Int.{ints, clamps}
 use Rattle.std.proofs.lemmas.Bool.{and_parts}
 use Rattle.model_series.specs.SeriesLimits.{is_named, wall_seconds}
 use Rattle.model_series.specs.Walls.{wall_at}
-use Rattle.rule_expand.specs.Least.{IsLeast, IsLeastOf, lower}
+use Rattle.rule_expand.specs.Least.{IsLeastOf, lower}
 use Rattle.rule_expand.proofs.Least.{Among, same-least, lower-least, by_lt}
 use Rattle.residue_clash.specs.declared.outline.Outline.{Outline}
 use Rattle.residue_clash.specs.Covers.{wall, Within}
 use Rattle.residue_clash.specs.Hidden.{unnamed}
 use Rattle.residue_clash.specs.Meetings.{IsMeetingAfter}
 use Rattle.residue_clash.specs.Parts.{IsOther, IsRegularDay, IsFirstAt, IsFirstOn, IsSharedOn, IsOver, IsRegularShared, delta_of, plus_of}
-use Rattle.residue_clash.specs.Tracks.{Gives, IsGiven, IsUpTo}
+use Rattle.residue_clash.specs.Tracks.{Gives, IsUpTo}
 use Rattle.residue_clash.proofs.Cycles.{place, same_later, up_down}
 use Rattle.residue_clash.proofs.Overlaps.{meet-at, meets, offset-meets, offset-needed, offset-near}
 

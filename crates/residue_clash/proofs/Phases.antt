@@ -1,8 +1,7 @@
 -- The phase of a rule as congruences.
-use Rattle.std.proofs.Common.{◌≡◌, ◌⊎◌, inl, inr, ◌==◌, ◌&&◌, ◌||◌, ℕ, ◌*◌, ◌<◌, ◌≤◌, ℤ, pos, negsuc, ◌+ℤ◌, ◌-ℤ◌, ◌*ℤ◌, Bool, true, arith, ◌↔◌, ap, sym, ◌∙◌, eq-eqb, refl, unsigned_abs}
+use Rattle.std.proofs.Common.{◌≡◌, inl, inr, ◌==◌, ◌&&◌, ℕ, ◌*◌, ◌<◌, ℤ, pos, negsuc, ◌+ℤ◌, ◌-ℤ◌, ◌*ℤ◌, true, arith, ◌↔◌, ap, sym, ◌∙◌, eq-eqb, refl, unsigned_abs}
 use Rattle.std.specs.Int.{int_rem_euclid}
 use Rattle.std.proofs.Math.IntN.{*ℤ_comm, pos-*ℤ-pos}
-use Rattle.std.proofs.lemmas.Int.{ints}
 use borrow.Author.Tests.{eqb-true}
 use Rattle.model_time.specs.Floor.{modulo}
 use Rattle.jiff_core.proofs.SignedLemmas.{signed_arith}
@@ -10,8 +9,6 @@ use Rattle.model_series.specs.declared.by_part.Freq.{Freq}
 use Rattle.model_series.specs.declared.by_part.Freq.TheVariants.{Daily, Weekly, Monthly, Yearly}
 use Rattle.model_series.specs.declared.rule.Rule.{Rule}
 use Rattle.model_series.specs.Periods.{period_by, period_number, is_in_phase}
-use Rattle.residue_solve.specs.declared.congruence.Cong.{Cong}
-use Rattle.residue_solve.specs.Cong.{Solves}
 use Rattle.residue_solve.specs.Congruence.{Congruent}
 use Rattle.residue_solve.proofs.IntRing.{sums}
 use Rattle.residue_solve.proofs.CongruenceLemmas.{Congruent-sym, Congruent-trans, Congruent-rem_euclid, Congruent-same_rem_euclid}

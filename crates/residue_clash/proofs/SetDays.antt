@@ -1,10 +1,10 @@
 -- The days of a rule's set by its track.
-use Rattle.std.proofs.Common.{◌≡◌, ◌⊎◌, inl, inr, ℤ, pos, ◌≤ℤ◌, ◌<ℤ◌, Bool, true, ap, sym, ◌∙◌, refl, Option, Some, None}
+use Rattle.std.proofs.Common.{◌≡◌, ◌⊎◌, inl, inr, ℤ, true, sym, ◌∙◌, refl}
 use Rattle.model_series.specs.declared.rule.Rule.{Rule}
 use Rattle.model_series.specs.Periods.{is_in_phase}
 use Rattle.model_series.specs.RuleSets.{is_kept, is_due, is_in_set}
 use Rattle.model_series.specs.Walls.{day_of_wall}
-use Rattle.rule_expand.specs.Sets.{IsBound, is_up_to, is_by_last}
+use Rattle.rule_expand.specs.Sets.{IsBound, is_up_to}
 use Rattle.rule_expand.specs.declared.bound.Bound.{Bound}
 use Rattle.rule_expand.specs.declared.bound.Bound.TheVariants.{Endless, Last}
 use Rattle.rule_expand.proofs.Sets.{due_day, day_due, int_le_is, is_int_le, by_last_cases, by_last_later, rule_set_by_last}

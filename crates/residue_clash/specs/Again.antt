@@ -1,18 +1,17 @@
 -- What a rule keeps comes again.
-use Rattle.std.proofs.Common.{◌≡◌, ◌⊎◌, inl, inr, ℕ, zero, suc, ◌+◌, ◌*◌, ◌==◌, ℤ, pos, ◌+ℤ◌, ◌-ℤ◌, ◌*ℤ◌, Bool, true, false, ◌&&◌, ◌||◌, List, [], ◌∷◌, Option, Some, None, nat_lt, refl, ap, sym, ◌∙◌, arith}
+use Rattle.std.proofs.Common.{◌≡◌, inl, inr, ℕ, zero, suc, ◌==◌, ℤ, pos, ◌+ℤ◌, ◌-ℤ◌, Bool, true, ◌&&◌, List, [], ◌∷◌, Option, Some, None, nat_lt, refl, ap, ◌∙◌, arith}
 use Rattle.std.specs.List.{list_any, list_all}
 use Rattle.jiff_core.proofs.SignedLemmas.{signed_arith}
 use borrow.Author.Tests.{eqb-true}
 use Rattle.model_time.specs.CivilDay.{cycles_later, weekday_of}
-use Rattle.model_time.specs.Floor.{floor_div, modulo}
 use Rattle.model_series.specs.declared.by_part.Freq.{Freq}
 use Rattle.model_series.specs.declared.by_part.Freq.TheVariants.{Daily, Weekly, Monthly, Yearly}
 use Rattle.model_series.specs.declared.by_part.NDay.{NDay}
 use Rattle.model_series.specs.declared.rule.Rule.{Rule}
-use Rattle.model_series.specs.Periods.{period_by, period_first, period_last}
-use Rattle.model_series.specs.Places.{count_days, count_from, at_least_zero, empty_or_any, is_place}
-use Rattle.model_series.specs.RuleLimits.{is_nday, is_nth, is_place_to, is_month}
-use Rattle.model_series.specs.RuleSets.{is_weekday, nth_matches, nday_matches, month_day_matches, month_matches, counts_in_month, day_matches, is_kept}
+use Rattle.model_series.specs.Periods.{period_first, period_last}
+use Rattle.model_series.specs.Places.{count_days, count_from, at_least_zero, empty_or_any}
+use Rattle.model_series.specs.RuleLimits.{is_nday, is_nth}
+use Rattle.model_series.specs.RuleSets.{nth_matches, nday_matches, month_day_matches, month_matches, counts_in_month, day_matches, is_kept}
 use Rattle.rule_expand.proofs.Cycle.{is_kept-cycle}
 use Rattle.rule_expand.proofs.Places.{and_both, false_true}
 use Rattle.rule_expand.proofs.Sets.{or_cases}

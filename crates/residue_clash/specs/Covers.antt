@@ -1,6 +1,5 @@
 -- The occurrences of a series by its outline and the tracks of its rules, and the wall seconds that they cover.
-use Rattle.std.specs.Prelude.{◌≡◌, ◌⊎◌, ℕ, ℤ, pos, ◌+ℤ◌, ◌≤ℤ◌, ◌<ℤ◌, Bool, true, false, Option, Some, List, slice_get}
-use Rattle.model_series.specs.declared.exception.Exception.{Exception}
+use Rattle.std.specs.Prelude.{◌≡◌, ◌⊎◌, ℕ, ℤ, pos, ◌+ℤ◌, ◌≤ℤ◌, ◌<ℤ◌, true, false, Option, Some, List, slice_get}
 use Rattle.model_series.specs.declared.exception.Span.{Span}
 use Rattle.model_series.specs.SeriesLimits.{is_named, wall_seconds}
 use Rattle.model_series.specs.Walls.{wall_at}

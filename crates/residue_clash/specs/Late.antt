@@ -1,5 +1,5 @@
 -- No exception hides a meeting after the years 0 to 9999.
-use Rattle.std.proofs.Common.{◌≡◌, ◌≤◌, ℕ, ℤ, pos, ◌+ℤ◌, ◌-ℤ◌, ◌*ℤ◌, ◌≤ℤ◌, ◌<ℤ◌, Bool, true, false, arith, refl, List, ◌^◌}
+use Rattle.std.proofs.Common.{◌≡◌, ℕ, ℤ, pos, ◌+ℤ◌, ◌≤ℤ◌, ◌<ℤ◌, true, false, arith, refl, List}
 use Rattle.std.proofs.lemmas.Int.{ints}
 use Rattle.model_series.specs.declared.exception.Exception.{Exception}
 use Rattle.model_series.specs.SeriesLimits.{is_named, are_in_years}

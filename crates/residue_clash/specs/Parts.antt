@@ -4,7 +4,6 @@ use Rattle.std.specs.Int.{int_max, int_min}
 use Rattle.model_series.specs.declared.exception.Exception.{Exception}
 use Rattle.model_series.specs.declared.exception.Span.{Span}
 use Rattle.model_series.specs.SeriesLimits.{is_named, wall_seconds}
-use Rattle.model_series.specs.Walls.{wall_at}
 use Rattle.rule_expand.specs.Least.{IsFoundAt}
 use Rattle.rule_expand.proofs.Least.{Among}
 use Rattle.residue_clash.specs.Tracks.{IsUpTo}
@@ -110,7 +109,6 @@ pub record IsRegularShared {A B : Type 0} (same : Bool) (gives_a : A → ℤ →
   pub on_b : IsRegularDay gives_b b rb day_b
   pub here : Within (wall a day) (wall_seconds a.length) x
   pub there : Within (wall b day_b) (wall_seconds b.length) x
-
 
 -- the same of a day that lies whole cycles after n0
 pub record IsFirstOn {A B : Type 0} (same : Bool) (gives_a : A → ℤ → ℤ → Type 0) (gives_b : B → ℤ → ℤ → Type 0) (a : Outline) (ra : A) (b : Outline) (rb : B) (cycle : ℕ) (n0 d x : ℤ) : Type 0 where

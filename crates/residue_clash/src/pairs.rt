@@ -192,7 +192,11 @@ fn next_residue(j: u32, unkept: u32, cycle: u32) -> u32
     if unkept <= 1 {
         return j + 1;
     }
-    if unkept < cycle - j { j + unkept } else { cycle }
+    if unkept < cycle - j {
+        j + unkept
+    } else {
+        cycle
+    }
 }
 
 // The least second that regular occurrences of two rules share.

@@ -55,7 +55,11 @@ fn meet_spans(start: i64, seconds: u64, other: i64, other_seconds: u64) -> Optio
 {
     let first = later(start, other);
     let end = sooner(start, seconds, other, other_seconds);
-    if first < end { Some(Shared::new(first)) } else { None }
+    if first < end {
+        Some(Shared::new(first))
+    } else {
+        None
+    }
 }
 
 // Whether the recurrence id isn't the one that is left out.
@@ -123,7 +127,10 @@ fn meet_rule<T: Track>(
     let mut best = None;
     for k in 0..17u32 {
         let day = near_day(start, k);
-        best = lower_of(best, meet_on_day(start, seconds, except, series, track, day));
+        best = lower_of(
+            best,
+            meet_on_day(start, seconds, except, series, track, day),
+        );
     }
     best
 }
@@ -185,7 +192,12 @@ fn meet_start(start: i64, seconds: u64, except: Option<i64>, series: &Outline<'_
 }
 
 // The least second that a stretch shares with what an exception gives.
-fn meet_exception(start: i64, seconds: u64, except: Option<i64>, exception: &Exception) -> Option<Shared>
+fn meet_exception(
+    start: i64,
+    seconds: u64,
+    except: Option<i64>,
+    exception: &Exception,
+) -> Option<Shared>
     requires start { unsigned_abs start < 2 ^ 57 }
     requires seconds { seconds ≤ 604800 }
     requires years { (is_in_years exception.now.rid && is_span_in_years exception.now.replaced) ≡ true }
@@ -205,7 +217,12 @@ fn meet_exception(start: i64, seconds: u64, except: Option<i64>, exception: &Exc
 }
 
 // The least second that a stretch shares with what the exceptions give.
-fn meet_exceptions(start: i64, seconds: u64, except: Option<i64>, series: &Outline<'_>) -> Option<Shared>
+fn meet_exceptions(
+    start: i64,
+    seconds: u64,
+    except: Option<i64>,
+    series: &Outline<'_>,
+) -> Option<Shared>
     requires start { unsigned_abs start < 2 ^ 57 }
     requires seconds { seconds ≤ 604800 }
     ensures { IsLeastOf (λ x. (k : ℕ) × IsFoundAt (IsOnException start seconds except) series.now.exceptions.now k x) result }

@@ -1,5 +1,5 @@
 -- Why the slot holds the track of the rule, if there is one.
-use Rattle.std.proofs.Common.{◌≡◌, Some, slice_get, length, refl, arith}
+use Rattle.std.proofs.Common.{length, refl, arith}
 use Rattle.std.proofs.lemmas.Option.{slice_get_read, slice_get_past}
 use Rattle.residue_clash.proofs.tracks.slot.Goals as goal
 

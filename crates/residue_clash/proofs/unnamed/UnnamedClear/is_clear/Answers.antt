@@ -1,5 +1,5 @@
 -- Why the two tests are that of the definition.
-use Rattle.std.proofs.Common.{rules, ◌≡◌, pos, ◌+ℤ◌, ◌*ℤ◌, arith, FitsSigned, w64, sym, ap, ◌∙◌, false, refl}
+use Rattle.std.proofs.Common.{rules, ◌≡◌, ◌+ℤ◌, arith, FitsSigned, w64, sym, ap, ◌∙◌, false, refl}
 use Rattle.std.proofs.lemmas.Int.{ints, to_z-of_z}
 use Rattle.model_series.specs.SeriesLimits.{is_named}
 use Rattle.model_series.specs.Walls.{wall_at}
