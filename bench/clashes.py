@@ -32,6 +32,13 @@ def crowded(start, month, replaced):
     return {"start": start, "days": 7, "rules": rules, "exceptions": exceptions}
 
 
+def placed(start, places, replaced):
+    """The same with rules that keep the days at some places among the working days of a year."""
+    days = [{"@type": "NDay", "day": day} for day in ("mo", "tu", "we", "th", "fr")]
+    rules = [{"frequency": "yearly", "byDay": days, "bySetPosition": [place]} for place in places]
+    return {**crowded(start, 1, replaced), "rules": rules}
+
+
 # What is asked, its answer, the times of the longer run, and the goal in microseconds.
 PAIRS = {
     "two weekly rules that meet": ({"a": weekly("2024-01-01T09:00:00", interval=2), "b": weekly("2024-01-08T09:00:00", interval=3)}, "day 19751 second 32400", 20_000, 20),
@@ -41,7 +48,8 @@ PAIRS = {
     "two daily rules that never meet": ({"a": daily("2024-01-01T09:00:00", interval=2), "b": daily("2024-01-02T09:00:00", interval=2)}, "none", 20_000, 50),
     "every 997 and every 991 years": ({"a": yearly("2024-01-01T09:00:00", interval=997), "b": yearly("2025-01-01T09:00:00", interval=991)}, "day 300804957 second 32400", 21, 20_000),
     "January and February": ({"a": daily("2024-01-01T09:00:00", interval=997, byMonth=["1"]), "b": daily("2024-02-01T09:00:00", interval=991, byMonth=["2"])}, "none", 21, 20_000),
-    "four yearly rules each": ({"a": crowded("2024-01-09T09:00:00", 1, 6), "b": crowded("2024-07-09T09:00:00", 7, 12)}, "none", 3, 2_000_000),
+    "four yearly rules each": ({"a": crowded("2024-01-09T09:00:00", 1, 6), "b": crowded("2024-07-09T09:00:00", 7, 12)}, "none", 11, 2_000_000),
+    "four yearly rules each, by places": ({"a": placed("2024-01-09T09:00:00", (5, 10, 15, 20), 6), "b": placed("2024-07-09T09:00:00", (140, 150, 160, 170), 12)}, "none", 2, 2_000_000),
 }
 
 
