@@ -1,5 +1,5 @@
 -- Matching, being kept and the ends of periods move with whole cycles of 146097 days.
-use Rattle.std.proofs.Common.{◌≡◌, ℕ, zero, suc, ◌+◌, Bool, true, false, cond, refl, arith, ℤ, pos, ◌+ℤ◌, ◌-ℤ◌, ◌*ℤ◌, Option, Some, None, List, [], ◌∷◌}
+use Rattle.std.proofs.Common.{◌≡◌, ℕ, zero, suc, ◌+◌, Bool, true, false, cond, refl, arith, ℤ, pos, ◌+ℤ◌, ◌-ℤ◌, ◌*ℤ◌, Option, Some, None, List, [], ◌∷◌, length}
 use Rattle.std.specs.List.{list_any}
 use Rattle.jiff_core.proofs.SignedLemmas.{signed_arith}
 use Rattle.model_series.specs.Periods.{month_first, month_last, year_first, year_last, period_by, period_first, period_last}
@@ -171,6 +171,17 @@ pub is_kept-by : (r : Rule) (n first : ℤ) (before after front back : ℕ) (in_
 unfolding is_kept
 is_kept-by r n first before after front back in_set m f l e a b s =
     rw (m, s, a, b, f, l, count_from-before (day_matches r) (n -ℤ pos before) n before refl, count_from-after (day_matches r) n (n +ℤ pos after) after refl, e)
+
+empty_any : {A : Type 0} (p : A → Bool) (xs : List A) → length xs ≡ 0 → true ≡ empty_or_any p xs
+empty_any p [] e = refl
+empty_any p (x ∷ xs) e = absurd (omega (arith, e))
+
+-- being kept where no place is asked for
+pub is_kept-all : (r : Rule) (n : ℤ) → day_matches r n ≡ true → length r.by_set ≡ 0 → true ≡ is_kept r n
+unfolding is_kept
+is_kept-all r n m e =
+    rw m
+    (empty_any (is_place (count_from (day_matches r) (period_first r.frequency r.week_start n) n) (count_from (day_matches r) n (period_last r.frequency r.week_start n))) r.by_set e)
 
 pub is_kept-not : (r : Rule) (n : ℤ) → day_matches r n ≡ false → false ≡ is_kept r n
 unfolding is_kept

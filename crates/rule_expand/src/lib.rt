@@ -12,6 +12,7 @@ mod months;
 mod occurs;
 mod series;
 mod set;
+mod skip;
 mod walk;
 
 pub use bound::Bound;
@@ -19,4 +20,5 @@ pub use laws::rules_repeat;
 pub use occurs::kept_on;
 pub use series::next_from;
 pub use set::{last_day, occurs_on};
+pub use skip::unkept_days;
 pub use walk::period;

@@ -238,6 +238,10 @@ pub(crate) fn is_kept_day(rule: &Rule, day: i64) -> bool
     if !matches_day(rule, day) {
         return false;
     }
+    // A year's days needn't be counted where no place is asked for.
+    if rule.by_set.items().is_empty() {
+        return true;
+    }
     let period = in_period(rule, day);
     let front = count_matching(rule, back(day, period.before), period.before + 1);
     let end = count_matching(rule, day, period.after + 1);

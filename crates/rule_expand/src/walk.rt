@@ -141,7 +141,7 @@ fn first_day(rule: &Rule, number: i64) -> i64
 }
 
 // The first day of a period that lies after another and is kept.
-fn first_in_period(rule: &Rule, number: i64, after: i64) -> Option<i64>
+pub(crate) fn first_in_period(rule: &Rule, number: i64, after: i64) -> Option<i64>
     requires near { IsNear (most rule.now.frequency) number }
     requires days { IsNear 2199023248000 (first_of rule.now.frequency rule.now.week_start number) }
     requires after { IsNear 2198000000000 after }

@@ -1,0 +1,90 @@
+//! Reads pairs of series of a table, and tells which share another first second than the table has. An argument is the number of times that each
+//! decision is made, for `bench/clashes.py` to time.
+#![tactic(auto)]
+
+mod limits;
+mod series;
+
+use model_json::tree::Tree;
+use residue_clash::{Shared, first_self_shared, first_shared};
+use row_table::line::tree_in;
+use row_table::row::{Row, read_rows};
+use row_table::tally::Tally;
+use std::alloc::{AllocError, Global};
+use std::fmt::Write;
+use std::{env, io};
+
+/// What came of a row, where it isn't what the table has.
+fn other_than(alloc: Global, row: &Row, times: u32) -> Result<Option<String>, AllocError> {
+    let came = match tree_in(alloc, row.asked.as_str())? {
+        Some(asked) => told(alloc, &asked, times)?,
+        None => String::from_str(alloc, "the row can't be read")?,
+    };
+    if came.as_str() == row.answer.as_str() {
+        Ok(None)
+    } else {
+        Ok(Some(came))
+    }
+}
+
+/// What the series at `a` and `b` share first, or that at `a` with itself.
+fn told(alloc: Global, asked: &Tree, times: u32) -> Result<String, AllocError> {
+    let Some(first) = asked.get("a") else {
+        return String::from_str(alloc, "the row asks for nothing");
+    };
+    let Some(a) = series::series_in(alloc, first)? else {
+        return String::from_str(alloc, "a is no series that may be booked");
+    };
+    match asked.get("b") {
+        Some(second) => match series::series_in(alloc, second)? {
+            Some(b) => {
+                let mut found = first_shared(&a, &b);
+                for _ in 1..times {
+                    found = first_shared(&a, &b);
+                }
+                text_of(alloc, found)
+            }
+            None => String::from_str(alloc, "b is no series that may be booked"),
+        },
+        None => {
+            let mut found = first_self_shared(&a);
+            for _ in 1..times {
+                found = first_self_shared(&a);
+            }
+            text_of(alloc, found)
+        }
+    }
+}
+
+/// The day and the second of what was found.
+fn text_of(alloc: Global, found: Option<Shared>) -> Result<String, AllocError> {
+    let mut text = String::new(alloc);
+    match found {
+        Some(at) => write!(&mut text, "day {} second {}", at.day(), at.second())?,
+        None => text.push_str("none")?,
+    }
+    Ok(text)
+}
+
+/// How often each decision is made.
+fn times_in(rt: &HostRuntime) -> io::Result<u32> {
+    for word in env::args(rt)?.skip(1) {
+        if let Ok(times) = word.parse::<u32>() {
+            return Ok(times);
+        }
+    }
+    Ok(1)
+}
+
+fn main(rt: HostRuntime) -> io::Result<()> {
+    let times = times_in(&rt)?;
+    let mut tally = Tally::new();
+    for row in &read_rows(&rt)? {
+        let other = other_than(rt.alloc(), row, times)?;
+        if let Some(other) = &other {
+            row.tell(&rt, other.as_str())?;
+        }
+        tally.count(other.is_none());
+    }
+    println!(rt; "{tally}")
+}

@@ -1,0 +1,204 @@
+-- The occurrences by the outline and the tracks are those of the series.
+use Rattle.std.proofs.Common.{◌≡◌, ◌⊎◌, inl, inr, ℕ, zero, suc, ◌<◌, ℤ, Bool, true, false, List, [], ◌∷◌, slice_get, Option, Some, None, refl, sym, ap, ◌∙◌, arith, subst, eq-eqb}
+use Rattle.std.specs.Prelude.{◌==◌}
+use Rattle.std.specs.List.{list_any}
+use Rattle.std.proofs.lemmas.Option.{same_Some, slice_get_within}
+use Rattle.std.proofs.lemmas.Bool.Decides.{Decides-int_eq}
+use Rattle.jiff_core.proofs.SignedLemmas.{signed_arith}
+use borrow.Author.Tests.{eqb-true}
+use Rattle.model_series.specs.declared.exception.Span.{Span}
+use Rattle.model_series.specs.declared.occurrence.Occurrence.{Occurrence}
+use Rattle.model_series.specs.declared.rule.Rule.{Rule}
+use Rattle.model_series.specs.declared.series.Series.{Series}
+use Rattle.model_time.specs.Walls.{day_of_wall, second_of_wall, wall_at}
+use Rattle.model_series.specs.Periods.{is_in_phase}
+use Rattle.model_series.specs.RuleSets.{is_kept, is_in_set}
+use Rattle.model_series.specs.Occurrences.{is_day, IsOccurrence, Covers}
+use Rattle.model_series.specs.Shared.{IsShared, IsSelfShared}
+use Rattle.rule_expand.specs.Least.{IsLeastOf}
+use Rattle.rule_expand.proofs.Least.{same-least}
+use Rattle.rule_expand.proofs.Places.{and_both, false_true}
+use Rattle.rule_expand.proofs.Sets.{both_and, or_cases, or_left, or_right}
+use Rattle.residue_clash.specs.declared.outline.Outline.{Outline}
+use Rattle.residue_clash.specs.declared.rule_track.RuleTrack.{RuleTrack}
+use Rattle.residue_clash.specs.Tracks.{IsGiven, Gives}
+use Rattle.residue_clash.specs.Covers.{IsDay, IsOccurrenceAt, Blocks}
+use Rattle.residue_clash.specs.Parts.{IsSharedAs}
+use Rattle.residue_clash.specs.RuleTracks.{IsTrackOf, IsSlotOf, AreTracks}
+
+any_at : {A : Type 0} (p : A → Bool) (xs : List A) → list_any p xs ≡ true → (k : ℕ) × ((x : A) × ((slice_get xs k ≡ Some x) × (p x ≡ true)))
+any_at p [] h = absurd (false_true h)
+any_at p (x ∷ xs) h = elim (or_cases (p x) (list_any p xs) h) [
+  | inl here ↦ (0, (x, (refl, here)))
+  | inr later ↦ let m = any_at p xs later in (suc m.0, (m.1.0, (m.1.1.0, m.1.1.1)))
+]
+
+any_of : {A : Type 0} (p : A → Bool) (xs : List A) (k : ℕ) (x : A) → slice_get xs k ≡ Some x → p x ≡ true → list_any p xs ≡ true
+any_of p [] k x e h = cc
+any_of p (y ∷ ys) zero x e h = or_left (p y) (list_any p ys) (rw (same_Some y x e) h)
+any_of p (y ∷ ys) (suc k) x e h = or_right (p y) (list_any p ys) (any_of p ys k x e h)
+
+-- the track in the slot of a rule
+slot_of : (s : Series) (k : ℕ) (r : Rule) (o : Option RuleTrack) → slice_get s.rules k ≡ Some r → IsSlotOf s k o → (t : RuleTrack) × ((o ≡ Some t) × IsTrackOf r s.start t)
+slot_of s k r None e h = absurd (cc (e, h))
+slot_of s k r (Some t) e h = let same : h.0 ≡ r = cc (e, h.1.0) in (t, (refl, subst (λ (q : Rule). IsTrackOf q s.start t) same h.1.1))
+
+-- and the rule of the track in a slot
+rule_of : (s : Series) (k : ℕ) (t : RuleTrack) (o : Option RuleTrack) → o ≡ Some t → IsSlotOf s k o → (r : Rule) × ((slice_get s.rules k ≡ Some r) × IsTrackOf r s.start t)
+rule_of s k t None e h = absurd (cc e)
+rule_of s k t (Some u) e h = let same : u ≡ t = same_Some u t e in (h.0, (h.1.0, subst (λ (v : RuleTrack). IsTrackOf h.0 s.start v) same h.1.1))
+
+-- slots are four, as rules are at most
+track_at : (s : Series) (ts : List (Option RuleTrack)) → AreTracks s ts → (k : ℕ) (r : Rule) → k < 4 → slice_get s.rules k ≡ Some r → (t : RuleTrack) × ((slice_get ts k ≡ Some (Some t)) × IsTrackOf r s.start t)
+track_at s (t0 ∷ t1 ∷ t2 ∷ t3 ∷ []) h zero r lt e = let g = slot_of s 0 r t0 e h.0 in (g.0, (ap Some g.1.0, g.1.1))
+track_at s (t0 ∷ t1 ∷ t2 ∷ t3 ∷ []) h (suc zero) r lt e = let g = slot_of s 1 r t1 e h.1.0 in (g.0, (ap Some g.1.0, g.1.1))
+track_at s (t0 ∷ t1 ∷ t2 ∷ t3 ∷ []) h (suc (suc zero)) r lt e = let g = slot_of s 2 r t2 e h.1.1.0 in (g.0, (ap Some g.1.0, g.1.1))
+track_at s (t0 ∷ t1 ∷ t2 ∷ t3 ∷ []) h (suc (suc (suc zero))) r lt e = let g = slot_of s 3 r t3 e h.1.1.1 in (g.0, (ap Some g.1.0, g.1.1))
+track_at s (t0 ∷ t1 ∷ t2 ∷ t3 ∷ []) h (suc (suc (suc (suc k)))) r lt e = absurd (omega (arith, lt))
+track_at s [] h k r lt e = absurd h
+track_at s (t0 ∷ []) h k r lt e = absurd h
+track_at s (t0 ∷ t1 ∷ []) h k r lt e = absurd h
+track_at s (t0 ∷ t1 ∷ t2 ∷ []) h k r lt e = absurd h
+track_at s (t0 ∷ t1 ∷ t2 ∷ t3 ∷ t4 ∷ ts) h k r lt e = absurd h
+
+rule_at : (s : Series) (ts : List (Option RuleTrack)) → AreTracks s ts → (k : ℕ) (t : RuleTrack) → slice_get ts k ≡ Some (Some t) → (j : ℕ) × ((r : Rule) × ((slice_get s.rules j ≡ Some r) × IsTrackOf r s.start t))
+rule_at s (t0 ∷ t1 ∷ t2 ∷ t3 ∷ []) h zero t e = (0, rule_of s 0 t t0 (same_Some t0 (Some t) e) h.0)
+rule_at s (t0 ∷ t1 ∷ t2 ∷ t3 ∷ []) h (suc zero) t e = (1, rule_of s 1 t t1 (same_Some t1 (Some t) e) h.1.0)
+rule_at s (t0 ∷ t1 ∷ t2 ∷ t3 ∷ []) h (suc (suc zero)) t e = (2, rule_of s 2 t t2 (same_Some t2 (Some t) e) h.1.1.0)
+rule_at s (t0 ∷ t1 ∷ t2 ∷ t3 ∷ []) h (suc (suc (suc zero))) t e = (3, rule_of s 3 t t3 (same_Some t3 (Some t) e) h.1.1.1)
+rule_at s (t0 ∷ t1 ∷ t2 ∷ t3 ∷ []) h (suc (suc (suc (suc k)))) t e = absurd (cc e)
+rule_at s [] h k t e = absurd h
+rule_at s (t0 ∷ []) h k t e = absurd h
+rule_at s (t0 ∷ t1 ∷ []) h k t e = absurd h
+rule_at s (t0 ∷ t1 ∷ t2 ∷ []) h k t e = absurd h
+rule_at s (t0 ∷ t1 ∷ t2 ∷ t3 ∷ t4 ∷ ts) h k t e = absurd h
+
+-- the outline is that of the series
+pub record IsOutlineOf (s : Series) (a : Outline) : Type 0 where
+  pub first : a.first ≡ day_of_wall s.start
+  pub time : a.time ≡ second_of_wall s.start
+  pub length : a.length ≡ s.length
+  pub occupying : a.occupying ≡ s.occupying
+  pub exceptions : a.exceptions.now ≡ s.exceptions
+
+-- the days that the track of a rule gives
+abbrev pub TrackGives : RuleTrack → ℤ → ℤ → Type 0
+TrackGives = Gives (λ t n. is_kept t.rule.now n) (λ t n. is_in_phase t.rule.now t.first n) (λ t. t.last)
+
+-- a day of the set of some rule, or the start's
+in_day : (rs : List Rule) (start n : ℤ) (k : ℕ) (r : Rule) → slice_get rs k ≡ Some r → is_in_set r start n ≡ true → is_day rs start n ≡ true
+in_day [] start n k r e h = absurd (cc e)
+in_day (x ∷ xs) start n k r e h = any_of (λ rule. is_in_set rule start n) (x ∷ xs) k r e h
+
+start_day : (rs : List Rule) (start : ℤ) → ((r : Rule) → slice_get rs 0 ≡ Some r → is_in_set r start (day_of_wall start) ≡ true) → is_day rs start (day_of_wall start) ≡ true
+start_day [] start h = (Decides-int_eq (day_of_wall start) (day_of_wall start)).1 refl
+start_day (x ∷ xs) start h = any_of (λ rule. is_in_set rule start (day_of_wall start)) (x ∷ xs) 0 x refl (h x refl)
+
+day_cases : (rs : List Rule) (start n : ℤ) → is_day rs start n ≡ true → (n ≡ day_of_wall start) ⊎ ((k : ℕ) × ((r : Rule) × ((slice_get rs k ≡ Some r) × (is_in_set r start n ≡ true))))
+day_cases [] start n h = inl ((Decides-int_eq n (day_of_wall start)).0 h)
+day_cases (x ∷ xs) start n h = inr (any_at (λ rule. is_in_set rule start n) (x ∷ xs) h)
+
+given_by : (t : RuleTrack) (r : Rule) (first d n : ℤ) → t.rule.now ≡ r → t.first ≡ d → first ≡ d → TrackGives t first n → IsGiven (is_kept r) (is_in_phase r d) t.last d n
+given_by t r first d n er et ef g = record {
+  later = rw (← ef) g.later;
+  up_to = g.up_to;
+  kept = rw (← er) g.kept;
+  in_phase = rw (← er, ← et) g.in_phase;
+}
+
+by_given : (t : RuleTrack) (r : Rule) (first d n : ℤ) → t.rule.now ≡ r → t.first ≡ d → first ≡ d → IsGiven (is_kept r) (is_in_phase r d) t.last d n → TrackGives t first n
+by_given t r first d n er et ef g = record {
+  later = rw ef g.later;
+  up_to = g.up_to;
+  kept = rw er g.kept;
+  in_phase = rw (er, et) g.in_phase;
+}
+
+parts_at : (w n : ℤ) (t : ℕ) → t < 86400 → w ≡ wall_at n t → (second_of_wall w ≡ t) × (day_of_wall w ≡ n)
+parts_at w n t small e = (omega (arith, signed_arith, small, e), omega (arith, signed_arith, small, e))
+
+whole_is : (w : ℤ) (t : ℕ) → second_of_wall w ≡ t → w ≡ wall_at (day_of_wall w) t
+whole_is w t e = omega (arith, signed_arith)
+
+abbrev pub span_of : Occurrence → Span
+span_of o = record { start = o.start; length = o.length; occupying = o.occupying }
+
+abbrev pub at_rid : ℤ → Span → Occurrence
+at_rid rid t = record { rid = rid; start = t.start; length = t.length; occupying = t.occupying }
+
+module _ (s : Series) (a : Outline) (ts : List (Option RuleTrack)) (is : IsOutlineOf s a) (tracks : AreTracks s ts) where
+  days_to : (n : ℤ) → IsDay TrackGives a ts n → is_day s.rules s.start n ≡ true
+  days_to n (inl e) =
+      let same : n ≡ day_of_wall s.start = e ∙ is.first in
+      rw same (start_day s.rules s.start (λ r at. (track_at s ts tracks 0 r (omega arith) at).1.1.start_in))
+  days_to n (inr g) =
+      let t = g.1 in
+      let m = rule_at s ts tracks g.0 t g.2 in
+      let r = m.1.0 in
+      let of = m.1.1.1 in
+      in_day s.rules s.start n m.0 r m.1.1.0 (of.from n (given_by t r a.first (day_of_wall s.start) n of.rule of.first is.first g.3))
+
+  days_from : (n : ℤ) → is_day s.rules s.start n ≡ true → IsDay TrackGives a ts n
+  days_from n h =
+      elim (day_cases s.rules s.start n h) [
+        | inl same ↦ inl (same ∙ sym is.first)
+        | inr m ↦
+            let k = m.0 in
+            let r = m.1.0 in
+            let few = s.few_rules in
+            let within = slice_get_within s.rules k r m.1.1.0 in
+            let t = track_at s ts tracks k r (omega (arith, few, within)) m.1.1.0 in
+            elim (t.1.1.to n m.1.1.1) [
+              | inl same ↦ inl (same ∙ sym is.first)
+              | inr given ↦ inr (k, t.0, t.1.0, by_given t.0 r a.first (day_of_wall s.start) n t.1.1.rule t.1.1.first is.first given)
+            ]
+      ]
+
+  pub occurrence_to : (rid : ℤ) (t : Span) → IsOccurrenceAt TrackGives a ts rid t → IsOccurrence s (at_rid rid t)
+  occurrence_to rid t (inl o) =
+      let n = o.0 in
+      let same = o.4 in
+      let second : rid ≡ wall_at n (second_of_wall s.start) = o.2 ∙ ap (λ k. wall_at n k) is.time in
+      let at = parts_at rid n (second_of_wall s.start) (omega (arith, a.time_in, is.time)) second in
+      inl (record {
+        rid = both_and (second_of_wall rid == second_of_wall s.start) _ (eq-eqb (second_of_wall rid) (second_of_wall s.start) at.0) (rw at.1 (days_to n o.1));
+        free = rw (← is.exceptions) o.3;
+        start = ap (λ (v : Span). v.start) same;
+        length = ap (λ (v : Span). v.length) same ∙ is.length;
+        occupying = ap (λ (v : Span). v.occupying) same ∙ is.occupying;
+      })
+  occurrence_to rid t (inr o) = inr (o.0, (record { rid = rid; replaced = Some t }, (rw (← is.exceptions) o.1, refl)))
+
+  pub occurrence_from : (o : Occurrence) → IsOccurrence s o → IsOccurrenceAt TrackGives a ts o.rid (span_of o)
+  occurrence_from o (inl h) =
+      let n = day_of_wall o.rid in
+      let p = and_both (second_of_wall o.rid == second_of_wall s.start) (is_day s.rules s.start n) h.rid in
+      let second = eqb-true (second_of_wall o.rid) (second_of_wall s.start) p.0 in
+      inl (
+        n,
+        days_from n p.1,
+        whole_is o.rid (second_of_wall s.start) second ∙ ap (λ k. wall_at n k) (sym is.time),
+        rw is.exceptions h.free,
+        rw (h.start, h.length, h.occupying, is.length, is.occupying) refl,
+      )
+  occurrence_from o (inr e) = inr (e.0, rw is.exceptions (e.1.1.0 ∙ ap Some e.1.1.1))
+
+covers_to : (t : Span) (rid x : ℤ) → Blocks t x → Covers (at_rid rid t) x
+covers_to t rid x b = record { occupying = b.0; begun = b.1.0; not_over = b.1.1 }
+
+to_covers : (o : Occurrence) (x : ℤ) → Covers o x → Blocks (span_of o) x
+to_covers o x c = (c.occupying, (c.begun, c.not_over))
+
+pub two-least : (s : Series) (a : Outline) (ra : List (Option RuleTrack)) (u : Series) (b : Outline) (rb : List (Option RuleTrack)) → IsOutlineOf s a → AreTracks s ra → IsOutlineOf u b → AreTracks u rb → (o : Option ℤ) →
+    IsLeastOf (IsSharedAs false TrackGives TrackGives a ra b rb) o → IsLeastOf (IsShared s u) o
+two-least s a ra u b rb ia ta ib tb o h =
+    same-least (IsSharedAs false TrackGives TrackGives a ra b rb) (IsShared s u) o
+    (λ x (i, v, j, t, p, q, apart, bs, bt). (at_rid i v, at_rid j t, occurrence_to s a ra ia ta i v p, occurrence_to u b rb ib tb j t q, covers_to v i x bs, covers_to t j x bt))
+    (λ x (p, q, hp, hq, cp, cq). (p.rid, span_of p, q.rid, span_of q, occurrence_from s a ra ia ta p hp, occurrence_from u b rb ib tb q hq, tt, to_covers p x cp, to_covers q x cq)) h
+
+pub self-least : (s : Series) (a : Outline) (ra : List (Option RuleTrack)) → IsOutlineOf s a → AreTracks s ra → (o : Option ℤ) →
+    IsLeastOf (IsSharedAs true TrackGives TrackGives a ra a ra) o → IsLeastOf (IsSelfShared s) o
+self-least s a ra ia ta o h =
+    same-least (IsSharedAs true TrackGives TrackGives a ra a ra) (IsSelfShared s) o
+    (λ x (i, v, j, t, p, q, apart, bs, bt). (at_rid i v, at_rid j t, occurrence_to s a ra ia ta i v p, occurrence_to s a ra ia ta j t q, apart, covers_to v i x bs, covers_to t j x bt))
+    (λ x (p, q, hp, hq, apart, cp, cq). (p.rid, span_of p, q.rid, span_of q, occurrence_from s a ra ia ta p hp, occurrence_from s a ra ia ta q hq, apart, to_covers p x cp, to_covers q x cq)) h

@@ -1,0 +1,122 @@
+-- What a rule keeps comes again.
+use Rattle.std.proofs.Common.{◌≡◌, inl, inr, ℕ, zero, suc, ◌==◌, ℤ, pos, ◌+ℤ◌, ◌-ℤ◌, Bool, true, ◌&&◌, List, [], ◌∷◌, Option, Some, None, nat_lt, refl, ap, ◌∙◌, arith}
+use Rattle.std.specs.List.{list_any, list_all}
+use Rattle.jiff_core.proofs.SignedLemmas.{signed_arith}
+use borrow.Author.Tests.{eqb-true}
+use Rattle.model_time.specs.CivilDay.{cycles_later, weekday_of}
+use Rattle.model_series.specs.declared.by_part.Freq.{Freq}
+use Rattle.model_series.specs.declared.by_part.Freq.TheVariants.{Daily, Weekly, Monthly, Yearly}
+use Rattle.model_series.specs.declared.by_part.NDay.{NDay}
+use Rattle.model_series.specs.declared.rule.Rule.{Rule}
+use Rattle.model_series.specs.Periods.{period_first, period_last}
+use Rattle.model_series.specs.Places.{count_days, count_from, at_least_zero, empty_or_any}
+use Rattle.model_series.specs.RuleLimits.{is_nday, is_nth}
+use Rattle.model_series.specs.RuleSets.{nth_matches, nday_matches, month_day_matches, month_matches, counts_in_month, day_matches, is_kept}
+use Rattle.rule_expand.proofs.Cycle.{is_kept-cycle}
+use Rattle.rule_expand.proofs.Places.{and_both, false_true}
+use Rattle.rule_expand.proofs.Sets.{or_cases}
+use Rattle.residue_clash.specs.Repeats.{is_empty, is_up_to_a_week, is_of_weekdays, repeats_after}
+
+-- the day a week later
+abbrev pub week_later : ℤ → ℤ
+week_later n = n +ℤ pos 7
+
+weekday-week : (n : ℤ) → weekday_of (week_later n) ≡ weekday_of n
+unfolding weekday_of
+weekday-week n = omega (arith, signed_arith)
+
+first-week : (f : Freq) (w : ℕ) (n : ℤ) → is_up_to_a_week f ≡ true → period_first f w (week_later n) ≡ week_later (period_first f w n)
+unfolding period_first
+first-week Daily w n h = refl
+first-week Weekly w n h = omega (arith, signed_arith)
+first-week Monthly w n h = absurd (false_true h)
+first-week Yearly w n h = absurd (false_true h)
+
+last-week : (f : Freq) (w : ℕ) (n : ℤ) → is_up_to_a_week f ≡ true → period_last f w (week_later n) ≡ week_later (period_last f w n)
+unfolding period_last
+last-week Daily w n h = refl
+last-week Weekly w n h = omega (arith, signed_arith)
+last-week Monthly w n h = absurd (false_true h)
+last-week Yearly w n h = absurd (false_true h)
+
+count_days-week : (p : ℤ → Bool) → ((n : ℤ) → p (week_later n) ≡ p n) → (first : ℤ) (k : ℕ) → count_days p (week_later first) k ≡ count_days p first k
+unfolding count_days
+count_days-week p h first zero = refl
+count_days-week p h first (suc k) =
+    let e : week_later first +ℤ pos k ≡ week_later (first +ℤ pos k) = omega (arith, signed_arith) in
+    rw (count_days-week p h first k, e, h (first +ℤ pos k))
+
+count_from-week : (p : ℤ → Bool) → ((n : ℤ) → p (week_later n) ≡ p n) → (first last : ℤ) → count_from p (week_later first) (week_later last) ≡ count_from p first last
+count_from-week p h first last =
+    let e : week_later last -ℤ week_later first +ℤ pos 1 ≡ last -ℤ first +ℤ pos 1 = omega (arith, signed_arith) in
+    rw e (count_days-week p h first (at_least_zero (last -ℤ first +ℤ pos 1)))
+
+no_nth : (f : Freq) (k : Option ℤ) → is_up_to_a_week f ≡ true → is_nth f k ≡ true → k ≡ None
+no_nth f None h g = refl
+no_nth Daily (Some k) h g = absurd (false_true g)
+no_nth Weekly (Some k) h g = absurd (false_true g)
+no_nth Monthly (Some k) h g = absurd (false_true h)
+no_nth Yearly (Some k) h g = absurd (false_true h)
+
+nth-none : (b : Bool) (n m : ℤ) (d : ℕ) (k : Option ℤ) → k ≡ None → nth_matches b m d k ≡ nth_matches b n d k
+unfolding nth_matches
+nth-none b n m d None e = refl
+nth-none b n m d (Some k) e = absurd (cc e)
+
+nday-week : (f : Freq) (b : Bool) (n : ℤ) (d : NDay) → is_up_to_a_week f ≡ true → is_nday f d ≡ true → nday_matches b (week_later n) d ≡ nday_matches b n d
+unfolding nday_matches
+nday-week f b n d h g =
+    let none = no_nth f d.nth h (and_both (nat_lt d.day 7) (is_nth f d.nth) g).1 in
+    rw (weekday-week n, nth-none b n (week_later n) d.day d.nth none)
+
+any-same : {A : Type 0} (t p r : A → Bool) → ((x : A) → t x ≡ true → p x ≡ r x) → (xs : List A) → list_all t xs ≡ true → list_any p xs ≡ list_any r xs
+any-same t p r h [] all = refl
+any-same t p r h (x ∷ xs) all = let a = and_both (t x) (list_all t xs) all in rw (h x a.0, any-same t p r h xs a.1)
+
+empty-same : {A : Type 0} (t p r : A → Bool) → ((x : A) → t x ≡ true → p x ≡ r x) → (xs : List A) → list_all t xs ≡ true → empty_or_any p xs ≡ empty_or_any r xs
+empty-same t p r h [] all = refl
+empty-same t p r h (x ∷ xs) all = any-same t p r h (x ∷ xs) all
+
+empty-any : (p : ℤ → Bool) (xs : List ℤ) → is_empty xs ≡ true → empty_or_any p xs ≡ true
+empty-any p [] h = refl
+empty-any p (x ∷ xs) h = absurd (false_true h)
+
+matches-week : (r : Rule) → is_of_weekdays r ≡ true → (n : ℤ) → day_matches r (week_later n) ≡ day_matches r n
+unfolding day_matches
+matches-week r h n =
+    let p = and_both (is_up_to_a_week r.frequency) (is_empty r.by_month_day && is_empty r.by_month) h in
+    let q = and_both (is_empty r.by_month_day) (is_empty r.by_month) p.1 in
+    let limits = and_both (list_all (is_nday r.frequency) r.by_day) _ r.by_parts_in in
+    let b = counts_in_month r.frequency r.by_month in
+    rw (
+      empty-same (is_nday r.frequency) (nday_matches b (week_later n)) (nday_matches b n) (λ d g. nday-week r.frequency b n d p.0 g) r.by_day limits.0,
+      empty-any (month_day_matches (week_later n)) r.by_month_day q.0,
+      empty-any (month_matches (week_later n)) r.by_month q.1,
+      empty-any (month_day_matches n) r.by_month_day q.0,
+      empty-any (month_matches n) r.by_month q.1,
+    ) refl
+
+kept-week : (r : Rule) → is_of_weekdays r ≡ true → (n : ℤ) → is_kept r (week_later n) ≡ is_kept r n
+unfolding is_kept
+kept-week r h n =
+    let p = and_both (is_up_to_a_week r.frequency) (is_empty r.by_month_day && is_empty r.by_month) h in
+    rw (
+      matches-week r h n,
+      first-week r.frequency r.week_start n p.0,
+      last-week r.frequency r.week_start n p.0,
+      count_from-week (day_matches r) (matches-week r h) (period_first r.frequency r.week_start n) n,
+      count_from-week (day_matches r) (matches-week r h) n (period_last r.frequency r.week_start n),
+    ) refl
+
+pub kept_again : (r : Rule) (c : ℕ) → repeats_after r c ≡ true → (n : ℤ) → is_kept r (n +ℤ pos c) ≡ is_kept r n
+kept_again r c h n =
+    elim (or_cases (c == 146097) ((c == 7) && is_of_weekdays r) h) [
+      | inl whole ↦
+          let is : c ≡ 146097 = eqb-true c 146097 whole in
+          let e : n +ℤ pos c ≡ cycles_later n (pos 1) = omega (arith, signed_arith, is) in
+          ap (is_kept r) e ∙ is_kept-cycle r n (pos 1)
+      | inr week ↦
+          let p = and_both (c == 7) (is_of_weekdays r) week in
+          let is : c ≡ 7 = eqb-true c 7 p.0 in
+          ap (λ x. is_kept r (n +ℤ pos x)) is ∙ kept-week r p.1 n
+    ]

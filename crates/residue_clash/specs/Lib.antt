@@ -1,0 +1,10 @@
+-- The definitions that the contracts cite.
+pub mod Tracks
+pub mod Meetings
+pub mod Covers
+pub mod Parts
+pub mod Hidden
+pub mod Late
+pub mod Repeats
+pub mod Again
+pub mod RuleTracks

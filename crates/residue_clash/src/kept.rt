@@ -1,0 +1,54 @@
+//! Whether a rule keeps a day, looked at by its month and its weekday first.
+ghost use Rattle.std.specs.Prelude.{◌≡◌, ◌<◌, ◌^◌, ◌==◌, pos, unsigned_abs};
+ghost use Rattle.std.specs.List.{list_any};
+ghost use Rattle.std.specs.Ordering.{int_eq};
+ghost use Rattle.model_series.specs.Places.{empty_or_any};
+ghost use Rattle.model_series.specs.RuleSets.{is_kept};
+
+use civil_days::{civil, weekday};
+use model_series::by_part::NDay;
+use model_series::rule::Rule;
+use rule_expand::kept_on;
+
+// Whether an item is the month.
+fn names_month(months: &[i32], month: u8) -> bool
+    ensures { result ≡ list_any (λ k. int_eq k (pos month)) months.now }
+{
+    months.iter().any(|k| *k == month as i32)
+}
+
+// Whether an item of a part that isn't empty is the month.
+fn is_in_months(months: &[i32], month: u8) -> bool
+    ensures { result ≡ empty_or_any (λ k. int_eq k (pos month)) months.now }
+{
+    months.is_empty() || names_month(months, month)
+}
+
+// Whether an item has the weekday.
+fn names_weekday(days: &[NDay], weekday: u8) -> bool
+    ensures { result ≡ list_any (λ d. weekday == d.day) days.now }
+{
+    days.iter().any(|d| weekday == d.day)
+}
+
+// The same of a part that may be empty.
+fn is_in_weekdays(days: &[NDay], weekday: u8) -> bool
+    ensures { result ≡ empty_or_any (λ d. weekday == d.day) days.now }
+{
+    days.is_empty() || names_weekday(days, weekday)
+}
+
+/// Whether the rule keeps the day, whatever its phase.
+pub(crate) fn is_kept_on(rule: &Rule, day: i64) -> bool
+    requires { unsigned_abs day < 2 ^ 38 }
+    ensures { result ≡ is_kept rule.now day }
+{
+    // Most days fall to these two, which are cheap.
+    if !is_in_weekdays(rule.by_day.items(), weekday(day)) {
+        return false;
+    }
+    if !is_in_months(rule.by_month.items(), civil(day).month) {
+        return false;
+    }
+    kept_on(rule, day)
+}
