@@ -92,7 +92,39 @@ fn told_of_rules(
         rules,
         exceptions: Exceptions::new(Vec::new(alloc)),
     };
-    first_occurrences(alloc, &series)
+    match asked.get("times") {
+        Some(Tree::Whole(times)) => asked_again(alloc, &series, asked, times.get()),
+        _ => first_occurrences(alloc, &series),
+    }
+}
+
+// How many of so many questions for the next occurrence had an answer, from a wall second on and behind the year 9999 from there again.
+//
+// It is there to measure how long a question takes.
+fn asked_again(
+    alloc: Global,
+    series: &Series,
+    asked: &Tree,
+    times: i128,
+) -> Result<String, AllocError> {
+    let from = wall_at(asked, "from").unwrap_or(series.start);
+    let mut here = from;
+    let mut answers: u64 = 0;
+    for _ in 0..times.unsigned_abs() {
+        if !is_in_years(here) {
+            here = from;
+        }
+        if here.seconds().unsigned_abs() >= FAR {
+            break;
+        }
+        if let Some(next) = next_from(series, here, Some(here)) {
+            here = next.start;
+            answers = answers.saturating_add(1);
+        }
+    }
+    let mut text = String::new(alloc);
+    write!(&mut text, "{answers}")?;
+    Ok(text)
 }
 
 // The starts of the first occurrences, one after another.

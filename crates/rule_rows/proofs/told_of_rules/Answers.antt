@@ -1,5 +1,5 @@
 -- Why a series without exceptions keeps its limits.
-use Rattle.std.proofs.Common.{◌≡◌, ◌∙◌, [], refl, arith}
+use Rattle.std.proofs.Common.{◌∙◌, refl, arith}
 use Rattle.model_series.specs.SeriesLimits.{are_distinct}
 use Rattle.rule_rows.proofs.told_of_rules.Goals as goal
 

@@ -1,0 +1,66 @@
+#!/usr/bin/env python3
+"""Measures how long `next_from` and `last_day` take, and the same expansions by python3-dateutil.
+
+Build the program first, by `rt run < stdin` in crates/rule_rows. Times are of the processor, the best of three.
+"""
+import datetime
+import json
+import os
+import resource
+import subprocess
+import time
+
+from dateutil import rrule
+
+PROGRAM = os.path.join(os.path.dirname(__file__), "..", "crates", "rule_rows", "out", "rule_rows")
+WEEK = [{"day": day} for day in ("mo", "tu", "we", "th", "fr")]
+RULES = {
+    "daily": ({"frequency": "daily"}, {"freq": rrule.DAILY}),
+    "weekly, one day": ({"frequency": "weekly"}, {"freq": rrule.WEEKLY}),
+    "weekly, five days": ({"frequency": "weekly", "byDay": WEEK}, {"freq": rrule.WEEKLY, "byweekday": range(5)}),
+    "monthly, 15th": ({"frequency": "monthly", "byMonthDay": [15]}, {"freq": rrule.MONTHLY, "bymonthday": 15}),
+    "monthly, 2nd Monday": (
+        {"frequency": "monthly", "byDay": [{"day": "mo", "nthOfPeriod": 2}]},
+        {"freq": rrule.MONTHLY, "byweekday": rrule.MO(2)},
+    ),
+    "yearly": ({"frequency": "yearly"}, {"freq": rrule.YEARLY}),
+}
+NEVER = {"byMonth": ["2"], "byMonthDay": [30]}
+
+
+def spent(rows):
+    """Seconds of the processor that the program takes for these rows."""
+    text = "".join(json.dumps(row) + "\nx\n" for row in rows)
+    times = []
+    for _ in range(3):
+        before = resource.getrusage(resource.RUSAGE_CHILDREN).ru_utime
+        subprocess.run([PROGRAM], input=text.encode(), stdout=subprocess.DEVNULL, check=True)
+        times.append(resource.getrusage(resource.RUSAGE_CHILDREN).ru_utime - before)
+    return min(times)
+
+
+def each(rule, year, times):
+    row = {"start": "2024-01-15T09:00:00", "from": "%d-01-15T09:00:00" % year, "rules": [rule]}
+    return (spent([dict(row, times=times)]) - spent([dict(row, times=0)])) / times
+
+
+def by_dateutil(words, times):
+    days = iter(rrule.rrule(dtstart=datetime.datetime(2024, 1, 15, 9), **words))
+    before = time.process_time()
+    for _ in range(times):
+        next(days)
+    return (time.process_time() - before) / times
+
+
+def main():
+    for name, (rule, words) in RULES.items():
+        here = ["%.0f ns" % (each(rule, year, 100_000) * 1e9) for year in (2024, 2500, 9000)]
+        print(f"{name}: from 2024, 2500, 9000 {', '.join(here)}; dateutil {by_dateutil(words, 2000) * 1e9:.0f} ns")
+    for frequency in ("daily", "weekly", "monthly", "yearly"):
+        print(f"{frequency}, never again: {each(dict(NEVER, frequency=frequency), 2024, 20) * 1e3:.2f} ms")
+    for name, (rule, _) in RULES.items():
+        row = {"start": "2024-01-15T09:00:00", "last": True, "rules": [dict(rule, count=1000)]}
+        print(f"{name}, last day of 1000: {(spent([row] * 200) - spent([row] * 0)) / 200 * 1e3:.3f} ms")
+
+
+main()
