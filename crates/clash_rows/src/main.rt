@@ -9,7 +9,7 @@ use model_json::tree::Tree;
 use residue_clash::{Shared, first_self_shared, first_shared};
 use row_table::line::tree_in;
 use row_table::row::{Row, read_rows};
-use row_table::tally::Tally;
+use row_table::tally::RowTally;
 use std::alloc::{AllocError, Global};
 use std::fmt::Write;
 use std::{env, io};
@@ -78,7 +78,7 @@ fn times_in(rt: &HostRuntime) -> io::Result<u32> {
 
 fn main(rt: HostRuntime) -> io::Result<()> {
     let times = times_in(&rt)?;
-    let mut tally = Tally::new();
+    let mut tally = RowTally::new();
     for row in &read_rows(&rt)? {
         let other = other_than(rt.alloc(), row, times)?;
         if let Some(other) = &other {
