@@ -82,7 +82,19 @@ fn told_of_rules(
     if let Some(Tree::Whole(day)) = asked.get("day") {
         return on_day(alloc, start, &rules, day.get());
     }
-    let series = Series {
+    let series = hourly(alloc, start, rules);
+    match asked.get("times") {
+        Some(Tree::Whole(times)) => asked_again(alloc, &series, asked, times.get()),
+        _ => first_occurrences(alloc, &series),
+    }
+}
+
+// A series of hours from a start, without exceptions.
+fn hourly(alloc: Global, start: Wall, rules: Rules) -> Series
+    requires years { is_in_years start ≡ true }
+    requires few { length rules ≤ 4 }
+{
+    Series {
         start,
         length: Length {
             days: 0,
@@ -91,10 +103,6 @@ fn told_of_rules(
         occupying: true,
         rules,
         exceptions: Exceptions::new(Vec::new(alloc)),
-    };
-    match asked.get("times") {
-        Some(Tree::Whole(times)) => asked_again(alloc, &series, asked, times.get()),
-        _ => first_occurrences(alloc, &series),
     }
 }
 

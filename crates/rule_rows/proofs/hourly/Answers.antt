@@ -1,11 +1,11 @@
 -- Why a series without exceptions keeps its limits.
 use Rattle.std.proofs.Common.{◌∙◌, refl, arith}
 use Rattle.model_series.specs.SeriesLimits.{are_distinct}
-use Rattle.rule_rows.proofs.told_of_rules.Goals as goal
+use Rattle.rule_rows.proofs.hourly.Goals as goal
 
-pub invariant_of-series : goal.invariant_of-series
+pub invariant_of-result : goal.invariant_of-result
 unfolding are_distinct
-invariant_of-series c =
+invariant_of-result c =
     let none = c.new-2.ensures ∙ c.new.ensures.items in
     record {
       start_in = c.requires.years;
