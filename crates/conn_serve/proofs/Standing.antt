@@ -12,7 +12,7 @@ use Rattle.model_batch.specs.Chain.{Shown}
 use Rattle.model_http.specs.Messages.{Message, whole, BeginsWith, IsUndecided}
 use Rattle.model_http.specs.Pipeline.{AllOpen, Reads, bad_head, undecided}
 use Rattle.model_http.specs.declared.limits.TheConstants.{PIECE}
-use Rattle.model_connection.specs.Serving.{AskedLast, EndHow, IsUnanswered, Rests, Serves, Setting, Whole, refusal_cut, refusal_text, response_cut}
+use Rattle.model_connection.specs.Serving.{AskedLast, EndHow, IsUnanswered, Rests, Serves, Setting, Whole, end_for, refusal_cut, refusal_text, response_cut}
 use Rattle.model_connection.specs.Exchanges.{AllFit, Begun, Fits, Told, Exchange, all_bytes, closes, messages_of}
 use Rattle.io_edge.specs.Outside.{Grows, GrowsByPrefix, Rose, SinkShown, SourceShown}
 use Rattle.model_site.specs.Configuration.{Site}
@@ -24,7 +24,7 @@ use Rattle.model_connection.specs.declared.served.ConnEnd.TheVariants as end
 use Rattle.model_connection.specs.declared.served.Served.{Served}
 use Rattle.conn_serve.proofs.Exchanging.{fit_more, told_join, told_none}
 use Rattle.conn_serve.specs.Answering.{AnswerHow, AnswersMessage}
-use Rattle.conn_serve.specs.Ending.{IsRefusalEnd, RefusalHow, end_for}
+use Rattle.conn_serve.specs.Ending.{IsRefusalEnd, RefusalHow}
 use Rattle.http_edge.proofs.Pipelines.{open_snoc, reads_more, reads_snoc}
 use Rattle.http_edge.specs.Reading.{AskedWhile, GivesNext, message_shown}
 use Rattle.http_edge.specs.declared.message.Message.{Message as Taken}

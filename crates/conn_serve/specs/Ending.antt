@@ -2,14 +2,8 @@
 use Rattle.std.specs.Prelude.{◌≡◌, ◌≤◌, ℕ, List}
 use Rattle.model_connection.specs.Serving.{refusal_text}
 use Rattle.io_edge.specs.Outside.{Grows, GrowsByPrefix, Rose, SinkShown}
-use Rattle.model_batch.specs.declared.desk.DeskError.{DeskError}
-use Rattle.model_batch.specs.declared.desk.DeskError.TheVariants as desk
 use Rattle.model_connection.specs.declared.served.ConnEnd.{ConnEnd}
-use Rattle.model_connection.specs.declared.served.ConnEnd.TheVariants.{BadHead, NoMemory, PassSpent, WriteFault}
-
-abbrev pub end_for : DeskError → ConnEnd
-end_for desk.PassSpent = PassSpent
-end_for desk.NoMemory = NoMemory
+use Rattle.model_connection.specs.declared.served.ConnEnd.TheVariants.{BadHead, NoMemory, WriteFault}
 
 -- the response to a head that is refused with this status was given, or a prefix of it, or none of it
 abbrev pub RefusalHow : SinkShown → SinkShown → ℕ → ConnEnd → Type 0

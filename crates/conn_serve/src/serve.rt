@@ -4,7 +4,7 @@ ghost use Rattle.model_http.specs.Responses.{IsStatus};
 ghost use Rattle.model_connection.specs.Serving.{Serves, refusal_text};
 ghost use Rattle.model_connection.specs.Exchanges.{closes};
 ghost use Rattle.http_edge.specs.Reading.{message_shown};
-ghost use Rattle.conn_serve.specs.Ending.{IsRefusalEnd, end_for};
+ghost use Rattle.conn_serve.specs.Ending.{IsRefusalEnd};
 
 use crate::answer::answer;
 use http_edge::bytes::Bytes;
@@ -16,7 +16,7 @@ use io_edge::clock::Clock;
 use io_edge::sink::{Sink, put_all};
 use io_edge::source::Source;
 use model_batch::desk::{Desk, DeskError, Front};
-use model_connection::served::{ConnEnd, MOST_MESSAGES, Served};
+use model_connection::served::{ConnEnd, MOST_MESSAGES, Served, end_for};
 use session_doc::Site;
 use std::alloc::{AllocError, Global};
 
@@ -101,16 +101,6 @@ fn served(fronts: Vec<Front>, requests: u64, end: ConnEnd) -> Served
         fronts,
         requests,
         end,
-    }
-}
-
-// Why a connection ends where a message wasn't answered.
-fn end_for(error: DeskError) -> ConnEnd
-    ensures { result ≡ end_for error }
-{
-    match error {
-        DeskError::PassSpent => ConnEnd::PassSpent,
-        DeskError::NoMemory => ConnEnd::NoMemory,
     }
 }
 

@@ -16,7 +16,8 @@ use Rattle.serde_json.specs.Read.{of_json, of_members, converted}
 use Rattle.model_json.specs.Data.{Data, Pair, object, members_of}
 use Rattle.model_json.specs.Json.{whole_of, whole_members}
 use Rattle.json_edge.specs.FoundMembers.{Found, put_found, put_each, whole_pairs, object_found, first_of_each, is_next}
-use Rattle.json_edge.specs.InOrder.{put_in, in_order, key_below}
+use Rattle.model_json.specs.InOrder.{put_in, in_order}
+use Rattle.json_edge.specs.FoundMembers.{key_below}
 use Rattle.json_edge.specs.Readings.{value_read, members_read}
 use Rattle.json_edge.proofs.Reading.{twice}
 

@@ -7,6 +7,10 @@ use Rattle.model_json.specs.Data.{Data, Pair, object, members_of}
 abbrev pub Found : Type 0
 Found = List ℕ × Option Data
 
+-- the one key stands before the other in byte order
+abbrev pub key_below : Found → Found → Bool
+key_below m n = is_lt (slice_cmp nat_cmp m.0 n.0)
+
 -- members in byte order of their keys, with m at its key's place
 abbrev pub put_found : Found → List Found → List Found
 put_found m [] = m ∷ []

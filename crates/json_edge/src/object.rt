@@ -4,7 +4,8 @@ ghost use Rattle.model_json.specs.TreeData.{data_of, pair_of};
 ghost use Rattle.model_json.specs.ObjectKeys.{HasOrderedKeys};
 ghost use Rattle.json_edge.specs.declared.error.ReadError.TheVariants.{NoMemory};
 ghost use Rattle.json_edge.specs.FoundMembers.{object_found, whole_pairs, first_of_each, is_next, last_key};
-ghost use Rattle.json_edge.specs.InOrder.{in_order, key_below};
+ghost use Rattle.model_json.specs.InOrder.{in_order};
+ghost use Rattle.json_edge.specs.FoundMembers.{key_below};
 ghost use Rattle.json_edge.specs.FoundData.{found_of};
 
 use crate::error::ReadError;

@@ -27,6 +27,11 @@ pub record Setting : Type 0 where
 abbrev pub refusal_text : ℕ → List ℕ
 refusal_text status = response_text (bare status None true)
 
+-- why a connection ends where the desk didn't answer all calls of a message
+abbrev pub end_for : DeskError → ConnEnd
+end_for reason.PassSpent = end.PassSpent
+end_for reason.NoMemory = end.NoMemory
+
 abbrev pub IsPrefixOf : List ℕ → List ℕ → Type 0
 IsPrefixOf part all = (n : ℕ) × (n < length all) × (part ≡ take n all)
 

@@ -1,6 +1,8 @@
 //! How a connection was served.
+ghost use Rattle.std.specs.Prelude.{◌≡◌};
+ghost use Rattle.model_connection.specs.Serving.{end_for};
 
-use model_batch::desk::Front;
+use model_batch::desk::{DeskError, Front};
 
 /// The most messages of a connection that are answered.
 pub const MOST_MESSAGES: u64 = 10_000;
@@ -26,6 +28,16 @@ pub enum ConnEnd {
     PassSpent,
     /// Memory was wanted.
     NoMemory,
+}
+
+/// Why a connection ends where the desk didn't answer all calls of a message.
+pub fn end_for(error: DeskError) -> ConnEnd
+    ensures { result ≡ end_for error }
+{
+    match error {
+        DeskError::PassSpent => ConnEnd::PassSpent,
+        DeskError::NoMemory => ConnEnd::NoMemory,
+    }
 }
 
 /// How a connection was served.

@@ -4,3 +4,4 @@ pub mod EditLemmas
 pub mod MergeLemmas
 pub mod MemberLemmas
 pub mod SameLists
+pub mod InOrderLemmas

@@ -14,3 +14,4 @@ pub mod Json
 pub mod Fit
 pub mod Parts
 pub mod Number
+pub mod InOrder

@@ -84,10 +84,10 @@ is_within_count Never n = true
 is_within_count (Until u) n = true
 
 -- a day of the set: it counts, and of the days up to it no more count than `count` allows
-unfoldable pub is_in : (ℤ → Bool) → End → ℕ → ℤ → ℤ → Bool
-is_in due end time start_day n =
+unfoldable pub is_day_of_set : (ℤ → Bool) → End → ℕ → ℤ → ℤ → Bool
+is_day_of_set due end time start_day n =
     is_counted due end time start_day n && is_within_count end (count_from (is_counted due end time start_day) start_day n)
 
 -- a day of the rule's set, for a series that starts at this wall second
 unfoldable pub is_in_set : Rule → ℤ → ℤ → Bool
-is_in_set r start n = is_in (is_due r (day_of_wall start)) r.end (second_of_wall start) (day_of_wall start) n
+is_in_set r start n = is_day_of_set (is_due r (day_of_wall start)) r.end (second_of_wall start) (day_of_wall start) n

@@ -3,11 +3,12 @@ use Rattle.std.specs.Prelude.{ℕ, List, [], ◌∷◌, ◌+◌, ◌*◌, ◌<�
 use Rattle.std.specs.Char.{is_ascii_digit}
 use Rattle.std.specs.List.{prefix_len}
 use Rattle.model_json.specs.Number.{value_of_digits}
+use Rattle.model_time.specs.LocalTimes.{seconds_of_clock}
 use Rattle.model_time.specs.declared.length.Length.{Length}
 
 -- as short as every length that is read
-abbrev pub IsShort : Length → Type 0
-IsShort l = (l.days < 10000000000) × (l.seconds < 10000000000000)
+abbrev pub IsShortLength : Length → Type 0
+IsShortLength l = (l.days < 10000000000) × (l.seconds < 10000000000000)
 
 -- how many digits stand first
 abbrev pub digits_first : List ℕ → ℕ
@@ -22,14 +23,14 @@ unfoldable pub amount : ℕ → List ℕ → ℕ
 amount letter s = if has_part letter s then value_of_digits (take (digits_first s) s) else 0
 
 -- what stands behind the letter; all, where there is no number
-unfoldable pub behind : ℕ → List ℕ → List ℕ
-behind letter s = if has_part letter s then drop (digits_first s + 1) s else s
+unfoldable pub behind_part : ℕ → List ℕ → List ℕ
+behind_part letter s = if has_part letter s then drop (digits_first s + 1) s else s
 
 -- `nH`, `nM` and `nS` in this order, at least one of them, and nothing behind
 abbrev pub clock_in : List ℕ → Option ℕ
 clock_in s =
-    if ((has_part 72 s || has_part 77 (behind 72 s)) || has_part 83 (behind 77 (behind 72 s))) && (length (behind 83 (behind 77 (behind 72 s))) == 0)
-    then Some (3600 * amount 72 s + 60 * amount 77 (behind 72 s) + amount 83 (behind 77 (behind 72 s))) else None
+    if ((has_part 72 s || has_part 77 (behind_part 72 s)) || has_part 83 (behind_part 77 (behind_part 72 s))) && (length (behind_part 83 (behind_part 77 (behind_part 72 s))) == 0)
+    then Some (seconds_of_clock (amount 72 s) (amount 77 (behind_part 72 s)) (amount 83 (behind_part 77 (behind_part 72 s)))) else None
 
 -- nothing, where a part stood before; or `T` and then hours, minutes and seconds
 abbrev pub seconds_in : Bool → List ℕ → Option ℕ
@@ -42,7 +43,7 @@ length_of days seconds = record { days = days; seconds = seconds }
 -- `nW` and `nD` in this order, each of which may be left out, and then the seconds
 abbrev pub parts_in : List ℕ → Option Length
 parts_in s =
-    option_map (length_of (7 * amount 87 s + amount 68 (behind 87 s))) (seconds_in (has_part 87 s || has_part 68 (behind 87 s)) (behind 68 (behind 87 s)))
+    option_map (length_of (7 * amount 87 s + amount 68 (behind_part 87 s))) (seconds_in (has_part 87 s || has_part 68 (behind_part 87 s)) (behind_part 68 (behind_part 87 s)))
 
 -- the length that a Duration names
 abbrev pub duration_in : List ℕ → Option Length

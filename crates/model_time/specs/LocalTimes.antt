@@ -12,9 +12,13 @@ is_date y m d = (nat_le 1 m && nat_le m 12) && (nat_le 1 d && nat_le d (month_le
 abbrev pub day_in : ℕ → ℕ → ℕ → Option ℤ
 day_in y m d = if is_date y m d then Some (day_number (pos y) m d) else None
 
+-- hours, minutes and seconds as seconds
+abbrev pub seconds_of_clock : ℕ → ℕ → ℕ → ℕ
+seconds_of_clock h m s = 3600 * h + 60 * m + s
+
 -- the second of the day, none where there is no such time of day
 abbrev pub second_in : ℕ → ℕ → ℕ → Option ℕ
-second_in h m s = if (nat_lt h 24 && nat_lt m 60) && nat_lt s 60 then Some (3600 * h + 60 * m + s) else None
+second_in h m s = if (nat_lt h 24 && nat_lt m 60) && nat_lt s 60 then Some (seconds_of_clock h m s) else None
 
 -- the wall second of both, where there are such
 abbrev pub wall_of : Option ℤ → Option ℕ → Option ℤ
@@ -36,9 +40,13 @@ local_in s = if fits_form (codes "0000-00-00T00:00:00") s then spaced_wall s els
 abbrev pub utc_in : List ℕ → Option ℤ
 utc_in s = if fits_form (codes "0000-00-00T00:00:00Z") s then spaced_wall s else None
 
+-- the last year that four digits write
+abbrev pub last_year : ℕ
+last_year = 9999
+
 -- the wall second lies in a year that four digits write
 abbrev pub HasFourDigitYear : ℤ → Type 0
-HasFourDigitYear w = (pos 0 ≤ℤ year_of (day_of_wall w)) × (year_of (day_of_wall w) ≤ℤ pos 9999)
+HasFourDigitYear w = (pos 0 ≤ℤ year_of (day_of_wall w)) × (year_of (day_of_wall w) ≤ℤ pos last_year)
 
 -- the text of a date, and of a time of day
 abbrev pub date_text : ℕ → ℕ → ℕ → List ℕ

@@ -10,13 +10,13 @@ use Rattle.model_json.specs.declared.tree.Tree.{Tree}
 use Rattle.model_history.specs.History.{is_kind, names, object_from, live_object, with_id, ids_from, ids_at}
 use Rattle.model_query.specs.declared.item.Item.{Item}
 use Rattle.model_query.specs.declared.comparator.Comparator.{Comparator}
-use Rattle.query_order.specs.InOrder.{in_order}
-use Rattle.query_order.specs.InOrder.{by_item, ordered_numbers}
+use Rattle.model_json.specs.InOrder.{in_order}
+use Rattle.query_order.specs.Ordered.{by_item, ordered_numbers}
 use Rattle.model_history.specs.Pages.{is_in}
 use Rattle.model_query.specs.QueryChangesLead.{Lead, StandAlike}
 use Rattle.model_query.specs.Matching.{with_number, match_of, matches, touched_by, of_events, result_of, result_at, touched_since}
 use Rattle.query_order.proofs.TotalOrders.{by_all_ranks}
-use Rattle.query_order.proofs.Orders.{in_order_filter}
+use Rattle.model_json.proofs.InOrderLemmas.{in_order_filter}
 use Rattle.query_order.proofs.Places.{named_places}
 use Rattle.query_order.proofs.Splicing.{change_leads, or_right}
 

@@ -5,10 +5,10 @@ use Rattle.model_query.specs.declared.item.Item.{Item}
 use Rattle.model_query.specs.declared.comparator.Comparator.{Comparator}
 use Rattle.model_query.specs.Comparing.{by_all}
 use Rattle.model_query.specs.Results.{places, numbers_at}
-use Rattle.query_order.specs.InOrder.{by_item, ordered, ordered_numbers}
+use Rattle.query_order.specs.Ordered.{by_item, ordered, ordered_numbers}
 use Rattle.std.proofs.lemmas.List.Elements.{All-nil, All-cons}
 use Rattle.std.proofs.lemmas.List.Sorted.{All-permutation, IsPermutation-map}
-use Rattle.query_order.proofs.Orders.{in_order_map}
+use Rattle.model_json.proofs.InOrderLemmas.{in_order_map}
 use Rattle.query_order.proofs.TotalOrders.{by_all_total}
 use Rattle.query_order.proofs.Ranks.{shuffled_in_order}
 use Rattle.query_order.proofs.Rankings.{by_count_is, rising_from}

@@ -1,3 +1,3 @@
-pub mod InOrder
+pub mod Ordered
 pub mod Numbered
 pub mod Reports

@@ -2,7 +2,8 @@
 ghost use Rattle.std.specs.Prelude.{◌≡◌, ◌<◌, All, length, IfOk, OnOk, map};
 ghost use Rattle.std.specs.List.{enumerate_from};
 ghost use Rattle.model_query.specs.Results.{places, numbers_at};
-ghost use Rattle.query_order.specs.InOrder.{in_order, by_item};
+ghost use Rattle.model_json.specs.InOrder.{in_order};
+ghost use Rattle.query_order.specs.Ordered.{by_item};
 ghost use Rattle.query_order.specs.Numbered.{numbered_item};
 
 use crate::order::Order;

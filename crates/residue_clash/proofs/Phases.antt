@@ -15,7 +15,8 @@ use Rattle.residue_solve.proofs.CongruenceLemmas.{Congruent-sym, Congruent-trans
 use Rattle.rule_expand.proofs.Next.{period-later}
 use Rattle.rule_expand.proofs.Places.{and_both, false_true}
 use Rattle.rule_expand.proofs.Sets.{or_cases}
-use Rattle.residue_clash.specs.Repeats.{is_empty, is_up_to_a_week, is_of_weekdays, repeats_after, periods_of_week, periods_after}
+use Rattle.model_series.specs.RuleObjects.{is_empty}
+use Rattle.residue_clash.specs.Repeats.{is_up_to_a_week, is_of_weekdays, repeats_after, periods_of_week, periods_after}
 
 rem_is : (x : ℤ) (i : ℕ) → int_rem_euclid x (pos i) ≡ pos (modulo x i)
 rem_is (pos a) i = refl

@@ -6,7 +6,7 @@ use Rattle.std.specs.Ordering.{int_eq}
 use Rattle.jiff_core.proofs.SignedLemmas.{signed_arith}
 use Rattle.model_series.specs.Periods.{period_number, is_in_phase}
 use Rattle.model_series.specs.Places.{count_days, count_from}
-use Rattle.model_series.specs.RuleSets.{is_in_set, is_kept, is_due, is_counted, is_in, is_by_end, is_within_count}
+use Rattle.model_series.specs.RuleSets.{is_in_set, is_kept, is_due, is_counted, is_day_of_set, is_by_end, is_within_count}
 use Rattle.model_time.specs.Walls.{day_of_wall, second_of_wall}
 use Rattle.model_time.specs.Floor.{floor_div}
 use Rattle.rule_expand.specs.Sets.{is_by_last, is_up_to, IsNext, IsBound, IsGreatest, IsLastDue, IsFirstFrom, IsCountAt}
@@ -112,12 +112,12 @@ module _ (due : ℤ → Bool) (e : End) (t : ℕ) (d : ℤ) where
         inr (late_is d n a.0, (b.0, b.1))
   ]
 
-  pub in_cases : (n : ℤ) → is_in due e t d n ≡ true → (is_counted due e t d n ≡ true) × (is_within_count e (count_from (is_counted due e t d) d n) ≡ true)
-  unfolding is_in
+  pub in_cases : (n : ℤ) → is_day_of_set due e t d n ≡ true → (is_counted due e t d n ≡ true) × (is_within_count e (count_from (is_counted due e t d) d n) ≡ true)
+  unfolding is_day_of_set
   in_cases n h = and_both (is_counted due e t d n) _ h
 
-  pub in_by : (n : ℤ) → is_counted due e t d n ≡ true → is_within_count e (count_from (is_counted due e t d) d n) ≡ true → is_in due e t d n ≡ true
-  unfolding is_in
+  pub in_by : (n : ℤ) → is_counted due e t d n ≡ true → is_within_count e (count_from (is_counted due e t d) d n) ≡ true → is_day_of_set due e t d n ≡ true
+  unfolding is_day_of_set
   in_by n h k = both_and (is_counted due e t d n) _ h k
 
   pub by_last_cases : (b : Bound) (n : ℤ) → is_by_last due d b n ≡ true → (n ≡ d) ⊎ ((d <ℤ n) × ((due n ≡ true) × (is_up_to b n ≡ true)))
@@ -209,10 +209,10 @@ module _ (due : ℤ → Bool) (c t : ℕ) (d : ℤ) where
         count = count_from-after U d n b eb ∙ ap (count_days U d) (suc_is b) ∙ count_next U d a b lt (ap U (sym eb) ∙ u) gap ∙ ap (λ x. x + 1) (ap (count_days U d) (sym (suc_is a)) ∙ sym (count_from-after U d here a ea) ∙ at.count);
       }
 
-  counted_in : (here : ℤ) (k : ℕ) → IsCountAt due c t d here k → k ≤ c → is_in due (Count c) t d here ≡ true
+  counted_in : (here : ℤ) (k : ℕ) → IsCountAt due c t d here k → k ≤ c → is_day_of_set due (Count c) t d here ≡ true
   counted_in here k at le = in_by due (Count c) t d here at.counted (rw at.count (grind (arith, nat_tests, le)))
 
-  pub count_none : (here : ℤ) (k : ℕ) → IsCountAt due c t d here k → k ≤ c → ((m : ℤ) → here <ℤ m → due m ≡ true → ⊥) → IsGreatest (is_in due (Count c) t d) here
+  pub count_none : (here : ℤ) (k : ℕ) → IsCountAt due c t d here k → k ≤ c → ((m : ℤ) → here <ℤ m → due m ≡ true → ⊥) → IsGreatest (is_day_of_set due (Count c) t d) here
   count_none here k at le none = (
     counted_in here k at le,
     λ n h.
@@ -222,7 +222,7 @@ module _ (due : ℤ → Bool) (c t : ℕ) (d : ℤ) where
         ],
   )
 
-  pub count_full : (here : ℤ) → IsCountAt due c t d here c → IsGreatest (is_in due (Count c) t d) here
+  pub count_full : (here : ℤ) → IsCountAt due c t d here c → IsGreatest (is_day_of_set due (Count c) t d) here
   count_full here at = (
     counted_in here c at (omega arith),
     λ n h.
@@ -252,7 +252,7 @@ until_by : (u n : ℤ) (t : ℕ) → n ≤ℤ floor_div (u -ℤ pos t) 86400 →
 until_by u n t h = is_int_le (n *ℤ pos 86400 +ℤ pos t) u (omega (arith, signed_arith, h))
 
 module _ (due : ℤ → Bool) (t : ℕ) (d : ℤ) where
-  pub until_last : (u high last : ℤ) → high ≡ floor_div (u -ℤ pos t) 86400 → IsLastDue due d high last → IsGreatest (is_in due (Until u) t d) last
+  pub until_last : (u high last : ℤ) → high ≡ floor_div (u -ℤ pos t) 86400 → IsLastDue due d high last → IsGreatest (is_day_of_set due (Until u) t d) last
   until_last u high last e found = (
     in_by due (Until u) t d last
         (elim found.is [
@@ -266,7 +266,7 @@ module _ (due : ℤ → Bool) (t : ℕ) (d : ℤ) where
   )
 
   -- a set without an end, where no day is due after the first
-  pub never_none : ((m : ℤ) → d <ℤ m → due m ≡ true → ⊥) → IsGreatest (is_in due Never t d) d
+  pub never_none : ((m : ℤ) → d <ℤ m → due m ≡ true → ⊥) → IsGreatest (is_day_of_set due Never t d) d
   never_none none = (
     in_by due Never t d d (counted_start due Never t d) refl,
     λ n h. elim (counted_cases due Never t d n (in_cases due Never t d n h).0) [
@@ -276,7 +276,7 @@ module _ (due : ℤ → Bool) (t : ℕ) (d : ℤ) where
   )
 
   -- and where one is
-  pub never_some : (first : ℤ) → IsNext due d first → ((n : ℤ) → due n ≡ true → (m : ℤ) × ((n <ℤ m) × (due m ≡ true))) → IsBound (is_in due Never t d) Endless
+  pub never_some : (first : ℤ) → IsNext due d first → ((n : ℤ) → due n ≡ true → (m : ℤ) × ((n <ℤ m) × (due m ≡ true))) → IsBound (is_day_of_set due Never t d) Endless
   never_some first next more n h = elim (counted_cases due Never t d n (in_cases due Never t d n h).0) [
     | inl same ↦ (first, (rw same next.past, in_by due Never t d first (counted_later due Never t d first next.past next.is refl) refl))
     | inr x ↦
@@ -296,9 +296,9 @@ last_near due d high last h near far = elim h.is [
 ]
 
 -- the rule's set by its parts
-pub set_is : (r : Rule) (start d : ℤ) (e : End) (t : ℕ) → d ≡ day_of_wall start → r.end ≡ e → t ≡ second_of_wall start → (n : ℤ) → is_in_set r start n ≡ is_in (is_due r d) e t d n
+pub set_is : (r : Rule) (start d : ℤ) (e : End) (t : ℕ) → d ≡ day_of_wall start → r.end ≡ e → t ≡ second_of_wall start → (n : ℤ) → is_in_set r start n ≡ is_day_of_set (is_due r d) e t d n
 unfolding is_in_set
-set_is r start d e t hd he ht n = rw (hd, ht) (ap (λ x. is_in (is_due r (day_of_wall start)) x (second_of_wall start) (day_of_wall start) n) he)
+set_is r start d e t hd he ht n = rw (hd, ht) (ap (λ x. is_day_of_set (is_due r (day_of_wall start)) x (second_of_wall start) (day_of_wall start) n) he)
 
 greatest_same : (p q : ℤ → Bool) (last : ℤ) → ((n : ℤ) → p n ≡ q n) → IsGreatest q last → IsGreatest p last
 greatest_same p q last h g = (h last ∙ g.0, λ n k. g.1 n (sym (h n) ∙ k))
@@ -313,7 +313,7 @@ pub set_none : (r : Rule) (start d : ℤ) → d ≡ day_of_wall start → r.end 
 set_none r start d hd he none =
     greatest_same (is_in_set r start) _ d (set_is r start d Never (second_of_wall start) hd he refl) (never_none (is_due r d) (second_of_wall start) d none)
 
-pub set_count : (r : Rule) (start d last : ℤ) (c : ℕ) → d ≡ day_of_wall start → r.end ≡ Count c → ((t : ℕ) → IsGreatest (is_in (is_due r d) (Count c) t d) last) → IsGreatest (is_in_set r start) last
+pub set_count : (r : Rule) (start d last : ℤ) (c : ℕ) → d ≡ day_of_wall start → r.end ≡ Count c → ((t : ℕ) → IsGreatest (is_day_of_set (is_due r d) (Count c) t d) last) → IsGreatest (is_in_set r start) last
 set_count r start d last c hd he h =
     greatest_same (is_in_set r start) _ last (set_is r start d (Count c) (second_of_wall start) hd he refl) (h (second_of_wall start))
 
@@ -341,14 +341,14 @@ module _ (due : ℤ → Bool) (t : ℕ) (d : ℤ) where
   end_less (Count c) n m h k = refl
   end_less (Until u) n m h k = is_int_le (n *ℤ pos 86400 +ℤ pos t) u (omega (arith, signed_arith, h, int_le_is (m *ℤ pos 86400 +ℤ pos t) u k))
 
-  pub in_from : (e : End) (n : ℤ) → is_in due e t d n ≡ true → d ≤ℤ n
+  pub in_from : (e : End) (n : ℤ) → is_day_of_set due e t d n ≡ true → d ≤ℤ n
   in_from e n h = elim (counted_cases due e t d n (in_cases due e t d n h).0) [ inl same ↦ omega (arith, signed_arith) | inr more ↦ omega (arith, signed_arith, more.0) ]
 
-  pub in_good : (e : End) (n : ℤ) → d <ℤ n → is_in due e t d n ≡ true → due n ≡ true
+  pub in_good : (e : End) (n : ℤ) → d <ℤ n → is_day_of_set due e t d n ≡ true → due n ≡ true
   in_good e n lt h = elim (counted_cases due e t d n (in_cases due e t d n h).0) [ inl same ↦ absurd (omega (arith, signed_arith, same, lt)) | inr more ↦ more.1.0 ]
 
   -- the first day is in the set
-  pub start_in : (e : End) → IsEnd e → is_in due e t d d ≡ true
+  pub start_in : (e : End) → IsEnd e → is_day_of_set due e t d d ≡ true
   start_in Never h = in_by due Never t d d (counted_start due Never t d) refl
   start_in (Until u) h = in_by due (Until u) t d d (counted_start due (Until u) t d) refl
   start_in (Count c) h =
@@ -356,7 +356,7 @@ module _ (due : ℤ → Bool) (t : ℕ) (d : ℤ) where
       in_by due (Count c) t d d (counted_start due (Count c) t d) (rw one (grind (arith, nat_tests, h.0)))
 
   -- a due day before one of the set is in the set
-  pub in_between : (e : End) (n m : ℤ) → d <ℤ n → due n ≡ true → n ≤ℤ m → is_in due e t d m ≡ true → is_in due e t d n ≡ true
+  pub in_between : (e : End) (n m : ℤ) → d <ℤ n → due n ≡ true → n ≤ℤ m → is_day_of_set due e t d m ≡ true → is_day_of_set due e t d n ≡ true
   in_between e n m lt g le h =
       let x = in_cases due e t d m h in
       let ends : is_by_end e (m *ℤ pos 86400 +ℤ pos t) ≡ true = elim (counted_cases due e t d m x.0) [ inl same ↦ absurd (omega (arith, signed_arith)) | inr more ↦ more.1.1 ] in
@@ -372,8 +372,8 @@ module _ (due : ℤ → Bool) (t : ℕ) (d : ℤ) where
       (y.0, (omega (arith, signed_arith, x.1.0, y.1.0), y.1.1))
 
   -- the set by its last day
-  pub set_by_last : (e : End) (b : Bound) → IsEnd e → IsBound (is_in due e t d) b → (n : ℤ) → is_in due e t d n ≡ is_by_last due d b n
-  set_by_last e Endless end bound n = same_truth (is_in due e t d n) (is_by_last due d Endless n)
+  pub set_by_last : (e : End) (b : Bound) → IsEnd e → IsBound (is_day_of_set due e t d) b → (n : ℤ) → is_day_of_set due e t d n ≡ is_by_last due d b n
+  set_by_last e Endless end bound n = same_truth (is_day_of_set due e t d n) (is_by_last due d Endless n)
       (λ h. elim (counted_cases due e t d n (in_cases due e t d n h).0) [
         | inl same ↦ rw same (by_last_start due Never t d Endless)
         | inr more ↦ by_last_later due Never t d Endless n more.0 more.1.0 refl
@@ -382,10 +382,10 @@ module _ (due : ℤ → Bool) (t : ℕ) (d : ℤ) where
         | inl same ↦ rw same (start_in e end)
         | inr more ↦
             let k = up n + down d - (down n + up d) in
-            let m = beyond (is_in due e t d) bound (start_in e end) k in
+            let m = beyond (is_day_of_set due e t d) bound (start_in e end) k in
             in_between e n m.0 more.0 more.1.0 (omega (arith, signed_arith, m.1.0, more.0)) m.1.1
       ])
-  set_by_last e (Last last) end bound n = same_truth (is_in due e t d n) (is_by_last due d (Last last) n)
+  set_by_last e (Last last) end bound n = same_truth (is_day_of_set due e t d n) (is_by_last due d (Last last) n)
       (λ h. elim (counted_cases due e t d n (in_cases due e t d n h).0) [
         | inl same ↦ rw same (by_last_start due Never t d (Last last))
         | inr more ↦ by_last_later due Never t d (Last last) n more.0 more.1.0 (is_int_le n last (bound.1 n h))
@@ -396,25 +396,25 @@ module _ (due : ℤ → Bool) (t : ℕ) (d : ℤ) where
       ])
 
   -- whether a due day is in the set
-  pub within_count : (c : ℕ) (n last : ℤ) → d <ℤ n → due n ≡ true → IsGreatest (is_in due (Count c) t d) last → int_le n last ≡ is_in due (Count c) t d n
-  within_count c n last lt g h = same_truth (int_le n last) (is_in due (Count c) t d n)
+  pub within_count : (c : ℕ) (n last : ℤ) → d <ℤ n → due n ≡ true → IsGreatest (is_day_of_set due (Count c) t d) last → int_le n last ≡ is_day_of_set due (Count c) t d n
+  within_count c n last lt g h = same_truth (int_le n last) (is_day_of_set due (Count c) t d n)
       (λ le. in_between (Count c) n last lt g (int_le_is n last le) h.0)
       (λ x. is_int_le n last (h.1 n x))
 
-  pub within_until : (u n high : ℤ) → d <ℤ n → due n ≡ true → high ≡ floor_div (u -ℤ pos t) 86400 → int_le n high ≡ is_in due (Until u) t d n
-  within_until u n high lt g e = same_truth (int_le n high) (is_in due (Until u) t d n)
+  pub within_until : (u n high : ℤ) → d <ℤ n → due n ≡ true → high ≡ floor_div (u -ℤ pos t) 86400 → int_le n high ≡ is_day_of_set due (Until u) t d n
+  within_until u n high lt g e = same_truth (int_le n high) (is_day_of_set due (Until u) t d n)
       (λ le. in_by due (Until u) t d n (counted_later due (Until u) t d n lt g (until_by u n t (rw e at (int_le_is n high le)))) refl)
       (λ x. elim (counted_cases due (Until u) t d n (in_cases due (Until u) t d n x).0) [
         | inl same ↦ absurd (omega (arith, signed_arith, same, lt))
         | inr more ↦ is_int_le n high (rw e (by_until u n t more.1.1))
       ])
 
-  pub within_never : (n : ℤ) → d <ℤ n → due n ≡ true → true ≡ is_in due Never t d n
+  pub within_never : (n : ℤ) → d <ℤ n → due n ≡ true → true ≡ is_day_of_set due Never t d n
   within_never n lt g = sym (in_by due Never t d n (counted_later due Never t d n lt g refl) refl)
 
 -- the same of a rule's set
 module _ (r : Rule) (start d : ℤ) (hd : d ≡ day_of_wall start) where
-  same : (n : ℤ) → is_in_set r start n ≡ is_in (is_due r d) r.end (second_of_wall start) d n
+  same : (n : ℤ) → is_in_set r start n ≡ is_day_of_set (is_due r d) r.end (second_of_wall start) d n
   same n = set_is r start d r.end (second_of_wall start) hd refl refl n
 
   pub set_start : is_in_set r start d ≡ true
@@ -429,9 +429,9 @@ module _ (r : Rule) (start d : ℤ) (hd : d ≡ day_of_wall start) where
   pub set_between : (n m : ℤ) → d <ℤ n → is_due r d n ≡ true → n ≤ℤ m → is_in_set r start m ≡ true → is_in_set r start n ≡ true
   set_between n m lt g le h = same n ∙ in_between (is_due r d) (second_of_wall start) d r.end n m lt g le (sym (same m) ∙ h)
 
-  bound_same : (b : Bound) → IsBound (is_in_set r start) b → IsBound (is_in (is_due r d) r.end (second_of_wall start) d) b
+  bound_same : (b : Bound) → IsBound (is_in_set r start) b → IsBound (is_day_of_set (is_due r d) r.end (second_of_wall start) d) b
   bound_same Endless h = λ n k. let m = h n (same n ∙ k) in (m.0, (m.1.0, sym (same m.0) ∙ m.1.1))
-  bound_same (Last last) h = greatest_same (is_in (is_due r d) r.end (second_of_wall start) d) (is_in_set r start) last (λ n. sym (same n)) h
+  bound_same (Last last) h = greatest_same (is_day_of_set (is_due r d) r.end (second_of_wall start) d) (is_in_set r start) last (λ n. sym (same n)) h
 
   -- S1: the rule's set by its last day
   pub rule_set_by_last : (b : Bound) → IsBound (is_in_set r start) b → (n : ℤ) → is_in_set r start n ≡ is_by_last (is_due r d) d b n
@@ -459,7 +459,7 @@ module _ (r : Rule) (start d : ℤ) (hd : d ≡ day_of_wall start) where
   pub is_within_never : (n : ℤ) → r.end ≡ Never → d <ℤ n → is_due r d n ≡ true → true ≡ is_in_set r start n
   is_within_never n e lt g = within_never (is_due r d) (second_of_wall start) d n lt g ∙ sym (set_is r start d Never (second_of_wall start) hd e refl n)
 
-  pub is_within_count_of : (c : ℕ) (n last : ℤ) (b : Bool) → r.end ≡ Count c → d <ℤ n → is_due r d n ≡ true → ((t : ℕ) → IsGreatest (is_in (is_due r d) (Count c) t d) last) → b ≡ int_le n last → b ≡ is_in_set r start n
+  pub is_within_count_of : (c : ℕ) (n last : ℤ) (b : Bool) → r.end ≡ Count c → d <ℤ n → is_due r d n ≡ true → ((t : ℕ) → IsGreatest (is_day_of_set (is_due r d) (Count c) t d) last) → b ≡ int_le n last → b ≡ is_in_set r start n
   is_within_count_of c n last b e lt g h hb =
       hb ∙ within_count (is_due r d) (second_of_wall start) d c n last lt g (h (second_of_wall start)) ∙ sym (set_is r start d (Count c) (second_of_wall start) hd e refl n)
 

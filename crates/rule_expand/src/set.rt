@@ -2,7 +2,7 @@
 ghost use Rattle.std.specs.Prelude.{◌^◌, unsigned_abs, ◌&&◌, int_le, ℕ, ◌≡◌, ◌+◌, ◌-◌, ◌+ℤ◌, ◌*◌, ◌-ℤ◌, ◌*ℤ◌, ◌<◌, ◌≤◌, ◌≤ℤ◌, ◌<ℤ◌, ℤ, pos, true, IsSome, IfSome, IsNone};
 ghost use Rattle.model_series.specs.Periods.{is_in_phase};
 ghost use Rattle.model_series.specs.Places.{count_from};
-ghost use Rattle.model_series.specs.RuleSets.{is_due, is_counted, is_in, is_in_set};
+ghost use Rattle.model_series.specs.RuleSets.{is_due, is_counted, is_day_of_set, is_in_set};
 ghost use Rattle.model_time.specs.Walls.{day_of_wall, is_in_years, second_of_wall};
 ghost use Rattle.model_time.specs.Floor.{floor_div, modulo};
 ghost use Rattle.rule_expand.specs.Near.{IsNear};
@@ -76,7 +76,7 @@ fn last_due(rule: &Rule, start_day: i64, high: i64) -> i64
 fn last_counted(rule: &Rule, start_day: i64, count: u32) -> i64
     requires start { IsNear 10000000 start_day }
     requires count { (1 ≤ count) × (count ≤ 1000) }
-    ensures greatest { (t : ℕ) → IsGreatest (is_in (is_due rule.now start_day) (Count count) t start_day) result }
+    ensures greatest { (t : ℕ) → IsGreatest (is_day_of_set (is_due rule.now start_day) (Count count) t start_day) result }
     ensures near { IsNear 147000000000 result }
 {
     let mut here = start_day;

@@ -15,7 +15,7 @@ use Rattle.model_series.specs.declared.by_part.Freq.{Freq}
 use Rattle.model_series.specs.declared.by_part.Freq.TheVariants.{Daily, Weekly, Monthly, Yearly}
 use Rattle.model_series.specs.declared.by_part.NDay.{NDay}
 use Rattle.model_series.specs.RuleLimits.{is_month, is_nday, is_nth, is_place_to}
-use Rattle.model_series.specs.RuleObjects.{each_in, is_absent, is_nday_object, month_in, month_of_number, nday_in, nday_of, nth_in, place_in, place_of, value_at, weekday_in, weekday_named}
+use Rattle.model_series.specs.RuleObjects.{each_in, is_absent, is_nday_object, month_in, month_of_number, nday_in, nday_of, nth_in, place_in, place_of, present_at, weekday_in, weekday_named}
 use Rattle.std.specs.Option.{option_map_or}
 use Rattle.std.proofs.lemmas.Bool.{and_parts}
 use Rattle.std.proofs.lemmas.Int.{ints}
@@ -122,4 +122,4 @@ nday_by f false day nth x h = cc
 nday_by f true day nth x h = nday_of_by f (option_and_then weekday_in day) (nth_in f nth) x (day_pass day) (nth_pass f nth) h
 
 pub nday_pass : (f : Freq) (d : Data) (x : NDay) → nday_in f d ≡ Some x → is_nday f x ≡ true
-nday_pass f d x h = nday_by f (is_nday_object d) (value_at (codes "day") d) (value_at (codes "nthOfPeriod") d) x h
+nday_pass f d x h = nday_by f (is_nday_object d) (present_at (codes "day") d) (present_at (codes "nthOfPeriod") d) x h

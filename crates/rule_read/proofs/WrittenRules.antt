@@ -20,7 +20,7 @@ use Rattle.model_series.specs.declared.by_part.NDay.{NDay}
 use Rattle.model_series.specs.declared.rule.Rule.{Rule}
 use Rattle.model_time.specs.LocalTimes.{local_in, local_text}
 use Rattle.model_series.specs.RuleLimits.{are_by_parts, is_end, is_month, is_nday, is_nth, is_place_to}
-use Rattle.model_series.specs.RuleObjects.{RuleParts, count_data, each_in, end_in, filled, frequency_in, frequency_named, frequency_text, implied_days, implied_month_days, implied_months, interval_in, is_empty, is_monthly, is_rule_object, is_settled, is_settled_by, is_weekly, is_yearly, month_data, month_in, month_of_number, nday_data, nday_in, nth_data, nth_in, parts_of, place_in, place_of, present, rule_data, rule_in, settled_rule, thousand_of, until_data, value_at, week_start_in, weekday_in, weekday_named, weekday_text, with_lists, with_members}
+use Rattle.model_series.specs.RuleObjects.{RuleParts, count_data, each_in, end_in, filled, frequency_in, frequency_named, frequency_text, implied_days, implied_month_days, implied_months, interval_in, is_empty, is_monthly, is_rule_object, is_settled, is_settled_by, is_weekly, is_yearly, month_data, month_in, month_of_number, nday_data, nday_in, nth_data, nth_in, parts_of, place_in, place_of, present, rule_data, rule_in, settled_rule, thousand_of, until_data, present_at, week_start_in, weekday_in, weekday_named, weekday_text, with_lists, with_members}
 use Rattle.time_text.proofs.NumberLemmas.{decimal_back}
 use Rattle.time_text.proofs.WrittenLemmas.{read_back as local_back}
 
@@ -155,8 +155,8 @@ lists_by n f i w e p (Some ds) (Some md) (Some m) (Some s) h =
 made_with_lists : (n : ℤ) (d : Data) (f : Freq) (i w : ℕ) (e : End) (p : RuleParts) → with_lists n d f i w e ≡ Some p → Made n p
 unfolding with_lists
 made_with_lists n d f i w e p h =
-    lists_by n f i w e p (each_in (nday_in f) (value_at (codes "byDay") d)) (each_in (place_in 31) (value_at (codes "byMonthDay") d))
-    (each_in month_in (value_at (codes "byMonth") d)) (each_in (place_in 366) (value_at (codes "bySetPosition") d)) h
+    lists_by n f i w e p (each_in (nday_in f) (present_at (codes "byDay") d)) (each_in (place_in 31) (present_at (codes "byMonthDay") d))
+    (each_in month_in (present_at (codes "byMonth") d)) (each_in (place_in 366) (present_at (codes "bySetPosition") d)) h
 
 members_by : (n : ℤ) (d : Data) (f : Freq) (p : RuleParts) (i w : Option ℕ) (e : Option End)
     → option_and_then (λ interval. option_and_then (λ week_start. option_and_then (λ end. with_lists n d f interval week_start end) e) w) i ≡ Some p → Made n p
@@ -168,8 +168,8 @@ members_by n d f p (Some i) (Some w) (Some e) h = made_with_lists n d f i w e p 
 made_with_members : (n : ℤ) (d : Data) (f : Freq) (p : RuleParts) → with_members n d f ≡ Some p → Made n p
 unfolding with_members
 made_with_members n d f p h =
-    members_by n d f p (interval_in (value_at (codes "interval") d)) (week_start_in (value_at (codes "firstDayOfWeek") d))
-    (end_in (value_at (codes "count") d) (value_at (codes "until") d)) h
+    members_by n d f p (interval_in (present_at (codes "interval") d)) (week_start_in (present_at (codes "firstDayOfWeek") d))
+    (end_in (present_at (codes "count") d) (present_at (codes "until") d)) h
 
 made_if : (n : ℤ) (d : Data) (p : RuleParts) (b : Bool) (o : Option Freq) → (if b then option_and_then (with_members n d) o else None) ≡ Some p → Made n p
 made_if n d p true None h = absurd (none-some p h)
@@ -178,7 +178,7 @@ made_if n d p false o h = absurd (none-some p h)
 
 made : (n : ℤ) (d : Data) (p : RuleParts) → rule_in n d ≡ Some p → Made n p
 unfolding rule_in
-made n d p h = made_if n d p (is_rule_object d) (option_and_then frequency_in (value_at (codes "frequency") d)) h
+made n d p h = made_if n d p (is_rule_object d) (option_and_then frequency_in (present_at (codes "frequency") d)) h
 
 -- a rule whose implied parts are filled in is read back
 filled_back : (r : Rule) (n : ℤ) → is_settled (parts_of r) ≡ true → filled n (parts_of r) ≡ parts_of r → rule_in n (rule_data (parts_of r)) ≡ Some (parts_of r)

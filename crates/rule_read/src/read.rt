@@ -12,7 +12,7 @@ use crate::frame::Frame;
 use crate::implied::{is_settled, with_days, with_month_days, with_months};
 use crate::lists::{items_of, months, ndays, places};
 use crate::values::{end, frequency, interval, week_start};
-use crate::words::{is_rule_object, value_at};
+use crate::words::{is_rule_object, present_at};
 use model_json::tree::Tree;
 use model_series::by_part::{Freq, NDays, Small};
 use model_series::rule::Rule;
@@ -96,7 +96,7 @@ fn rule(alloc: Global, tree: &Tree, day: i64) -> Result<Option<Rule>, AllocError
     if !is_rule_object(tree) {
         return Ok(None);
     }
-    match frequency_at(value_at(tree, "frequency")) {
+    match frequency_at(present_at(tree, "frequency")) {
         Some(frequency) => with_members(alloc, tree, day, frequency),
         None => Ok(None),
     }
@@ -121,13 +121,13 @@ fn with_members(
     requires { unsigned_abs day < 2 ^ 42 }
     ensures { IfOk result (λ o. option_map parts_of o ≡ with_members day (data_of tree.now) frequency) }
 {
-    let Some(interval) = interval(value_at(tree, "interval")) else {
+    let Some(interval) = interval(present_at(tree, "interval")) else {
         return Ok(None);
     };
-    let Some(week_start) = week_start(value_at(tree, "firstDayOfWeek")) else {
+    let Some(week_start) = week_start(present_at(tree, "firstDayOfWeek")) else {
         return Ok(None);
     };
-    let Some(end) = end(value_at(tree, "count"), value_at(tree, "until")) else {
+    let Some(end) = end(present_at(tree, "count"), present_at(tree, "until")) else {
         return Ok(None);
     };
     let frame = Frame {
@@ -149,16 +149,16 @@ fn with_lists(
     requires { unsigned_abs day < 2 ^ 42 }
     ensures { IfOk result (λ o. option_map parts_of o ≡ with_lists day (data_of tree.now) frame.frequency frame.interval frame.week_start frame.end) }
 {
-    let Some(by_day) = ndays(alloc, frame.frequency, value_at(tree, "byDay"))? else {
+    let Some(by_day) = ndays(alloc, frame.frequency, present_at(tree, "byDay"))? else {
         return Ok(None);
     };
-    let Some(by_month_day) = places(alloc, 31, value_at(tree, "byMonthDay"))? else {
+    let Some(by_month_day) = places(alloc, 31, present_at(tree, "byMonthDay"))? else {
         return Ok(None);
     };
-    let Some(by_month) = months(alloc, value_at(tree, "byMonth"))? else {
+    let Some(by_month) = months(alloc, present_at(tree, "byMonth"))? else {
         return Ok(None);
     };
-    let Some(by_set) = places(alloc, 366, value_at(tree, "bySetPosition"))? else {
+    let Some(by_set) = places(alloc, 366, present_at(tree, "bySetPosition"))? else {
         return Ok(None);
     };
     settled(alloc, day, frame, by_day, by_month_day, by_month, by_set)

@@ -8,7 +8,7 @@ ghost use Rattle.model_series.specs.RuleLimits.{is_end, is_month, is_nday, is_pl
 ghost use Rattle.model_series.specs.RuleObjects.{end_in, frequency_in, frequency_named, interval_in, local_at, month_in, month_of_number, nday_in, nday_of, nth_in, place_in, place_of, thousand_in, thousand_of, week_start_in, weekday_in, weekday_named};
 ghost use Rattle.model_time.specs.Walls.{is_in_years};
 
-use crate::words::{is_nday_object, value_at};
+use crate::words::{is_nday_object, present_at};
 use model_json::tree::Tree;
 use model_series::by_part::{End, Freq, NDay};
 use model_time::wall::Wall;
@@ -279,7 +279,7 @@ pub(crate) fn nday(frequency: Freq, item: &Tree) -> Option<NDay>
         return None;
     }
     nday_of(
-        day_at(value_at(item, "day")),
-        nth(frequency, value_at(item, "nthOfPeriod")),
+        day_at(present_at(item, "day")),
+        nth(frequency, present_at(item, "nthOfPeriod")),
     )
 }

@@ -4,7 +4,7 @@ ghost use Rattle.std.specs.List.{list_all, list_any};
 ghost use Rattle.std.specs.Str.{bytes_eq};
 ghost use Rattle.model_json.specs.Data.{items_of, list};
 ghost use Rattle.model_json.specs.TreeData.{data_of, pair_of};
-ghost use Rattle.model_series.specs.RuleObjects.{has_only, has_right_words, is_absent, is_nday_object, is_rule_object, is_word_or_absent, nday_names, present, rule_names, value_at};
+ghost use Rattle.model_series.specs.RuleObjects.{has_only, has_right_words, is_absent, is_nday_object, is_rule_object, is_word_or_absent, nday_names, present, rule_names, present_at};
 
 use model_json::tree::{Member, Tree};
 
@@ -28,8 +28,8 @@ fn are_none(items: &[Tree]) -> bool
 }
 
 /// The value at a key, where it isn't absent. Takes no memory.
-pub(crate) fn value_at<'a>(tree: &'a Tree, key: &str) -> Option<&'a Tree>
-    ensures { option_map (λ t. data_of t.now) result ≡ value_at key.now (data_of tree.now) }
+pub(crate) fn present_at<'a>(tree: &'a Tree, key: &str) -> Option<&'a Tree>
+    ensures { option_map (λ t. data_of t.now) result ≡ present_at key.now (data_of tree.now) }
 {
     match tree.get(key) {
         Some(value) => given(value),
@@ -46,9 +46,9 @@ fn given(value: &Tree) -> Option<&Tree>
 
 // Whether the value at a key is this word, or absent.
 fn is_word_or_absent(tree: &Tree, key: &str, word: &str) -> bool
-    ensures { result ≡ is_word_or_absent word.now (value_at key.now (data_of tree.now)) }
+    ensures { result ≡ is_word_or_absent word.now (present_at key.now (data_of tree.now)) }
 {
-    match value_at(tree, key) {
+    match present_at(tree, key) {
         Some(Tree::Text(text)) => text.as_str() == word,
         Some(_) => false,
         None => true,

@@ -3,7 +3,7 @@ ghost use Rattle.std.specs.Prelude.{◌≡◌, ◌≤◌, ◌<◌, IfSome, true,
 ghost use Rattle.std.specs.Char.{is_ascii_digit};
 ghost use Rattle.std.specs.List.{list_all};
 ghost use Rattle.model_json.specs.Number.{value_of_digits};
-ghost use Rattle.model_time.specs.Durations.{amount, behind, clock_in, digits_first, duration_in, has_part, parts_in, seconds_in, IsShort};
+ghost use Rattle.model_time.specs.Durations.{amount, behind_part, clock_in, digits_first, duration_in, has_part, parts_in, seconds_in, IsShortLength};
 
 use model_time::length::Length;
 
@@ -18,7 +18,7 @@ struct Part<'a> {
 /// Reads a Duration (RFC 8984 section 1.4.6). None where the text is anything else. Takes no memory.
 pub fn read_duration(text: &[u8]) -> Option<Length>
     ensures value { result ≡ duration_in text.now }
-    ensures bound { IfSome result IsShort }
+    ensures bound { IfSome result IsShortLength }
 {
     match text.split_first() {
         Some((letter, parts)) => {
@@ -34,7 +34,7 @@ pub fn read_duration(text: &[u8]) -> Option<Length>
 
 fn read_parts(text: &[u8]) -> Option<Length>
     ensures value { result ≡ parts_in text.now }
-    ensures bound { IfSome result IsShort }
+    ensures bound { IfSome result IsShortLength }
 {
     let weeks = first_part(text, b'W');
     let days = first_part(weeks.behind, b'D');
@@ -78,12 +78,12 @@ fn read_clock(text: &[u8]) -> Option<u64>
 }
 
 // The part of this letter that stands first, if there is one.
-#[tactic(auto, unfolding(model_time::specs::Durations::amount, model_time::specs::Durations::behind))]
+#[tactic(auto, unfolding(model_time::specs::Durations::amount, model_time::specs::Durations::behind_part))]
 fn first_part(text: &[u8], letter: u8) -> Part<'_>
     requires { 0 < letter }
     ensures is_there { result.is_there ≡ has_part letter text.now }
     ensures amount { result.amount ≡ amount letter text.now }
-    ensures behind { result.behind.now ≡ behind letter text.now }
+    ensures behind { result.behind.now ≡ behind_part letter text.now }
     ensures bound { result.amount < 1000000000 }
 {
     let digits = digits_first(text);
