@@ -1,7 +1,8 @@
 //! Openers in memory.
 
-ghost use Rattle.std.specs.Prelude.{◌≡◌, ◌+◌, List, ℕ, Some, map, string_bytes};
-ghost use Rattle.io_edge.specs.FailingCalls.{faults_of};
+ghost use Rattle.std.specs.Prelude.{◌≡◌, ◌+◌, ◌≤◌, List, ℕ, Err, IfOk, Some, map, string_bytes};
+ghost use Rattle.io_edge.specs.FailingCalls.{CountsCall, faults_of};
+ghost use Rattle.io_edge.specs.Outside.{IsMissing, IsThere, Loads, Rose};
 
 use crate::failing_calls::FailingCalls;
 use crate::opener::{LoadError, Opener};
@@ -65,7 +66,18 @@ impl MemOpener {
 impl Opener for MemOpener {
     ghost shown = { λ opener. record { files = Some (map (λ file. (string_bytes file.0, file.1.items)) opener.inner.files.items); faults = faults_of opener.failing } };
 
-    fn load(&mut self, name: &str, most: u64) -> Result<Vec<u8>, LoadError> {
+    fn load(&mut self, name: &str, most: u64) -> Result<Vec<u8>, LoadError>
+        ensures files { (⟦<MemOpener as Opener>⟧.shown self.new).files ≡ (⟦<MemOpener as Opener>⟧.shown self.old).files }
+        ensures ok { IfOk result (λ bytes. Loads (⟦<MemOpener as Opener>⟧.shown self.old).files name.now most bytes.items) }
+        ensures missing { result ≡ Err LoadError.Missing → IsMissing (⟦<MemOpener as Opener>⟧.shown self.old).files name.now }
+        ensures no_memory { result ≡ Err LoadError.NoMemory → IsThere (⟦<MemOpener as Opener>⟧.shown self.old).files name.now }
+        ensures later { (⟦<MemOpener as Opener>⟧.shown self.old).faults ≤ (⟦<MemOpener as Opener>⟧.shown self.new).faults }
+        ensures failed { result ≡ Err LoadError.Failed → Rose (⟦<MemOpener as Opener>⟧.shown self.old).faults (⟦<MemOpener as Opener>⟧.shown self.new).faults }
+        ensures missing_is_no_fault { result ≡ Err LoadError.Missing → (⟦<MemOpener as Opener>⟧.shown self.new).faults ≡ (⟦<MemOpener as Opener>⟧.shown self.old).faults }
+
+        // The listed calls fail and no other does.
+        ensures listed { CountsCall self.old.failing self.new.failing (result ≡ Err LoadError.Failed) }
+    {
         if self.failing.next_fails() {
             return Err(LoadError::Failed);
         }
