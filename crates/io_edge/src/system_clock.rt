@@ -1,7 +1,7 @@
 //! The system's clock.
 
 ghost use Rattle.std.specs.Prelude.{◌≡◌, ◌/◌, None, pos};
-ghost use Rattle.core.specs.Duration.{as_nanos};
+ghost use Rattle.std.specs.Duration.{as_nanos};
 ghost use Rattle.std.specs.Time.{FitsClock};
 
 use crate::clock::Clock;
