@@ -5,6 +5,7 @@ use Rattle.std.proofs.lemmas.List.{length-map}
 use Rattle.std.specs.Io.KnownBytes.{Consumes, IsAtEnd}
 use Rattle.std.specs.Prelude.{◌⊎◌, IfSome}
 use Rattle.model_batch.proofs.Chains.{spent_stop}
+use Rattle.model_batch.specs.Batch.{NextMeans}
 use Rattle.model_batch.specs.Chain.{Shown}
 use Rattle.model_http.specs.Messages.{Message}
 use Rattle.model_http.specs.Pipeline.{Ending, EndsAs, Reads, undecided, bad_head, close_asked, quota_spent}
@@ -12,7 +13,8 @@ use Rattle.model_connection.specs.Serving.{EndHow, IsUnanswered, Rests, Serves, 
 use Rattle.model_connection.specs.Exchanges.{Begun, Told, Exchange, all_bytes, called, messages_of, uncalled}
 use Rattle.model_history.specs.MostTurns.{most_turns}
 use Rattle.io_edge.specs.Outside.{Grows}
-use Rattle.model_site.specs.Configuration.{Site}
+use Rattle.model_site.specs.Configuration.{Site, user_at}
+use Rattle.model_time.specs.Moments.{clamped}
 use Rattle.model_batch.specs.declared.desk.DeskError.TheVariants as reason
 use Rattle.model_connection.specs.declared.served.ConnEnd.{ConnEnd}
 use Rattle.model_connection.specs.declared.served.ConnEnd.TheVariants as end
@@ -86,7 +88,7 @@ module _ {site : Site} {most : ℕ} {x x' : Setting} {served : Served} (s : Serv
 
 spent_call : {site : Site} {close : Bool} {t : Exchange} {u v : Shown} → Begun site close t reason.PassSpent u v → (u.turns ≡ most_turns) × (v ≡ u)
 spent_call (uncalled is moments none same) = absurd (cc)
-spent_call {site} {close} {t} {u} {v} (called b) = (let begins = b.begins in spent_stop _ _ u v begins.stops)
+spent_call {site} {close} {t} {u} {v} (called b) = (let r = b.begins in spent_stop (NextMeans (user_at site b.user) r.request (clamped b.moment) r.steps r.rest) (clamped b.moment) u v r.stops)
 
 pub spent_turns : {site : Site} {close : Bool} {t : Exchange} {u v : Shown} → Begun site close t reason.PassSpent u v → v.turns ≡ most_turns
 spent_turns b = (let spent = spent_call b in ap (λ (d : Shown). d.turns) spent.1 ∙ spent.0)
