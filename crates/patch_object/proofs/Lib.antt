@@ -1,2 +1,3 @@
-pub mod CursorLemmas
 pub mod Paths
+pub mod ChangeLemmas
+pub mod CursorLemmas

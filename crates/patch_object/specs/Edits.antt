@@ -46,3 +46,8 @@ abbrev pub is_group : List Change → Bool
 is_group [] = false
 is_group (e ∷ []) = true
 is_group (e ∷ (f ∷ fs)) = all_through_first e.0 (e ∷ f ∷ fs)
+
+-- how many parts the longest pointer has
+abbrev pub longest : List Edit → ℕ
+longest [] = 0
+longest (e ∷ es) = max (length e.pointer) (longest es)

@@ -33,20 +33,22 @@ pub(crate) fn place(tree: Tree, edits: &[Edit], i: usize) -> Result<Tree, AllocE
 }
 
 #[cycle(place)]
+#[tactic(auto, using(crate::proofs::ChangeLemmas::placed_on))]
 fn place_in(object: TreeObject, edits: &[Edit], i: usize) -> Result<TreeObject, AllocError>
     ensures { IfOk result (λ o. o ≡ placed_each (map (change_from i) edits.now) object) }
 {
     let mut cursor = Cursor::new(object);
-    let mut rest = edits;
-    while !rest.is_empty() {
-        let n = group_len(rest, i);
-        cursor = place_group(cursor, &rest[..n], i)?;
-        rest = &rest[n..];
+    let mut done = 0;
+    while done < edits.len() {
+        let n = group_len(&edits[done..], i);
+        cursor = place_group(cursor, &edits[done..done + n], i)?;
+        done += n;
     }
     cursor.into_object()
 }
 
 #[cycle(place)]
+#[tactic(auto, using(crate::proofs::ChangeLemmas::group_ended, crate::proofs::ChangeLemmas::group_leaf, crate::proofs::ChangeLemmas::group_nowhere, crate::proofs::ChangeLemmas::group_within))]
 fn place_group(cursor: Cursor, group: &[Edit], i: usize) -> Result<Cursor, AllocError>
     requires { IsTrue (is_group (map (change_from i) group.now)) }
     ensures { IfOk result (λ c. c ≡ placed_each (map (change_from i) group.now) cursor) }
@@ -82,6 +84,7 @@ fn group_len(edits: &[Edit], i: usize) -> usize
 }
 
 // How many edits at the front go through the member with this key at the place `i` of their parts.
+#[tactic(auto, using(crate::proofs::ChangeLemmas::through_more))]
 fn through_len(edits: &[Edit], key: &Text, i: usize) -> usize
     ensures bound { result ≤ length edits.now }
     ensures through { IsTrue (all_through key.now (map (change_from i) (take result edits.now))) }
@@ -95,10 +98,14 @@ fn through_len(edits: &[Edit], key: &Text, i: usize) -> usize
 }
 
 // Whether these parts from the place `i` on begin with this key and go on behind it.
+#[tactic(auto, using(crate::proofs::ChangeLemmas::through_long, crate::proofs::ChangeLemmas::through_short))]
 fn goes_through(parts: &[Text], key: &Text, i: usize) -> bool
     ensures { result ≡ goes_through key.now (drop i parts.now) }
 {
-    i < parts.len() && parts.len() - i > 1 && parts[i].as_str() == key.as_str()
+    if i >= parts.len() || i + 1 == parts.len() {
+        return false;
+    }
+    parts[i].as_str() == key.as_str()
 }
 
 fn put_or_remove(cursor: Cursor, key: &Text, value: &Tree) -> Result<Cursor, AllocError>
