@@ -1,3 +1,4 @@
 pub mod Paths
 pub mod ChangeLemmas
 pub mod CursorLemmas
+pub mod PointerLemmas
