@@ -42,7 +42,7 @@ with_with : (k : List ℕ) (u v : Data) (ps : List Pair) → with_pair k v (with
 with_with k u v [] = rw (equal_not_below k k (same_key k), same_key k) refl
 with_with k u v (p ∷ ps) = with_step k u v p ps (with_with k u v ps) (is_lt (slice_cmp nat_cmp p.0 k)) (bytes_eq p.0 k) refl refl
 
-on_on : (f g : List Pair → List Pair) (d : Data) → on_members f (on_members g d) ≡ on_members (λ ms. f (g ms)) d
+pub on_on : (f g : List Pair → List Pair) (d : Data) → on_members f (on_members g d) ≡ on_members (λ ms. f (g ms)) d
 on_on f g own.null = refl
 on_on f g (own.truth b) = refl
 on_on f g (own.whole n) = refl

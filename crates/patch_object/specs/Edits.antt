@@ -17,6 +17,9 @@ change_of e = (e.pointer, data_of e.value.now)
 abbrev pub change_from : ℕ → Edit → Change
 change_from i e = (drop i e.pointer, data_of e.value.now)
 
+abbrev pub pointer_of : Edit → List (List ℕ)
+pointer_of e = e.pointer
+
 -- the members with these changes made
 abbrev pub placed_each : List Change → List Pair → List Pair
 placed_each [] ms = ms
