@@ -8,16 +8,12 @@ use Rattle.model_json.specs.Patch.{fails, first_failing, has_parent, is_prefix, 
 use Rattle.model_json.specs.Pointer.{parts}
 use Rattle.model_json.specs.TreeData.{data_of}
 use Rattle.patch_object.proofs.ChangeLemmas.{on_on, placed_on}
+use Rattle.patch_object.proofs.PointerLemmas.{or_swap}
 use Rattle.patch_object.specs.Edits.{Change, change_of, placed_each, pointer_of}
 use Rattle.patch_object.specs.Reports.{Reports, ReportsKey}
 use Rattle.patch_object.specs.declared.patch.PatchError.{PatchError}
 use Rattle.patch_object.specs.declared.patch.PatchError.TheVariants.{InvalidPatch, NoMemory}
 use Rattle.patch_object.specs.declared.place.Edit.{Edit}
-
-or_swap : (a b c : Bool) → (a || (b || c)) ≡ (b || (a || c))
-or_swap true true c = refl
-or_swap true false c = refl
-or_swap false b c = refl
 
 any_more : (f : List (List ℕ) → Bool) (es : List Edit) (e : Edit) → list_any f (map pointer_of (es ++ e ∷ [])) ≡ (f e.pointer || list_any f (map pointer_of es))
 any_more f [] e = refl
