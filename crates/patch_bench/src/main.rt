@@ -33,12 +33,7 @@ fn tell(rt: &HostRuntime, tree: &Tree, patch: &TreeObject) -> io::Result<()> {
 }
 
 /// The least time of so many rounds, in nanoseconds.
-fn least_time(
-    rt: &HostRuntime,
-    tree: &Tree,
-    patch: &TreeObject,
-    rounds: u32,
-) -> io::Result<u128> {
+fn least_time(rt: &HostRuntime, tree: &Tree, patch: &TreeObject, rounds: u32) -> io::Result<u128> {
     let mut least = u128::MAX;
     for _ in 0..rounds {
         let start = Instant::now(rt)?;

@@ -1,5 +1,5 @@
 -- Changes that go through the same member are made in it at once.
-use Rattle.std.proofs.Common.{◌≡◌, zero, suc, ◌+◌, ◌<◌, ◌≤◌, ℕ, List, [], ◌∷◌, ◌++◌, Bool, true, false, Option, Some, None, if◌then◌else◌, get_or, drop, take, length, map, add-one, arith, sym, ap, refl, ◌∙◌, subst}
+use Rattle.std.proofs.Common.{◌≡◌, zero, suc, ◌+◌, ◌<◌, ◌≤◌, ℕ, List, [], ◌∷◌, ◌++◌, Bool, true, false, Some, None, get_or, drop, take, length, map, add-one, arith, sym, ap, refl, ◌∙◌, subst}
 use Rattle.std.proofs.lemmas.Bool.{and_from}
 use Rattle.std.proofs.lemmas.List.{drop-drop, map-append, take-append-drop}
 use Rattle.std.proofs.lemmas.Slice.Eq.{bytes_eq-Decides}
@@ -12,7 +12,7 @@ use Rattle.model_json.specs.Data as own
 use Rattle.model_json.specs.Data.{Data, Pair, lookup, members_of, object, pairs_back, pairs_of}
 use Rattle.model_json.specs.Edit.{with_pair, without}
 use Rattle.model_json.specs.ObjectKeys.{keys_rise}
-use Rattle.model_json.specs.Patch.{on_members, on_found, placed_in, put_or_removed}
+use Rattle.model_json.specs.Patch.{on_members, placed_in, put_or_removed}
 use Rattle.model_json.specs.TreeData.{data_of}
 use Rattle.patch_object.proofs.Paths.{without-absent}
 use Rattle.patch_object.specs.Edits.{Change, all_through, all_through_first, behind_first, change_from, goes_through, is_group, longest, placed_each}

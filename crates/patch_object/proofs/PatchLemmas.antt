@@ -1,5 +1,5 @@
 -- The keys of a patch, tested one after the other, and the changes that they ask for.
-use Rattle.std.proofs.Common.{◌≡◌, ℕ, List, [], ◌∷◌, ◌++◌, ◌||◌, not, Bool, true, false, Option, Some, None, if◌then◌else◌, map, sym, ap, refl, ◌∙◌}
+use Rattle.std.proofs.Common.{◌≡◌, ℕ, List, [], ◌∷◌, ◌++◌, ◌||◌, not, Bool, false, Option, Some, None, map, sym, ap, refl, ◌∙◌}
 use Rattle.std.proofs.lemmas.List.{map-append}
 use Rattle.std.specs.List.{list_any}
 use Rattle.model_json.specs.Data as own
@@ -9,7 +9,7 @@ use Rattle.model_json.specs.Pointer.{parts}
 use Rattle.model_json.specs.TreeData.{data_of}
 use Rattle.patch_object.proofs.ChangeLemmas.{on_on, placed_on}
 use Rattle.patch_object.proofs.PointerLemmas.{or_swap}
-use Rattle.patch_object.specs.Edits.{Change, change_of, placed_each, pointer_of}
+use Rattle.patch_object.specs.Edits.{change_of, placed_each, pointer_of}
 use Rattle.patch_object.specs.Reports.{Reports, ReportsKey}
 use Rattle.patch_object.specs.declared.patch.PatchError.{PatchError}
 use Rattle.patch_object.specs.declared.patch.PatchError.TheVariants.{InvalidPatch, NoMemory}
@@ -72,7 +72,7 @@ placed_more : (es : List Edit) (e : Edit) (d : Data) (p : Pair) (rest : List Pai
 placed_more es e d p rest read value =
     let split = map-append change_of es (e ∷ []) in
     let made : on_members (placed_each (map change_of (es ++ e ∷ []))) d ≡ on_members (λ ms. placed_in e.pointer (data_of e.value.now) ms) (on_members (placed_each (map change_of es)) d) =
-        rw split (same_on _ _ d (λ ms. sym (placed_on (map change_of es) (change_of e ∷ []) ms)) ∙ sym (on_on (λ ms. placed_in e.pointer (data_of e.value.now) ms) (placed_each (map change_of es)) d)) in
+    rw split (same_on _ _ d (λ ms. sym (placed_on (map change_of es) (change_of e ∷ []) ms)) ∙ sym (on_on (λ ms. placed_in e.pointer (data_of e.value.now) ms) (placed_each (map change_of es)) d)) in
     rw (read, value) (ap (λ c. placed_all c rest) made)
 
 -- all of it at once, for the next key
@@ -81,7 +81,8 @@ pub tested_more : (d : Data) (earlier later : List (List (List ℕ))) (es es' : 
     → parts p.0 ≡ Some e.pointer → p.1 ≡ data_of e.value.now → fails d earlier (Some e.pointer) ≡ false
     → first_failing d (map pointer_of es) left ≡ first_failing d [] patch → placed_all (on_members (placed_each (map change_of es)) d) left ≡ placed_all d patch
     → (first_failing d (map pointer_of es') rest ≡ first_failing d [] patch) × ((ps : List (List ℕ)) → list_any (λ q. is_prefix q ps) later ≡ list_any (λ q. is_prefix q ps) (map pointer_of es')) × (placed_all (on_members (placed_each (map change_of es')) d) rest ≡ placed_all d patch)
-tested_more d earlier later es es' e p left rest patch pushed next same added read value passed failing placed =
-    (ap (λ ds. first_failing d (map pointer_of ds) rest) pushed ∙ sym (passes d earlier es e p rest same read passed) ∙ ap (λ ms. first_failing d (map pointer_of es) ms) (sym next) ∙ failing,
-    (λ ps. earlier_more earlier later es e same added ps ∙ ap (λ ds. list_any (λ q. is_prefix q ps) (map pointer_of ds)) (sym pushed)),
-    ap (λ ds. placed_all (on_members (placed_each (map change_of ds)) d) rest) pushed ∙ placed_more es e d p rest read value ∙ ap (λ ms. placed_all (on_members (placed_each (map change_of es)) d) ms) (sym next) ∙ placed)
+tested_more d earlier later es es' e p left rest patch pushed next same added read value passed failing placed = (
+  ap (λ ds. first_failing d (map pointer_of ds) rest) pushed ∙ sym (passes d earlier es e p rest same read passed) ∙ ap (λ ms. first_failing d (map pointer_of es) ms) (sym next) ∙ failing,
+  (λ ps. earlier_more earlier later es e same added ps ∙ ap (λ ds. list_any (λ q. is_prefix q ps) (map pointer_of ds)) (sym pushed)),
+  ap (λ ds. placed_all (on_members (placed_each (map change_of ds)) d) rest) pushed ∙ placed_more es e d p rest read value ∙ ap (λ ms. placed_all (on_members (placed_each (map change_of es)) d) ms) (sym next) ∙ placed,
+)

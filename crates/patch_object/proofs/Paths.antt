@@ -1,11 +1,8 @@
 -- A key that isn't there can't be taken out.
-use Rattle.std.proofs.Common.{◌≡◌, zero, suc, ◌+◌, ◌<◌, ℕ, List, [], ◌∷◌, Bool, true, false, Option, Some, None, if◌then◌else◌, get_or, drop, length, add-one, arith, sym, ap, refl}
+use Rattle.std.proofs.Common.{◌≡◌, ℕ, List, [], ◌∷◌, Bool, true, false, Option, Some, None, if◌then◌else◌, ap, refl}
 use Rattle.std.specs.Str.{bytes_eq}
-use Rattle.model_json.proofs.EditLemmas.{with_pair-without}
 use Rattle.model_json.specs.Data.{Data, Pair, lookup}
-use Rattle.model_json.specs.Edit.{with_pair, without}
-use Rattle.model_json.specs.ObjectKeys.{keys_rise}
-use Rattle.model_json.specs.Patch.{on_members, placed_in}
+use Rattle.model_json.specs.Edit.{without}
 
 absent_step : (b : Bool) (d : Data) (o : Option Data) (x y z : List Pair) → (if b then Some d else o) ≡ None → (o ≡ None → y ≡ z) → (if b then x else y) ≡ z
 absent_step true d o x y z h f = cc

@@ -1,5 +1,5 @@
 -- Members that are put in or taken out, one after the other.
-use Rattle.std.specs.Prelude.{ℕ, List, [], ◌∷◌, ◌&&◌, Bool, true, false, drop, map, max, length}
+use Rattle.std.specs.Prelude.{ℕ, List, [], ◌∷◌, ◌&&◌, Bool, true, false, drop, max, length}
 use Rattle.std.specs.Str.{bytes_eq}
 use Rattle.model_json.specs.Data.{Data, Pair}
 use Rattle.model_json.specs.Patch.{placed_in}

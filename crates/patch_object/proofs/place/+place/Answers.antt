@@ -1,8 +1,7 @@
-use Rattle.std.proofs.Common.{◌≡◌, ◌+◌, ◌-◌, ◌≤◌, ℕ, map, length, true, take, drop, arith, sym, ap, ◌∙◌, subst}
-use Rattle.std.proofs.lemmas.Grind.{common_steps}
+use Rattle.std.proofs.Common.{◌≡◌, ◌+◌, ◌-◌, ◌≤◌, ℕ, map, true, take, drop, arith, sym, ◌∙◌, subst}
 use Rattle.std.proofs.lemmas.List.{take_rest}
-use Rattle.patch_object.proofs.ChangeLemmas.{longest_drop, longest_take, longest_first, groups_on}
-use Rattle.patch_object.specs.Edits.{change_from, is_group, placed_each, longest}
+use Rattle.patch_object.proofs.ChangeLemmas.{longest_drop, longest_take, groups_on}
+use Rattle.patch_object.specs.Edits.{change_from, is_group, longest}
 use Rattle.patch_object.proofs.place.+place.Goals as goal
 
 pub place_in-place_group-requires : goal.place_in-place_group-requires

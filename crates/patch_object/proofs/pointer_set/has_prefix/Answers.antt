@@ -1,4 +1,4 @@
-use Rattle.std.proofs.Common.{◌≡◌, ◌<◌, ◌+◌, ℕ, true, false, sym, arith, ◌∙◌}
+use Rattle.std.proofs.Common.{◌≡◌, false, sym, arith, ◌∙◌}
 use borrow.Author.Count.{below_more}
 use Rattle.std.specs.List.{list_any}
 use Rattle.patch_object.proofs.PointerLemmas.{found_prefix, front_at, no_prefix}

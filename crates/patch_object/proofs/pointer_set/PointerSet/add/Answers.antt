@@ -1,4 +1,4 @@
-use Rattle.std.proofs.Common.{◌≡◌, ◌||◌, ap, ◌∙◌, map}
+use Rattle.std.proofs.Common.{◌||◌, ap, ◌∙◌, map}
 use Rattle.std.specs.List.{list_any}
 use Rattle.model_json.specs.Patch.{is_prefix}
 use Rattle.patch_object.specs.Paths.{parts_in}
