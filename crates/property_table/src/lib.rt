@@ -1,0 +1,2 @@
+//! Tables of properties.
+#![tactic(auto)]
