@@ -1,6 +1,6 @@
 //! A calendar.
 ghost use Rattle.std.specs.Prelude.{◌≡◌, IfOk, option_map};
-ghost use Rattle.cal_model.specs.CalendarTable.{stored, text_or_null};
+ghost use Rattle.cal_model.specs.Calendar.{stored, text_or_null};
 ghost use Rattle.model_json.specs.TreeData.{data_of};
 ghost use Rattle.model_json.specs.declared.tree.Tree.TheVariants.{Object};
 
@@ -25,7 +25,7 @@ pub struct Calendar {
 }
 
 impl Model for Calendar {
-    ghost use Rattle.cal_model.specs.CalendarTable.{CalendarProperties};
+    ghost use Rattle.cal_model.specs.Calendar.{CalendarProperties};
 
     ghost Value = { CalendarProperties };
 

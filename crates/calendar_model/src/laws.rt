@@ -1,6 +1,6 @@
 //! The law of calendars that are stored and read.
 ghost use Rattle.std.specs.Prelude.{◌≡◌};
-ghost use Rattle.cal_model.specs.CalendarTable.{CalendarProperties, calendar_in, stored};
+ghost use Rattle.cal_model.specs.Calendar.{CalendarProperties, calendar_in, stored};
 ghost use Rattle.model_json.specs.Data.{members_of, object};
 
 /// The object that is stored of a calendar means that calendar.

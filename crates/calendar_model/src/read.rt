@@ -1,6 +1,6 @@
 //! Reads calendars.
 ghost use Rattle.std.specs.Prelude.{◌≡◌, [], IfErr, IfOk, OnOk, pos, true, unwrap_or};
-ghost use Rattle.cal_model.specs.CalendarTable.{bad_properties, calendar_in};
+ghost use Rattle.cal_model.specs.Calendar.{bad_properties, calendar_in};
 ghost use Rattle.calendar_model.specs.Reports.{Reports};
 ghost use Rattle.calendar_model.specs.declared.read.CalendarError.TheVariants.{NoMemory};
 ghost use Rattle.model_json.specs.Parts.{number_at, text_at, truth_at};

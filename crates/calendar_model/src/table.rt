@@ -1,6 +1,6 @@
 //! The table of a calendar's properties.
 ghost use Rattle.std.specs.Prelude.{◌≡◌, Some, IfOk};
-ghost use Rattle.cal_model.specs.CalendarTable.{calendar_table, is_calendar_id};
+ghost use Rattle.cal_model.specs.Calendar.{calendar_table, is_calendar_id};
 ghost use Rattle.model_json.specs.TreeData.{data_of};
 ghost use Rattle.model_site.specs.TimeZones.{has_zone};
 ghost use Rattle.property_table.specs.Table.{test_at};
@@ -20,7 +20,7 @@ pub(crate) struct CalendarTable<'a> {
 }
 
 impl PropertyTable for CalendarTable<'_> {
-    ghost use Rattle.cal_model.specs.CalendarTable.{calendar_table};
+    ghost use Rattle.cal_model.specs.Calendar.{calendar_table};
 
     ghost table = { λ t. calendar_table t.zones.now };
 
@@ -33,7 +33,7 @@ impl PropertyTable for CalendarTable<'_> {
     }
 }
 
-#[tactic(auto, unfolding(cal_model::specs::CalendarTable::calendar_table))]
+#[tactic(auto, unfolding(cal_model::specs::Calendar::calendar_table))]
 fn passes(zones: &Zones, name: &str, value: &Tree) -> bool
     ensures { result ≡ test_at (calendar_table zones.now) name.now (Some (data_of value.now)) }
 {

@@ -1,6 +1,6 @@
 use Rattle.std.proofs.Common.{◌≡◌, ⊎_elim, refl, sym, true, false}
 use Rattle.property_table.proofs.TableLemmas.{unlike}
-use Rattle.cal_model.specs.CalendarTable.{calendar_table}
+use Rattle.cal_model.specs.Calendar.{calendar_table}
 use Rattle.calendar_model.proofs.table.passes.Goals as goal
 
 pub returns-in-timeZone : goal.returns-in-timeZone
