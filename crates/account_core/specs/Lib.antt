@@ -1,3 +1,4 @@
 pub mod IdsByKey
-pub mod Outcome
+pub mod PageObject
 pub mod Tally
+pub mod Ledger

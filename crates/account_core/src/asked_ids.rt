@@ -2,7 +2,7 @@
 ghost use Rattle.std.specs.Prelude.{◌≡◌, IfOk, List, OnOk, if◌then◌else◌, map, option_and_then, option_map, unwrap_or, ℕ};
 ghost use Rattle.std.specs.Str.{bytes_eq};
 ghost use Rattle.account_core.specs.IdsByKey.{id_at};
-ghost use Rattle.cal_model.specs.Gets.{created_id_at, different, resolved_id};
+ghost use Rattle.cal_model.specs.CreatedIds.{created_id_at, different, resolved_id};
 ghost use Rattle.model_json.specs.Parts.{behind_hash};
 
 use crate::texts::note;

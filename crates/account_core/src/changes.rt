@@ -1,11 +1,11 @@
 //! What changed since a state (RFC 8620 section 5.2).
-ghost use Rattle.std.specs.Prelude.{◌≡◌, ◌≤◌, IfOk, map, option_map, true, unsigned_abs};
+ghost use Rattle.std.specs.Prelude.{◌≡◌, ℕ, [], IfOk, Option, option_map, true, unsigned_abs};
 ghost use Rattle.account_store.specs.Store.{entries};
-ghost use Rattle.cal_model.specs.Answer.{changes_answer};
+ghost use Rattle.account_core.specs.PageObject.{page_object};
+ghost use Rattle.cal_model.specs.Answer.{answered, changes_answer};
 ghost use Rattle.cal_model.specs.Changes.{id_list, is_maximum, page_arguments};
-ghost use Rattle.model_core.specs.declared.numbers.TheConstants.{MAX_UNSIGNED_INT};
 ghost use Rattle.model_history.specs.History.{changes_of};
-ghost use Rattle.model_history.specs.Pages.{mentions};
+ghost use Rattle.model_history.specs.Pages.{mentions, page_end};
 ghost use Rattle.model_json.specs.TreeData.{data_of};
 ghost use Rattle.state_log.specs.IsPage.{IsPage};
 
@@ -15,14 +15,13 @@ use model_call::call::{MethodError, Reply};
 use model_core::numbers::MAX_UNSIGNED_INT;
 use model_history::entry::Kind;
 use model_history::ids::Ids;
-use model_history::object_id::object_id;
 use model_json::lists::Pairs;
 use model_json::num::Num;
 use model_json::text::Text;
 use model_json::tree::{Tree, TreeList};
 use state_log::{ChangesError, Page};
 use std::alloc::{AllocError, Global};
-use time_text::read_state;
+use time_text::{object_id, read_state};
 
 /// Answers what changed since a state. A maximum that isn't one is told before a state that isn't known.
 pub fn changes(

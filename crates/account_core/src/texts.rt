@@ -2,7 +2,7 @@
 ghost use Rattle.std.specs.Prelude.{◌≡◌, IfOk, OnOk};
 ghost use Rattle.std.specs.List.{list_any};
 ghost use Rattle.std.specs.Str.{bytes_eq};
-ghost use Rattle.cal_model.specs.Gets.{different, with_text};
+ghost use Rattle.cal_model.specs.CreatedIds.{different, with_text};
 
 use model_json::text::Text;
 use std::alloc::{AllocError, Global};

@@ -1,5 +1,5 @@
 use Rattle.std.proofs.Common.{◌≡◌, fold, drop, map}
-use Rattle.cal_model.specs.Gets.{different, resolved_id, with_text}
+use Rattle.cal_model.specs.CreatedIds.{different, resolved_id, with_text}
 use Rattle.account_core.proofs.asked_ids.asked_ids.Given as goal
 
 abbrev pub invariant-loop-id : goal.invariant-loop-id

@@ -1,5 +1,5 @@
 use Rattle.std.proofs.Common.{◌≡◌, fold, drop}
-use Rattle.cal_model.specs.Gets.{different, with_text}
+use Rattle.cal_model.specs.CreatedIds.{different, with_text}
 use Rattle.account_core.proofs.texts.different_texts.Given as goal
 
 abbrev pub invariant-loop-text : goal.invariant-loop-text
