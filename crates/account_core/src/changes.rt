@@ -21,7 +21,7 @@ use model_json::text::Text;
 use model_json::tree::{Tree, TreeList};
 use state_log::{ChangesError, Page};
 use std::alloc::{AllocError, Global};
-use time_text::{object_id, read_state};
+use time_text::{object_id_text, read_state};
 
 /// Answers what changed since a state. A maximum that isn't one is told before a state that isn't known.
 pub fn changes(
@@ -110,7 +110,7 @@ fn id_list(alloc: Global, kind: Kind, ids: &Ids) -> Result<Tree, AllocError>
 {
     let mut items = Vec::with_capacity(alloc, ids.items().len())?;
     for id in ids.items() {
-        items.push(Tree::Text(object_id(alloc, kind, *id)?))?;
+        items.push(Tree::Text(object_id_text(alloc, kind, *id)?))?;
     }
     Ok(Tree::List(TreeList::new(items)))
 }

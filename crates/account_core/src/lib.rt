@@ -1,7 +1,7 @@
 //! One account: what it holds, and what it answers.
 #![tactic(auto)]
 
-pub mod account;
+// pub mod account;
 mod asked_ids;
 mod changes;
 mod found;

@@ -20,7 +20,7 @@ pub fn read_object_id(kind: Kind, id: &[u8]) -> Option<u64>
 }
 
 /// The id of the object of a number: the letter of its kind and the number.
-pub fn object_id(alloc: Global, kind: Kind, number: u64) -> Result<Text, AllocError>
+pub fn object_id_text(alloc: Global, kind: Kind, number: u64) -> Result<Text, AllocError>
     ensures { IfOk result (λ t. t ≡ id_text kind number) }
 {
     let id = match kind {
