@@ -2,7 +2,6 @@
 ghost use Rattle.std.specs.Prelude.{◌≡◌, [], Some, IfOk, filter, flat_map, is_some, map, not, option_and_then, option_map};
 ghost use Rattle.cal_model.specs.Gets.{ids_not_found, object_with_id, objects_asked, selected};
 ghost use Rattle.model_history.specs.History.{changes_of};
-ghost use Rattle.model_history.specs.ObjectId.{letter, object_number};
 ghost use Rattle.model_json.specs.Parts.{some_of};
 ghost use Rattle.model_json.specs.TreeData.{data_of};
 ghost use Rattle.model_history.specs.declared.entry.Kind.TheVariants.{Calendar};
@@ -15,7 +14,7 @@ use model_json::lists::Texts;
 use model_json::text::Text;
 use model_json::tree::Tree;
 use std::alloc::{AllocError, Global};
-use time_text::read_number;
+use time_text::read_object_id;
 
 /// What a get finds of the ids asked for.
 #[derive(Drop)]
@@ -26,30 +25,11 @@ pub struct Found {
     pub missing: Vec<Text>,
 }
 
-fn letter(kind: Kind) -> u8
-    ensures { result ≡ letter kind }
-{
-    match kind {
-        Kind::Calendar => b'C',
-        Kind::Event => b'E',
-    }
-}
-
-/// The number of the object that an id names, which is a letter for its kind and a number above 0. Takes no memory.
-fn number_of(kind: Kind, id: &[u8]) -> Option<u64>
-    ensures { result ≡ object_number kind id.now }
-{
-    match id {
-        [first, digits @ ..] if *first == letter(kind) => read_number(digits).filter(|n| *n > 0),
-        _ => None,
-    }
-}
-
 /// The live object of an id. Takes no memory.
 fn object_of_id<'a>(history: &'a [Entry], kind: Kind, id: &Text) -> Option<&'a Tree>
     ensures { option_map (λ t. t.now) result ≡ object_with_id (changes_of history.now) kind id.now }
 {
-    object(history, kind, number_of(kind, id.as_str().as_bytes())?)
+    object(history, kind, read_object_id(kind, id.as_str().as_bytes())?)
 }
 
 /// Copies of objects with those of their members alone that are asked for, and `id`.
