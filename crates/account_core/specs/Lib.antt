@@ -1,4 +1,3 @@
-pub mod IdsByKey
 pub mod PageObject
 pub mod Tally
 pub mod Ledger

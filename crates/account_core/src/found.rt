@@ -8,7 +8,7 @@ ghost use Rattle.model_json.specs.Parts.{some_of};
 ghost use Rattle.model_json.specs.TreeData.{data_of};
 ghost use Rattle.model_history.specs.declared.entry.Kind.TheVariants.{Calendar};
 
-use crate::asked_ids::asked_ids;
+use set_methods::asked_ids::asked_ids;
 use crate::properties::{asked_properties, select};
 use account_store::Store;
 use model_history::entry::Kind;

@@ -1,8 +1,7 @@
 //! One account: what it holds, and what it answers.
 #![tactic(auto)]
 
-// pub mod account;
-mod asked_ids;
+pub mod account;
 mod changes;
 mod found;
 mod get;
@@ -10,4 +9,3 @@ mod ledger;
 mod properties;
 mod reply;
 mod tally;
-mod texts;

@@ -1,7 +1,7 @@
 use Rattle.std.proofs.Common.{◌≡◌, Bool, true, false, Option, Some, cond, option_map, refl, ap, ◌∙◌}
 use Rattle.std.proofs.lemmas.Map.Text.{btree_map_updates_str}
 use Rattle.std.specs.Str.{bytes_eq}
-use Rattle.account_core.proofs.asked_ids.put.Goals as goal
+use Rattle.set_methods.proofs.created_ids.put.Goals as goal
 
 mapped_choice : {X Y : Type 0} (f : X → Y) (b : Bool) (x : X) (o : Option X) → option_map f (cond b (Some x) o) ≡ cond b (Some (f x)) (option_map f o)
 mapped_choice f true x o = refl
