@@ -1,23 +1,17 @@
 //! An account.
-ghost use Rattle.std.specs.Prelude.{◌≡◌, ◌++◌, [], IfOk, OnErr, OnOk};
-ghost use Rattle.account_core.specs.Ledger.{base, entries, staged};
-ghost use Rattle.cal_model.specs.Answer.{entries_from, set_added, set_answer};
-ghost use Rattle.set_methods.specs.Requests.{objects_in};
+ghost use Rattle.std.specs.Prelude.{◌≡◌, [], IfOk};
 
 use crate::changes::changes;
 use crate::get::get;
 use crate::ledger::Ledger;
-use crate::reply::{refusal, reply};
-use cal_model::view::View;
+use crate::reply::refusal;
+use crate::set::set;
 use model_call::call::{Asks, Call, MethodError, Reply};
 use model_history::book::Book;
 use model_history::entry::Kind;
 use model_history::stamp::Stamp;
-use model_json::lists::Pairs;
 use model_json::text::Text;
 use model_time::moment::Moment;
-use set_methods::plan::plan;
-use set_methods::planned::PlanError;
 use set_methods::request::SetRequest;
 use std::alloc::{AllocError, Global};
 use std::marker::Model;
@@ -60,19 +54,84 @@ impl Account {
     }
 }
 
-// Plans a set and takes memory for its entries: the reply, or why the call is refused. After a refusal and after want of memory
-// nothing is staged.
-fn prepare(
-    ledger: &mut Ledger,
-    moment: Moment,
-    request: &SetRequest<'_>,
-    created: &Pairs,
-) -> Result<Reply, PlanError>
-    requires { staged ledger.old ≡ [] }
-    ensures entries { entries ledger.new ≡ entries ledger.old }
-    ensures base { base ledger.new ≡ base ledger.old }
-{
-    let plan = plan(ledger.alloc, ledger, &ledger.zones, &ledger.id, moment, request, created)?;
-    ledger.reserve()?;
-    Ok(reply(&ledger.store, plan.arguments, plan.created))
+impl Book for Account {
+    ghost use Rattle.cal_model.specs.Answer.{answer, added};
+    ghost use Rattle.cal_model.specs.AddedEntries.{added_signed};
+
+    type Call = Call;
+
+    type Reply = Reply;
+
+    ghost base = { λ a. a.0 };
+
+    ghost entries = { λ a. a.1 };
+
+    ghost answer = { answer };
+
+    ghost added = { added };
+
+    fn act(
+        &mut self,
+        author: u32,
+        turn: u64,
+        call: &Call,
+        moment: Moment,
+    ) -> Result<Reply, AllocError> {
+        let ledger = &mut self.ledger;
+        match &call.asks {
+            Asks::Get {
+                kind: Kind::Calendar,
+                ids,
+                properties,
+            } => get(ledger.alloc, &ledger.id, &ledger.store, &call.created, ids, properties),
+            Asks::Changes {
+                kind: Kind::Calendar,
+                since,
+                max,
+            } => changes(ledger.alloc, &ledger.id, &ledger.store, Kind::Calendar, since, max),
+            Asks::Set {
+                kind: Kind::Calendar,
+                if_in_state,
+                create,
+                update,
+                destroy,
+                remove_events,
+            } => {
+                let stamp = Stamp {
+                    author,
+                    turn,
+                    moment,
+                };
+                let request = SetRequest {
+                    kind: Kind::Calendar,
+                    if_in_state,
+                    create,
+                    update,
+                    destroy,
+                    remove_events: *remove_events,
+                };
+                set(ledger, &stamp, &request, &call.created)
+            }
+            Asks::Get {
+                kind: Kind::Event, ..
+            }
+            | Asks::Changes {
+                kind: Kind::Event, ..
+            }
+            | Asks::Set {
+                kind: Kind::Event, ..
+            }
+            | Asks::Query { .. }
+            | Asks::QueryChanges { .. }
+            | Asks::Availability { .. } => {
+                Ok(refusal(ledger.alloc, &ledger.store, MethodError::NotBuilt))
+            }
+        }
+    }
+
+    fn count(&self) -> u64 {
+        self.ledger.store.entries().len() as u64
+    }
+
+    ghost signed = { added_signed };
 }

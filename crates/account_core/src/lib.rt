@@ -8,4 +8,5 @@ mod get;
 mod ledger;
 mod properties;
 mod reply;
+mod set;
 mod tally;
