@@ -109,9 +109,11 @@ fn push_all(store: &mut Store, stamp: &Stamp, changes: Vec<Change>)
 }
 
 impl View for Ledger {
-    ghost use Rattle.account_core.specs.Ledger.{base, history, staged};
+    ghost use Rattle.account_core.specs.Ledger.{base, entries, history, staged};
 
     ghost base = { base };
+
+    ghost entries = { entries };
 
     ghost history = { history };
 
@@ -141,7 +143,7 @@ impl View for Ledger {
         state
     }
 
-    fn entries(&self) -> usize {
+    fn count(&self) -> usize {
         self.tally.entries
     }
 

@@ -67,7 +67,7 @@ fn prepare(
     ensures entries { entries ledger.new ≡ entries ledger.old }
     ensures base { base ledger.new ≡ base ledger.old }
 {
-    let zones = ledger.zones.clone();
+    let zones = ledger.zones.clone()?;
     let account = ledger.id.copy()?;
     let plan = plan(ledger.alloc, ledger, &zones, &account, moment, request, created)?;
     ledger.reserve()?;
