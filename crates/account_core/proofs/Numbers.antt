@@ -1,5 +1,6 @@
 -- Numbers that are given in order.
-use Rattle.std.proofs.Common.{◌≡◌, ◌⊎◌, inl, inr, ◌+◌, ◌<◌, ◌≤◌, ◌==◌, ◌&&◌, Bool, true, false, cond, ℕ, zero, suc, List, [], ◌∷◌, ◌++◌, Option, is_some, length, arith, add-zero, add-one, refl, sym, ap, ◌∙◌, max, not_zero_succ}
+use Rattle.std.proofs.lemmas.Bool.{false≢true}
+use Rattle.std.proofs.Common.{◌≡◌, ◌⊎◌, inl, inr, ◌+◌, ◌<◌, ◌≤◌, ◌==◌, ◌&&◌, ◌||◌, Bool, true, false, cond, ℕ, zero, suc, List, [], ◌∷◌, ◌++◌, Option, is_some, length, arith, add-zero, add-one, refl, sym, ap, ◌∙◌, max, subst}
 use Rattle.std.proofs.lemmas.Bool.Decides.{nat_tests}
 use Rattle.std.proofs.lemmas.List.Folds.{list_any-append}
 use Rattle.std.proofs.lemmas.List.FromFn.{length-range_with_len}
@@ -74,13 +75,13 @@ numbered_if_live (c ∷ cs) kind id before ids h live =
 pub next_is : (cs : List Change) (n : ℕ) (kind : Kind) → ids_at cs kind ≡ range_with_len 1 n → next_number cs kind ≡ n + 1
 next_is cs n kind h = omega (arith, ap length h, length-range_with_len 1 n)
 
-in_range_by : (a n id : ℕ) (same : Bool) → (a == id) ≡ same → ((is_in (range_with_len (a + 1) n) id ≡ true) → id < (a + 1) + n) → cond same true (is_in (range_with_len (a + 1) n) id) ≡ true → id < a + suc n
+in_range_by : (a n id : ℕ) (same : Bool) → (a == id) ≡ same → ((is_in (range_with_len (a + 1) n) id ≡ true) → id < (a + 1) + n) → (same || is_in (range_with_len (a + 1) n) id) ≡ true → id < a + suc n
 in_range_by a n id true is rest h = grind (arith, nat_tests)
 in_range_by a n id false is rest h = omega (arith, rest h)
 
 -- numbers of a range lie in it
 pub in_range : (a n id : ℕ) → is_in (range_with_len a n) id ≡ true → id < a + n
-in_range a zero id h = grind
+in_range a zero id h = absurd (false≢true h)
 in_range a (suc n) id h = in_range_by a n id (a == id) refl (in_range (a + 1) n id) h
 
 -- after a change of the next object or of one that is there the numbers are still in order
@@ -90,5 +91,5 @@ numbers_counted cs c n h (inl next) =
     let number : c.id ≡ n + 1 = next ∙ next_is cs n c.kind h in
     rw (h, number) (with_next n ∙ ap (range_with_len 1) (omega arith))
 numbers_counted cs c n h (inr live) =
-    let known : is_in (range_with_len 1 n) c.id ≡ true = subst (λ ids. is_in ids c.id ≡ true) h (numbered_if_live cs c.kind c.id _ [] (λ e. grind) live) in
+    let known : is_in (range_with_len 1 n) c.id ≡ true = subst (λ ids. is_in ids c.id ≡ true) h (numbered_if_live cs c.kind c.id _ [] (λ e. absurd (false≢true e)) live) in
     rw h (with_known (range_with_len 1 n) c.id known ∙ ap (range_with_len 1) (omega (arith, in_range 1 n c.id known)))

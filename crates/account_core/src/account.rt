@@ -1,5 +1,7 @@
 //! An account.
-ghost use Rattle.std.specs.Prelude.{◌≡◌, [], IfOk};
+ghost use Rattle.std.specs.Prelude.{◌≡◌, ◌++◌, [], IfOk, OnErr, OnOk};
+ghost use Rattle.account_core.specs.Ledger.{base, entries, staged};
+ghost use Rattle.cal_model.specs.Answer.{added, answer};
 
 use crate::changes::changes;
 use crate::get::get;
@@ -25,7 +27,7 @@ pub struct Account {
 }
 
 impl Model for Account {
-    ghost use Rattle.std.specs.Prelude.{List, []};
+    ghost use Rattle.std.specs.Prelude.{◌≡◌, List, []};
     ghost use Rattle.std.specs.Coded.{codes};
     ghost use Rattle.account_core.specs.Ledger.{base, entries, staged};
     ghost use Rattle.model_history.specs.Base.{Base};
@@ -77,56 +79,12 @@ impl Book for Account {
         call: &Call,
         moment: Moment,
     ) -> Result<Reply, AllocError> {
-        let ledger = &mut self.ledger;
-        match &call.asks {
-            Asks::Get {
-                kind: Kind::Calendar,
-                ids,
-                properties,
-            } => get(ledger.alloc, &ledger.id, &ledger.store, &call.created, ids, properties),
-            Asks::Changes {
-                kind: Kind::Calendar,
-                since,
-                max,
-            } => changes(ledger.alloc, &ledger.id, &ledger.store, Kind::Calendar, since, max),
-            Asks::Set {
-                kind: Kind::Calendar,
-                if_in_state,
-                create,
-                update,
-                destroy,
-                remove_events,
-            } => {
-                let stamp = Stamp {
-                    author,
-                    turn,
-                    moment,
-                };
-                let request = SetRequest {
-                    kind: Kind::Calendar,
-                    if_in_state,
-                    create,
-                    update,
-                    destroy,
-                    remove_events: *remove_events,
-                };
-                set(ledger, &stamp, &request, &call.created)
-            }
-            Asks::Get {
-                kind: Kind::Event, ..
-            }
-            | Asks::Changes {
-                kind: Kind::Event, ..
-            }
-            | Asks::Set {
-                kind: Kind::Event, ..
-            }
-            | Asks::Query { .. }
-            | Asks::QueryChanges { .. }
-            | Asks::Availability { .. } => {
-                Ok(refusal(ledger.alloc, &ledger.store, MethodError::NotBuilt))
-            }
-        }
+        let stamp = Stamp {
+            author,
+            turn,
+            moment,
+        };
+        answer(&mut self.ledger, &stamp, call)
     }
 
     fn count(&self) -> u64 {
@@ -134,4 +92,53 @@ impl Book for Account {
     }
 
     ghost signed = { added_signed };
+}
+
+// Answers a call and adds its entries.
+fn answer(ledger: &mut Ledger, stamp: &Stamp, call: &Call) -> Result<Reply, AllocError>
+    requires { staged ledger.old ≡ [] }
+    ensures reply { IfOk result (λ r. r ≡ answer (base ledger.old) (entries ledger.old) call.now stamp.now.moment) }
+    ensures grown { OnOk result (entries ledger.new ≡ entries ledger.old ++ added (base ledger.old) (entries ledger.old) call.now stamp.now) }
+    ensures unchanged { OnErr result (entries ledger.new ≡ entries ledger.old) }
+    ensures staged { staged ledger.new ≡ [] }
+    ensures base { base ledger.new ≡ base ledger.old }
+{
+    match &call.asks {
+        Asks::Get {
+            kind: Kind::Calendar,
+            ids,
+            properties,
+        } => get(ledger.alloc, &ledger.id, &ledger.store, &call.created, ids, properties),
+        Asks::Changes {
+            kind: Kind::Calendar,
+            since,
+            max,
+        } => changes(ledger.alloc, &ledger.id, &ledger.store, Kind::Calendar, since, max),
+        Asks::Set {
+            kind: Kind::Calendar,
+            if_in_state,
+            create,
+            update,
+            destroy,
+            remove_events,
+        } => {
+            let request = SetRequest {
+                kind: Kind::Calendar,
+                if_in_state,
+                create,
+                update,
+                destroy,
+                remove_events: *remove_events,
+            };
+            set(ledger, stamp, &request, &call.created)
+        }
+        Asks::Get { kind: Kind::Event, .. }
+        | Asks::Changes { kind: Kind::Event, .. }
+        | Asks::Set { kind: Kind::Event, .. }
+        | Asks::Query { .. }
+        | Asks::QueryChanges { .. }
+        | Asks::Availability { .. } => {
+            Ok(refusal(ledger.alloc, &ledger.store, MethodError::NotBuilt))
+        }
+    }
 }

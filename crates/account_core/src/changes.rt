@@ -1,13 +1,10 @@
 //! What changed since a state (RFC 8620 section 5.2).
-ghost use Rattle.std.specs.Prelude.{◌≡◌, ℕ, [], IfOk, Option, option_map, true, unsigned_abs};
+ghost use Rattle.std.specs.Prelude.{◌≡◌, IfOk, option_map, true, unsigned_abs};
 ghost use Rattle.account_store.specs.Store.{entries};
 ghost use Rattle.account_core.specs.PageObject.{page_object};
-ghost use Rattle.cal_model.specs.Answer.{answered, changes_answer};
-ghost use Rattle.cal_model.specs.Changes.{id_list, is_maximum, page_arguments};
-ghost use Rattle.model_history.specs.History.{changes_of};
-ghost use Rattle.model_history.specs.Pages.{mentions, page_end};
+ghost use Rattle.cal_model.specs.Answer.{changes_answer};
+ghost use Rattle.cal_model.specs.Changes.{id_list, is_maximum};
 ghost use Rattle.model_json.specs.TreeData.{data_of};
-ghost use Rattle.state_log.specs.IsPage.{IsPage};
 
 use crate::reply::{refusal, reply, state_tree};
 use account_store::Store;
@@ -40,11 +37,15 @@ pub fn changes(
     let Some(state) = read_state(since.as_str().as_bytes()) else {
         return Ok(refusal(alloc, store, MethodError::CannotCalculateChanges));
     };
-    match store.changes(kind, state, limit(most)) {
-        Ok(page) => page_reply(alloc, account, store, kind, since, &page),
-        Err(ChangesError::NotRetained) => Ok(refusal(alloc, store, MethodError::CannotCalculateChanges)),
-        Err(ChangesError::NoMemory) => Err(AllocError),
-    }
+    let page = match store.changes(kind, state, limit(most)) {
+        Ok(page) => page,
+        Err(ChangesError::NotRetained) => {
+            return Ok(refusal(alloc, store, MethodError::CannotCalculateChanges));
+        }
+        Err(ChangesError::NoMemory) => return Err(AllocError),
+    };
+    let arguments = page_tree(alloc, account, store.count(kind), kind, since, &page)?;
+    Ok(reply(store, arguments, Pairs::new(Vec::new(alloc))))
 }
 
 fn is_maximum(most: &Option<Num>) -> bool
@@ -66,23 +67,7 @@ fn limit(most: &Option<Num>) -> Option<u64>
     }
 }
 
-// The reply that tells a page.
-fn page_reply(
-    alloc: Global,
-    account: &Text,
-    store: &Store,
-    kind: Kind,
-    since: &Text,
-    page: &Page,
-) -> Result<Reply, AllocError>
-    ensures { IfOk result (λ r. (k : ℕ) (most : Option ℕ) → IsPage (mentions kind (changes_of (entries store.now))) k most page.now
-        → r ≡ answered (entries store.now) (page_arguments account.now kind (changes_of (entries store.now)) since.now k (page_end (mentions kind (changes_of (entries store.now))) k most)) []) }
-{
-    let arguments = page_tree(alloc, account, store.count(kind), kind, since, page)?;
-    Ok(reply(store, arguments, Pairs::new(Vec::new(alloc))))
-}
-
-// The arguments that tell a page.
+// The arguments that tell a page, where the kind is in this state.
 fn page_tree(
     alloc: Global,
     account: &Text,

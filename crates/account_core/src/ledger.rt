@@ -1,11 +1,9 @@
 //! The history of an account with the changes that a call is about to make.
-ghost use Rattle.std.specs.Prelude.{◌≡◌, ◌<◌, ◌≤◌, ◌++◌, ◌∷◌, [], List, OnErr, OnOk, length};
+ghost use Rattle.std.specs.Prelude.{◌≡◌, ◌<◌, ◌≤◌, ◌^◌, ◌++◌, [], OnErr, OnOk, length};
 ghost use Rattle.account_core.specs.Tally.{Tallies};
 ghost use Rattle.account_store.specs.Store as store_words;
 ghost use Rattle.cal_model.specs.Answer.{entries_from};
-ghost use Rattle.cal_model.specs.Quota.{IsFit, size_of_object};
 ghost use Rattle.model_history.specs.History.{changes_of};
-ghost use Rattle.model_history.specs.declared.entry.Change.{Change as AnyChange};
 
 use crate::tally::Tally;
 use account_store::Store;
@@ -119,6 +117,7 @@ impl View for Ledger {
 
     ghost staged = { staged };
 
+    #[tactic(auto, using(crate::proofs::Committing::object_from_append))]
     fn live(&self, kind: Kind, id: u64) -> Option<&Tree> {
         let mut found = self.store.object(kind, id);
         for change in &self.staged {
@@ -133,6 +132,7 @@ impl View for Ledger {
         self.tally.created(kind)
     }
 
+    #[tactic(auto, using(crate::proofs::Committing::state_at_append))]
     fn state(&self, kind: Kind) -> u64 {
         let mut state = self.store.count(kind);
         for change in &self.staged {

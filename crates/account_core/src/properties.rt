@@ -13,6 +13,7 @@ use model_json::tree::{Member, Tree, TreeObject};
 use std::alloc::{AllocError, Global};
 
 /// Whether this is the name of a property of calendars.
+#[tactic(auto, unfolding(cal_model::specs::Calendar::calendar_table))]
 fn is_property(name: &str) -> bool
     ensures { result ≡ is_calendar_property name.now }
 {
