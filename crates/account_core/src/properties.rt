@@ -6,7 +6,7 @@ ghost use Rattle.cal_model.specs.Gets.{are_calendar_properties, is_asked_for, se
 ghost use Rattle.model_json.specs.TreeData.{data_of, pair_of};
 ghost use Rattle.model_json.specs.declared.tree.Tree.{Tree as AnyTree};
 
-use crate::texts::{different_texts, is_among};
+use set_methods::texts::{different_texts, is_among};
 use model_json::lists::Texts;
 use model_json::text::Text;
 use model_json::tree::{Member, Tree, TreeObject};
