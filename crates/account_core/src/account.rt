@@ -10,7 +10,6 @@ use crate::reply::refusal;
 use crate::set::set;
 use model_call::call::{Asks, Call, MethodError, Reply};
 use model_history::book::Book;
-use model_history::entry::Kind;
 use model_history::stamp::Stamp;
 use model_json::text::Text;
 use model_time::moment::Moment;
@@ -105,17 +104,13 @@ fn answer(ledger: &mut Ledger, stamp: &Stamp, call: &Call) -> Result<Reply, Allo
 {
     match &call.asks {
         Asks::Get {
-            kind: Kind::Calendar,
+            kind,
             ids,
             properties,
-        } => get(ledger.alloc, &ledger.id, &ledger.store, &call.created, ids, properties),
-        Asks::Changes {
-            kind: Kind::Calendar,
-            since,
-            max,
-        } => changes(ledger.alloc, &ledger.id, &ledger.store, Kind::Calendar, since, max),
+        } => get(ledger, *kind, &call.created, ids, properties),
+        Asks::Changes { kind, since, max } => changes(ledger, *kind, since, max),
         Asks::Set {
-            kind: Kind::Calendar,
+            kind,
             if_in_state,
             create,
             update,
@@ -123,7 +118,7 @@ fn answer(ledger: &mut Ledger, stamp: &Stamp, call: &Call) -> Result<Reply, Allo
             remove_events,
         } => {
             let request = SetRequest {
-                kind: Kind::Calendar,
+                kind: *kind,
                 if_in_state,
                 create,
                 update,
@@ -132,12 +127,7 @@ fn answer(ledger: &mut Ledger, stamp: &Stamp, call: &Call) -> Result<Reply, Allo
             };
             set(ledger, stamp, &request, &call.created)
         }
-        Asks::Get { kind: Kind::Event, .. }
-        | Asks::Changes { kind: Kind::Event, .. }
-        | Asks::Set { kind: Kind::Event, .. }
-        | Asks::Query { .. }
-        | Asks::QueryChanges { .. }
-        | Asks::Availability { .. } => {
+        Asks::Query { .. } | Asks::QueryChanges { .. } | Asks::Availability { .. } => {
             Ok(refusal(ledger.alloc, &ledger.store, MethodError::NotBuilt))
         }
     }

@@ -1,13 +1,15 @@
 //! Gets of calendars (RFC 8620 section 5.1).
 ghost use Rattle.std.specs.Prelude.{◌≡◌, [], Some, None, true, IfOk, map};
+ghost use Rattle.account_core.specs.Ledger as ledger_words;
 ghost use Rattle.account_store.specs.Store.{entries};
-ghost use Rattle.cal_model.specs.Answer.{answered, get_answer};
+ghost use Rattle.cal_model.specs.Answer.{answered, get_answer, if_built};
 ghost use Rattle.cal_model.specs.Gets.{are_calendar_properties, get_response};
 ghost use Rattle.model_history.specs.History.{changes_of};
 ghost use Rattle.model_json.specs.Data.{items_of, list, text};
 ghost use Rattle.model_json.specs.TreeData.{data_of};
 
 use crate::found::{Found, find_all, find_ids};
+use crate::ledger::Ledger;
 use crate::properties::are_properties;
 use crate::reply::{refusal, reply, state_tree};
 use account_store::Store;
@@ -19,8 +21,25 @@ use model_json::text::Text;
 use model_json::tree::{Tree, TreeList};
 use std::alloc::{AllocError, Global};
 
-/// Answers a get of calendars. A property that calendars don't have is told before too many objects.
+/// Answers a get of objects of a kind.
 pub fn get(
+    ledger: &Ledger,
+    kind: Kind,
+    created: &Pairs,
+    ids: &Option<Texts>,
+    properties: &Option<Texts>,
+) -> Result<Reply, AllocError>
+    ensures { IfOk result (λ r. r ≡ if_built (ledger_words.entries ledger.now) kind
+        (get_answer (ledger_words.base ledger.now).account_id (ledger_words.entries ledger.now) created.now ids.now properties.now)) }
+{
+    match kind {
+        Kind::Calendar => get_calendars(ledger.alloc, &ledger.id, &ledger.store, created, ids, properties),
+        Kind::Event => Ok(refusal(ledger.alloc, &ledger.store, MethodError::NotBuilt)),
+    }
+}
+
+// A property that calendars don't have is told before too many objects.
+fn get_calendars(
     alloc: Global,
     account: &Text,
     store: &Store,
