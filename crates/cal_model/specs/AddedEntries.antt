@@ -1,7 +1,7 @@
 -- What a call adds carries its author and its turn.
 use Rattle.std.specs.Prelude.{ℕ, suc, List, [], ◌∷◌}
 use Rattle.std.proofs.Common.{refl}
-use Rattle.cal_model.specs.Answer.{Form, get_calendars, create_plain, not_built, form_of, added, added_by_form, entries_from}
+use Rattle.cal_model.specs.Answer.{added, entries_from}
 use Rattle.model_history.specs.Base.{Base}
 use Rattle.model_history.specs.Signed.{AreSigned}
 use Rattle.model_call.specs.declared.call.Call.{Call}
@@ -13,10 +13,5 @@ signed_from : (s : Stamp) (cs : List Change) (n : ℕ) → AreSigned s.author s.
 signed_from s [] n = tt
 signed_from s (c ∷ cs) n = (refl, refl, signed_from s cs (suc n))
 
-signed_by_form : (s : Stamp) (h : List Entry) (f : Form) → AreSigned s.author s.turn (added_by_form s h f)
-signed_by_form s h (get_calendars ids properties created) = tt
-signed_by_form s h (create_plain creates) = signed_from s _ 0
-signed_by_form s h not_built = tt
-
 pub added_signed : (b : Base) (h : List Entry) (c : Call) (s : Stamp) → AreSigned s.author s.turn (added b h c s)
-added_signed b h c s = signed_by_form s h (form_of c)
+added_signed b h c s = signed_from s _ 0

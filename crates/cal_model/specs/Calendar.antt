@@ -1,40 +1,76 @@
--- Calendars (draft JMAP for Calendars), and the creates that give a calendar's name and nothing else.
-use Rattle.std.specs.Prelude.{ℕ, pos, List, [], ◌∷◌, ◌&&◌, Bool, true, false, Some, is_some, length, codes, nat_lt, unwrap_or}
-use Rattle.std.specs.Str.{bytes_eq}
-use Rattle.model_json.specs.Data.{Data, Pair, field, lookup, null, truth, whole, text}
-use Rattle.model_core.specs.Id.{is_id}
-use Rattle.model_history.specs.ObjectId.{id_text}
-use Rattle.model_json.specs.Parts.{members_in}
-use Rattle.model_history.specs.declared.entry.Change.{Change}
+-- Calendars (draft JMAP for Calendars): what may stand in an object, and what it means.
+use Rattle.std.specs.Prelude.{ℕ, ℤ, pos, List, [], ◌∷◌, Bool, true, Option, Some, None, is_some, codes, unwrap_or}
+use Rattle.model_json.specs.Data.{Data, Pair, null, truth, whole, text}
+use Rattle.model_json.specs.Parts.{number_at, text_at, truth_at}
+use Rattle.model_core.specs.Names.{is_name}
+use Rattle.model_history.specs.ObjectId.{object_number}
 use Rattle.model_history.specs.declared.entry.Kind.TheVariants.{Calendar}
-use Rattle.model_json.specs.declared.tree.Tree.TheVariants.{Object}
+use Rattle.model_site.specs.TimeZones.{ZoneText, has_zone}
+use Rattle.property_table.specs.Names.{has_name}
+use Rattle.property_table.specs.Table.{Table, failing_of, names_of, never, optional, required}
+use Rattle.property_table.specs.Values.{is_text, is_text_that, is_truth, is_unsigned_int}
 
--- calendar n, with this name and the defaults of all other properties
-abbrev pub calendar : ℕ → Data → List Pair
-calendar n name =
-    (codes "color", null) ∷ (codes "description", null) ∷ (codes "id", text (id_text Calendar n))
-    ∷ (codes "isSubscribed", truth true) ∷ (codes "isVisible", truth true) ∷ (codes "name", name)
-    ∷ (codes "resourceZone", null) ∷ (codes "sortOrder", whole (pos 0)) ∷ (codes "timeZone", null) ∷ []
+abbrev pub is_calendar_id : List ℕ → Bool
+is_calendar_id s = is_some (object_number Calendar s)
+
+-- a calendar has these properties and no others
+unfoldable pub calendar_table : List ZoneText → Table
+calendar_table zones = record {
+  rows =
+      (codes "id", required (is_text_that is_calendar_id))
+      ∷ (codes "name", required (is_text_that is_name))
+      ∷ (codes "description", optional is_text)
+      ∷ (codes "color", optional is_text)
+      ∷ (codes "sortOrder", optional is_unsigned_int)
+      ∷ (codes "isSubscribed", optional is_truth)
+      ∷ (codes "isVisible", optional is_truth)
+      ∷ (codes "timeZone", optional (is_text_that (has_zone zones)))
+      ∷ (codes "resourceZone", optional (is_text_that (has_zone zones)))
+      ∷ [];
+  other = λ name. never;
+}
+
+-- the names of all properties of an object that a calendar may not have so, in byte order
+abbrev pub bad_properties : List ZoneText → Data → List (List ℕ)
+bad_properties zones d = failing_of (calendar_table zones) d
 
 -- the name of a property
 abbrev pub is_calendar_property : List ℕ → Bool
-is_calendar_property name = is_some (lookup name (calendar 0 null))
+is_calendar_property name = has_name (names_of (calendar_table []).rows) name
 
--- a text of 1 to 255 bytes
-abbrev pub is_calendar_name : Data → Bool
-is_calendar_name (text s) = nat_lt 0 (length s) && nat_lt (length s) 256
-is_calendar_name _ = false
+-- the properties of a calendar
+pub record CalendarProperties : Type 0 where
+  pub id : List ℕ
+  pub name : List ℕ
+  pub description : Option (List ℕ)
+  pub color : Option (List ℕ)
+  pub sort_order : ℤ
+  pub is_subscribed : Bool
+  pub is_visible : Bool
+  pub time_zone : Option (List ℕ)
+  pub resource_zone : Option (List ℕ)
 
--- exactly the member `name`
-abbrev pub has_name_alone : List Pair → Bool
-has_name_alone (p ∷ []) = bytes_eq p.0 (codes "name") && is_calendar_name p.1
-has_name_alone _ = false
+-- what an object without bad properties means, by the defaults of what it leaves out
+abbrev pub calendar_in : Data → CalendarProperties
+calendar_in d = record {
+  id = unwrap_or (text_at (codes "id") d) [];
+  name = unwrap_or (text_at (codes "name") d) [];
+  description = text_at (codes "description") d;
+  color = text_at (codes "color") d;
+  sort_order = unwrap_or (number_at (codes "sortOrder") d) (pos 0);
+  is_subscribed = unwrap_or (truth_at (codes "isSubscribed") d) true;
+  is_visible = unwrap_or (truth_at (codes "isVisible") d) true;
+  time_zone = text_at (codes "timeZone") d;
+  resource_zone = text_at (codes "resourceZone") d;
+}
 
--- a creation id with an object that has a name and nothing else
-abbrev pub is_plain_create : Pair → Bool
-is_plain_create p = is_id p.0 && has_name_alone (members_in p.1)
+abbrev pub text_or_null : Option (List ℕ) → Data
+text_or_null None = null
+text_or_null (Some s) = text s
 
--- the change that such a create makes
-abbrev pub new_calendar : ℕ → Data → Change
-new_calendar n create =
-    record { kind = Calendar; id = n; object = Some (Object (calendar n (unwrap_or (field (codes "name") create) null))) }
+-- the members of the object that is stored: all properties, in byte order of their names
+abbrev pub stored : CalendarProperties → List Pair
+stored c =
+    (codes "color", text_or_null c.color) ∷ (codes "description", text_or_null c.description) ∷ (codes "id", text c.id)
+    ∷ (codes "isSubscribed", truth c.is_subscribed) ∷ (codes "isVisible", truth c.is_visible) ∷ (codes "name", text c.name)
+    ∷ (codes "resourceZone", text_or_null c.resource_zone) ∷ (codes "sortOrder", whole c.sort_order) ∷ (codes "timeZone", text_or_null c.time_zone) ∷ []

@@ -3,6 +3,7 @@ use Rattle.std.specs.Prelude.{ℕ, List, [], ◌∷◌, ◌++◌, ◌||◌, Bool
 use Rattle.std.specs.List.{list_all, list_any}
 use Rattle.std.specs.Str.{bytes_eq}
 use Rattle.cal_model.specs.Calendar.{is_calendar_property}
+use Rattle.cal_model.specs.CreatedIds.{different, object_with_id, resolved_id}
 use Rattle.model_json.specs.Data.{Data, text, list, object, Pair, items_of, members_of}
 use Rattle.model_core.specs.declared.limits.TheConstants.{MAX_OBJECTS_IN_GET}
 use Rattle.model_history.specs.History.{live_object, live_at}
@@ -16,26 +17,6 @@ use Rattle.model_history.specs.declared.entry.Kind.{Kind}
 use Rattle.model_history.specs.declared.entry.Kind.TheVariants.{Calendar}
 use Rattle.model_json.specs.declared.tree.Tree.{Tree}
 use Rattle.model_json.specs.declared.tree.Tree.TheVariants.{Object}
-
--- the id of the object that was last created under a key
-abbrev pub created_id_at : List (List ℕ × List ℕ) → List ℕ → Option (List ℕ)
-created_id_at created key = fold (λ found p. if bytes_eq p.0 key then Some p.1 else found) None created
-
--- the id that a text stands for: `#key` is the created id of that key, where there is one (RFC 8620 section 5.3)
-abbrev pub resolved_id : List (List ℕ × List ℕ) → List ℕ → List ℕ
-resolved_id created id = unwrap_or (option_and_then (created_id_at created) (behind_hash id)) id
-
--- the texts with this one, which goes last where it is new
-abbrev pub with_text : List (List ℕ) → List ℕ → List (List ℕ)
-with_text texts t = if list_any (λ u. bytes_eq u t) texts then texts else texts ++ t ∷ []
-
--- the different texts, in order of first mention
-abbrev pub different : List (List ℕ) → List (List ℕ)
-different texts = fold with_text [] texts
-
--- the live object of an id
-abbrev pub object_with_id : List Change → Kind → List ℕ → Option Tree
-object_with_id cs kind id = option_and_then (live_object cs kind) (object_number kind id)
 
 -- a property that is asked for; `id` always is
 abbrev pub is_asked_for : Option (List (List ℕ)) → Pair → Bool

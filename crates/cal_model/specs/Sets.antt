@@ -1,99 +1,106 @@
--- Sets: what comes of creates, and what the reply tells of them (RFC 8620 section 5.3).
-use Rattle.std.specs.Prelude.{ℕ, ◌+◌, List, [], ◌∷◌, ◌++◌, ◌||◌, Bool, false, not, Option, Some, None, option_map, unwrap_or, length, filter, flat_map, sum_by, codes, nat_lt, if◌then◌else◌}
-use Rattle.std.specs.List.{zip}
-use Rattle.cal_model.specs.Calendar.{new_calendar}
-use Rattle.model_json.specs.Data.{Data, null, text, object, Pair, lookup, members_of}
-use Rattle.model_history.specs.History.{next_number}
+-- Sets: what comes of all objects that a call creates, updates and destroys, and what it adds (RFC 8620 section 5.3).
+use Rattle.std.specs.Prelude.{ℕ, ◌+◌, ◌∷◌, ◌++◌, ◌&&◌, Bool, true, false, not, List, [], Option, Some, None, filter, flat_map, fold, length, map, nat_lt, if◌then◌else◌, unwrap_or}
+use Rattle.std.specs.List.{list_all, list_any, zip}
+use Rattle.std.specs.Str.{bytes_eq}
+use Rattle.cal_model.specs.CreatedIds.{resolved_id}
+use Rattle.cal_model.specs.Operations.{Ground, Operation, changes_in, create, destroy, outcomes, update}
+use Rattle.cal_model.specs.declared.outcome.Outcome.{Outcome}
+use Rattle.cal_model.specs.declared.outcome.Outcome.TheVariants.{Accepted, Refused}
+use Rattle.model_call.specs.declared.call.MethodError.{MethodError}
+use Rattle.model_call.specs.declared.call.MethodError.TheVariants.{InvalidArguments, RequestTooLarge, StateMismatch}
+use Rattle.model_core.specs.Id.{is_id}
+use Rattle.model_core.specs.declared.limits.TheConstants.{MAX_OBJECTS_IN_SET}
 use Rattle.model_history.specs.ObjectId.{id_text, state_text}
-use Rattle.model_json.specs.Json.{text_of}
-use Rattle.model_json.specs.Parts.{members_in}
-use Rattle.model_json.specs.SameData.{same_data}
-use Rattle.model_json.specs.TreeData.{data_of}
-use Rattle.cal_model.specs.declared.limits.TheConstants.{MAX_ENTRIES, MAX_OBJECT_BYTES}
-use Rattle.cal_model.specs.declared.set_error.SetError.{SetError}
-use Rattle.cal_model.specs.declared.set_error.SetError.TheVariants.{OverQuota}
 use Rattle.model_history.specs.declared.entry.Change.{Change}
-use Rattle.model_history.specs.declared.entry.Kind.TheVariants.{Calendar}
-use Rattle.model_json.specs.declared.tree.Tree.{Tree}
-use Rattle.model_json.specs.declared.tree.Tree.TheVariants.{Object}
+use Rattle.model_history.specs.declared.entry.Kind.{Kind}
+use Rattle.model_json.specs.Data.{Data, Pair}
+use Rattle.model_json.specs.Parts.{members_in}
+use Rattle.model_json.specs.Patch.{is_object}
 
--- what comes of one create, update or destroy
-pub data Outcome : Type 0 where
-  accepted : Change → Outcome
-  refused : SetError → Outcome
+-- the objects that a set names: creation ids, each with an object; ids, each with a patch; and ids
+pub record Objects : Type 0 where
+  pub creates : List Pair
+  pub updates : List Pair
+  pub destroys : List (List ℕ)
 
-abbrev pub changes_in : Outcome → List Change
-changes_in (accepted c) = c ∷ []
-changes_in (refused e) = []
+abbrev pub objects : Option (List Pair) → Option (List Pair) → Option (List (List ℕ)) → Objects
+objects creates updates destroys = record { creates = unwrap_or creates []; updates = unwrap_or updates []; destroys = unwrap_or destroys [] }
 
--- the bytes of an object's compact text; a removal has none
-abbrev pub size_of_object : Option Tree → ℕ
-size_of_object None = 0
-size_of_object (Some t) = length (text_of (data_of t))
+-- creation ids are Ids, and what is created or patched is an object
+abbrev pub are_values : Objects → Option Bool → Bool
+are_values s remove_events =
+    (list_all (λ p. is_id p.0 && is_object p.1) s.creates && list_all (λ p. is_object p.1) s.updates) && not (unwrap_or remove_events false)
 
-abbrev pub size_of : List Change → ℕ
-size_of cs = sum_by (λ c. size_of_object c.object) cs
+abbrev pub is_in_state : Kind → List Change → Option (List ℕ) → Bool
+is_in_state kind cs None = true
+is_in_state kind cs (Some state) = bytes_eq state (state_text kind cs)
 
--- one change more is more than an account may have
-abbrev pub exceeds_quota : List Change → Change → Bool
-exceeds_quota cs c = not (nat_lt (length cs) MAX_ENTRIES) || nat_lt MAX_OBJECT_BYTES (size_of cs + size_of_object c.object)
+-- why a set is refused as a whole: a value that isn't one of the argument's, then too many objects, then another state than the client's
+abbrev pub set_refusal : Kind → List Change → Objects → Option (List ℕ) → Option Bool → Option MethodError
+set_refusal kind cs s if_in_state remove_events =
+    if not (are_values s remove_events) then Some InvalidArguments
+    else if nat_lt MAX_OBJECTS_IN_SET (length s.creates + (length s.updates + length s.destroys)) then Some RequestTooLarge
+    else if not (is_in_state kind cs if_in_state) then Some StateMismatch else None
 
-abbrev pub within_quota : List Change → Change → Outcome
-within_quota cs c = if exceeds_quota cs c then refused OverQuota else accepted c
+-- a text of a call and the id that it stands for
+abbrev pub NamedId : Type 0
+NamedId = List ℕ × List ℕ
 
--- what comes of a plain create after these changes
-abbrev pub outcome_of : List Change → Pair → Outcome
-outcome_of cs p = within_quota cs (new_calendar (next_number cs Calendar) p.1)
+abbrev pub names_id : List NamedId → List ℕ → Bool
+names_id found id = list_any (λ q. bytes_eq q.1 id) found
 
--- what comes of plain creates, each after the changes of those before it
-abbrev pub outcomes : List Change → List Pair → List Outcome
-outcomes cs [] = []
-outcomes cs (p ∷ ps) = outcome_of cs p ∷ outcomes (cs ++ changes_in (outcome_of cs p)) ps
-
-abbrev pub is_value : Data → Option Data → Bool
-is_value d None = false
-is_value d (Some e) = same_data e d
-
--- the stored members that the client's object lacks or has with another value
-abbrev pub members_beyond : List Pair → List Pair → List Pair
-members_beyond given stored = filter (λ p. not (is_value p.1 (lookup p.0 given))) stored
-
-abbrev pub members_stored : Change → List Pair
-members_stored c = members_in (unwrap_or (option_map data_of c.object) null)
-
--- what `created` tells of a create
-abbrev pub created_object_member : Pair → Outcome → List Pair
-created_object_member p (accepted c) = (p.0, object (members_of (members_beyond (members_in p.1) (members_stored c)))) ∷ []
-created_object_member p (refused e) = []
-
-abbrev pub set_error_type : SetError → List ℕ
-set_error_type OverQuota = codes "overQuota"
-
-abbrev pub set_error : SetError → Data
-set_error e = object (members_of ((codes "type", text (set_error_type e)) ∷ []))
-
--- what `notCreated` tells of a create
-abbrev pub not_created_member : Pair → Outcome → List Pair
-not_created_member p (accepted c) = []
-not_created_member p (refused e) = (p.0, set_error e) ∷ []
+-- f of each with its outcome
+abbrev pub of_each : {X Y : Type 0} → (X → Outcome → List Y) → List X → List Outcome → List Y
+of_each f xs os = flat_map (λ q. f q.0 q.1) (zip xs os)
 
 -- a creation id and the id that the object got
 abbrev pub created_id : Pair → Outcome → List (List ℕ × List ℕ)
-created_id p (accepted c) = (p.0, id_text Calendar c.id) ∷ []
-created_id p (refused e) = []
+created_id p (Accepted c) = (p.0, id_text c.kind c.id) ∷ []
+created_id p (Refused e) = []
 
-abbrev pub object_or_null : List Pair → Data
-object_or_null [] = null
-object_or_null (p ∷ ps) = object (members_of (p ∷ ps))
+module _ (created : List (List ℕ × List ℕ)) where
+  -- the ids of these texts, each once under the first text that stands for it
+  abbrev pub ids_named : List (List ℕ) → List NamedId
+  ids_named texts = fold (λ found t. if names_id found (resolved_id created t) then found else found ++ (t, resolved_id created t) ∷ []) [] texts
 
--- f of each create with its outcome
-abbrev pub of_each : {X : Type 0} → (Pair → Outcome → List X) → List Pair → List Outcome → List X
-of_each f creates os = flat_map (λ q. f q.0 q.1) (zip creates os)
+  -- the updates, each with whether its object is among those to be destroyed, and whether one before it names the same
+  abbrev pub updates_after : List NamedId → List NamedId → List Pair → List Operation
+  updates_after destroyed earlier [] = []
+  updates_after destroyed earlier (p ∷ ps) =
+      update (resolved_id created p.0) (members_in p.1) (names_id destroyed (resolved_id created p.0)) (names_id earlier (resolved_id created p.0))
+      ∷ updates_after destroyed (earlier ++ (p.0, resolved_id created p.0) ∷ []) ps
 
--- the reply to a set of which these outcomes came
-abbrev pub set_arguments : List ℕ → List Change → List Pair → List Outcome → Tree
-set_arguments account before creates os = Object (
-    (codes "accountId", text account) ∷ (codes "created", object_or_null (of_each created_object_member creates os))
-    ∷ (codes "destroyed", null) ∷ (codes "newState", text (state_text Calendar (before ++ flat_map changes_in os)))
-    ∷ (codes "notCreated", object_or_null (of_each not_created_member creates os)) ∷ (codes "notDestroyed", null)
-    ∷ (codes "notUpdated", null) ∷ (codes "oldState", text (state_text Calendar before)) ∷ (codes "updated", null) ∷ [])
+-- What comes of a set whose request has created these ids so far, after these changes: creates, then updates, then destroys, where
+-- `#key` may name what this call creates.
+module _ (g : Ground) (kind : Kind) (created : List (List ℕ × List ℕ)) (cs : List Change) (s : Objects) where
+  abbrev pub create_outcomes : List Outcome
+  create_outcomes = outcomes g kind cs (map (λ p. create (members_in p.1)) s.creates)
+
+  -- the ids that this call's creates add
+  abbrev pub new_ids : List (List ℕ × List ℕ)
+  new_ids = of_each created_id s.creates create_outcomes
+
+  abbrev pub all_ids : List (List ℕ × List ℕ)
+  all_ids = created ++ new_ids
+
+  abbrev pub after_creates : List Change
+  after_creates = cs ++ flat_map changes_in create_outcomes
+
+  abbrev pub ids_to_destroy : List NamedId
+  ids_to_destroy = ids_named all_ids s.destroys
+
+  abbrev pub update_outcomes : List Outcome
+  update_outcomes = outcomes g kind after_creates (updates_after all_ids ids_to_destroy [] s.updates)
+
+  abbrev pub after_updates : List Change
+  after_updates = after_creates ++ flat_map changes_in update_outcomes
+
+  abbrev pub destroy_outcomes : List Outcome
+  destroy_outcomes = outcomes g kind after_updates (map (λ q. destroy q.1) ids_to_destroy)
+
+  abbrev pub set_outcomes : List Outcome
+  set_outcomes = create_outcomes ++ (update_outcomes ++ destroy_outcomes)
+
+  -- the changes that a set makes
+  abbrev pub set_changes : List Change
+  set_changes = flat_map changes_in set_outcomes

@@ -2,4 +2,6 @@
 #![tactic(auto)]
 
 pub mod limits;
+pub mod outcome;
 pub mod set_error;
+pub mod view;

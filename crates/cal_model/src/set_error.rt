@@ -1,12 +1,31 @@
 //! Why one object of a set was refused.
 ghost use Rattle.std.specs.Prelude.{◌≡◌};
-ghost use Rattle.cal_model.specs.Sets.{set_error_type};
+ghost use Rattle.cal_model.specs.SetErrors.{set_error_type};
+
+use model_json::lists::Texts;
+use model_json::text::Text;
 
 /// Why one object of a set was refused (RFC 8620 section 5.3). It changed nothing.
 #[derive(Drop)]
 pub enum SetError {
+    /// The id names no live object of the kind.
+    NotFound,
+    /// The same call also destroys the object that it updates.
+    WillDestroy,
+    /// A key of the patch fails.
+    InvalidPatch {
+        /// The first key that fails, in byte order; empty where an earlier update of the call names the same object.
+        key: Text,
+    },
+    /// Properties of the object have values that they can't have.
+    InvalidProperties {
+        /// All of them, in byte order.
+        properties: Texts,
+    },
     /// The account would have more than it may.
     OverQuota,
+    /// The form of the object isn't built.
+    NotBuilt,
 }
 
 impl SetError {
@@ -15,7 +34,12 @@ impl SetError {
         ensures { result.now ≡ set_error_type self.now }
     {
         match self {
+            SetError::NotFound => "notFound",
+            SetError::WillDestroy => "willDestroy",
+            SetError::InvalidPatch { .. } => "invalidPatch",
+            SetError::InvalidProperties { .. } => "invalidProperties",
             SetError::OverQuota => "overQuota",
+            SetError::NotBuilt => "notBuilt",
         }
     }
 }

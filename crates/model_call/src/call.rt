@@ -112,6 +112,18 @@ pub enum MethodError {
     AccountReadOnly,
     /// The call asks for more objects than a call may.
     RequestTooLarge,
+    /// The state isn't the one in which alone the call is to be carried out.
+    StateMismatch,
+    /// The filter has a member or an operator that isn't known.
+    UnsupportedFilter,
+    /// The sort has a property or a collation that isn't known.
+    UnsupportedSort,
+    /// The anchor isn't in the result.
+    AnchorNotFound,
+    /// What changed since the state can't be told.
+    CannotCalculateChanges,
+    /// The changes are more than the client takes.
+    TooManyChanges,
     /// The form of the call isn't built.
     NotBuilt,
 }

@@ -4,4 +4,5 @@
 pub mod capability;
 pub mod limits;
 pub mod names;
+pub mod numbers;
 pub mod user;

@@ -9,7 +9,7 @@ use Rattle.model_history.specs.declared.entry.Change.{Change}
 use Rattle.model_history.specs.declared.entry.Kind.{Kind}
 use Rattle.model_json.specs.declared.tree.Tree.{Tree}
 use Rattle.version_table.specs.Histories.{of_kind, puts_after, puts_in}
-use Rattle.version_table.specs.Puts.{Put, latest_from, live_ids_at, version_at, up_to}
+use Rattle.version_table.specs.Puts.{Put, ids_put, latest_from, live_ids_at, version_at, up_to}
 
 same_id : (a b : ℕ) → (a == b) ≡ (b == a)
 same_id a b = grind (arith, common_steps)
@@ -76,11 +76,14 @@ ids_step : (c : Change) (cs : List Change) (kind : Kind) (n : ℕ) (ids : List �
 ids_step c cs kind n ids true rest = rest (suc n) (with_id ids c.id)
 ids_step c cs kind n ids false rest = rest n ids
 
-ids_are : (cs : List Change) (kind : Kind) (n : ℕ) (ids : List ℕ) → fold (λ js (p : Put Tree). with_id js p.id) ids (puts_after n (of_kind kind cs)) ≡ ids_from ids cs kind
-ids_are [] kind n ids = refl
-ids_are (c ∷ cs) kind n ids = ids_step c cs kind n ids (is_kind kind c.kind) (λ m is. ids_are cs kind m is)
+ids_from_are : (cs : List Change) (kind : Kind) (n : ℕ) (ids : List ℕ) → fold (λ js (p : Put Tree). with_id js p.id) ids (puts_after n (of_kind kind cs)) ≡ ids_from ids cs kind
+ids_from_are [] kind n ids = refl
+ids_from_are (c ∷ cs) kind n ids = ids_step c cs kind n ids (is_kind kind c.kind) (λ m is. ids_from_are cs kind m is)
+
+pub ids_are : (cs : List Change) (kind : Kind) → ids_put (puts_in kind cs) ≡ ids_at cs kind
+ids_are cs kind = ids_from_are cs kind 0 []
 
 pub live : (cs : List Change) (kind : Kind) (k : ℕ) → live_ids_at (puts_in kind cs) k ≡ filter (λ id. is_some (live_object (take k (of_kind kind cs)) kind id)) (ids_at cs kind)
 live cs kind k =
-    ap (λ l. filter (λ id. is_some (version_at (puts_in kind cs) id k)) l) (ids_are cs kind 0 [])
+    ap (λ l. filter (λ id. is_some (version_at (puts_in kind cs) id k)) l) (ids_are cs kind)
     ∙ filter_agree (λ id. is_some (version_at (puts_in kind cs) id k)) (λ id. is_some (live_object (take k (of_kind kind cs)) kind id)) (λ id. ap is_some (at_state cs kind id k)) (ids_at cs kind)

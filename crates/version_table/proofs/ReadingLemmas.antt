@@ -4,7 +4,7 @@ use Rattle.std.specs.Prelude.{nat_le}
 use Rattle.std.proofs.lemmas.List.Elements.{filter_agree}
 use Rattle.model_history.specs.History.{with_id}
 use Rattle.version_table.specs.Histories.{read_by}
-use Rattle.version_table.specs.Puts.{Put, latest_from, live_ids_at, version_at, up_to}
+use Rattle.version_table.specs.Puts.{Put, ids_put, latest_from, live_ids_at, version_at, up_to}
 
 module _ {T U : Type 0} (read : T → U) where
   either_read : (b : Bool) (x y : Option T) → (if b then option_map read x else option_map read y) ≡ option_map read (if b then x else y)
@@ -27,9 +27,12 @@ module _ {T U : Type 0} (read : T → U) where
   pub at_state_read : (ps : List (Put T)) (id k : ℕ) → version_at (read_by read ps) id k ≡ option_map read (version_at ps id k)
   at_state_read ps id k = ap (λ l. latest_from None l id) (up_to_read ps k) ∙ latest_read (up_to k ps) None id
 
-  ids_read : (ps : List (Put T)) (ids : List ℕ) → fold (λ js (p : Put U). with_id js p.id) ids (read_by read ps) ≡ fold (λ js (p : Put T). with_id js p.id) ids ps
-  ids_read [] ids = refl
-  ids_read (p ∷ ps) ids = ids_read ps (with_id ids p.id)
+  ids_read_from : (ps : List (Put T)) (ids : List ℕ) → fold (λ js (p : Put U). with_id js p.id) ids (read_by read ps) ≡ fold (λ js (p : Put T). with_id js p.id) ids ps
+  ids_read_from [] ids = refl
+  ids_read_from (p ∷ ps) ids = ids_read_from ps (with_id ids p.id)
+
+  pub ids_read : (ps : List (Put T)) → ids_put (read_by read ps) ≡ ids_put ps
+  ids_read ps = ids_read_from ps []
 
   some_read : (o : Option T) → is_some (option_map read o) ≡ is_some o
   some_read None = refl
@@ -37,5 +40,5 @@ module _ {T U : Type 0} (read : T → U) where
 
   pub live_read : (ps : List (Put T)) (k : ℕ) → live_ids_at (read_by read ps) k ≡ live_ids_at ps k
   live_read ps k =
-      ap (λ l. filter (λ id. is_some (version_at (read_by read ps) id k)) l) (ids_read ps [])
-      ∙ filter_agree (λ id. is_some (version_at (read_by read ps) id k)) (λ id. is_some (version_at ps id k)) (λ id. ap is_some (at_state_read ps id k) ∙ some_read (version_at ps id k)) (fold (λ js (p : Put T). with_id js p.id) [] ps)
+      ap (λ l. filter (λ id. is_some (version_at (read_by read ps) id k)) l) (ids_read ps)
+      ∙ filter_agree (λ id. is_some (version_at (read_by read ps) id k)) (λ id. is_some (version_at ps id k)) (λ id. ap is_some (at_state_read ps id k) ∙ some_read (version_at ps id k)) (ids_put ps)

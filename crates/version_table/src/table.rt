@@ -114,6 +114,13 @@ impl<T: Drop> Table<T> {
         None
     }
 
+    /// The ids that were ever named, each once, in the order in which they first were, which is that of creation. Takes no memory.
+    pub fn ids(&self) -> &[u64]
+        ensures { result.now ≡ ids_put (puts self.now) }
+    {
+        self.newest.keys().as_slice()
+    }
+
     /// The ids that had an object at state `k`, in order of creation, which is that of their first puts. Takes memory for them.
     pub fn live_at(&self, alloc: Global, k: u64) -> Result<Ids, AllocError>
         ensures { IfOk result (λ ids. ids ≡ live_ids_at (puts self.now) k) }

@@ -1,5 +1,5 @@
 use Rattle.std.proofs.Common.{None}
-use Rattle.version_table.proofs.HistoryLemmas.{at_state, live, newest}
+use Rattle.version_table.proofs.HistoryLemmas.{at_state, ids_are, live, newest}
 use Rattle.version_table.proofs.laws.puts_show_histories.Goals as goal
 
 pub returns-clause-newest : goal.returns-clause-newest
@@ -10,3 +10,6 @@ returns-clause-at_state c = at_state
 
 pub returns-clause-live : goal.returns-clause-live
 returns-clause-live c = live
+
+pub returns-clause-ids : goal.returns-clause-ids
+returns-clause-ids c = ids_are

@@ -1,0 +1,113 @@
+-- What comes of creating, updating or destroying one object (RFC 8620 section 5.3).
+use Rattle.std.specs.Prelude.{ℕ, ℤ, List, [], ◌∷◌, ◌++◌, Bool, true, false, not, Option, Some, None, Result, Ok, Err, is_some, codes, if◌then◌else◌}
+use Rattle.std.specs.Option.{option_map_or}
+use Rattle.std.specs.Str.{bytes_eq}
+use Rattle.cal_model.specs.Calendar.{bad_properties, calendar_in, stored}
+use Rattle.cal_model.specs.CreatedIds.{object_named}
+use Rattle.cal_model.specs.Quota.{exceeds_quota, size_of_object}
+use Rattle.cal_model.specs.declared.outcome.Outcome.{Outcome}
+use Rattle.cal_model.specs.declared.outcome.Outcome.TheVariants.{Accepted, Refused}
+use Rattle.cal_model.specs.declared.set_error.SetError.TheVariants.{InvalidPatch, InvalidProperties, NotBuilt, NotFound, OverQuota, WillDestroy}
+use Rattle.model_history.specs.Base.{Base}
+use Rattle.model_history.specs.History.{next_number}
+use Rattle.model_history.specs.ObjectId.{id_text}
+use Rattle.model_history.specs.declared.entry.Change.{Change}
+use Rattle.model_history.specs.declared.entry.Kind.{Kind}
+use Rattle.model_history.specs.declared.entry.Kind.TheVariants.{Calendar, Event}
+use Rattle.model_json.specs.Data.{Data, Pair, lookup, members_of, object, text}
+use Rattle.model_json.specs.Edit.{with_pair}
+use Rattle.model_json.specs.Parts.{as_text, members_in}
+use Rattle.model_json.specs.Patch.{patched}
+use Rattle.model_json.specs.TreeData.{data_of}
+use Rattle.model_json.specs.declared.tree.Tree.{Tree}
+use Rattle.model_json.specs.declared.tree.Tree.TheVariants.{Object}
+use Rattle.property_table.specs.Names.{put_name}
+use Rattle.property_table.specs.Table.{given}
+
+-- what an operation is judged against, beside the changes before it
+pub record Ground : Type 0 where
+  pub base : Base
+  pub moment : ℤ
+
+-- One object of a set: created from what the client gives; updated by a patch, with whether the call also destroys it and whether
+-- an earlier update of the call names it; or destroyed.
+pub data Operation : Type 0 where
+  create : List Pair → Operation
+  update : List ℕ → List Pair → Bool → Bool → Operation
+  destroy : List ℕ → Operation
+
+abbrev pub put : Kind → ℕ → List Pair → Change
+put kind n ps = record { kind = kind; id = n; object = Some (Object ps) }
+
+abbrev pub removal : Kind → ℕ → Change
+removal kind n = record { kind = kind; id = n; object = None }
+
+abbrev pub within_quota : List Change → Change → Outcome
+within_quota cs c = if exceeds_quota cs (size_of_object c.object) then Refused OverQuota else Accepted c
+
+-- a valid object makes its change where the account has room for it; of another all bad properties are told
+abbrev pub after_tests : List Change → Change → List (List ℕ) → Outcome
+after_tests cs c [] = within_quota cs c
+after_tests cs c (name ∷ names) = Refused (InvalidProperties (name ∷ names))
+
+-- the object of these members, with the id that the server sets
+abbrev pub with_own_id : Kind → ℕ → List Pair → Data
+with_own_id kind n ps = object (members_of (with_pair (codes "id") (text (id_text kind n)) ps))
+
+abbrev pub with_name_if : Bool → List ℕ → List (List ℕ) → List (List ℕ)
+with_name_if b name names = if b then put_name name names else names
+
+-- a calendar that asks for a booking zone, which isn't built
+abbrev pub is_resource : List Pair → Bool
+is_resource ps = is_some (lookup (codes "resourceZone") (given ps))
+
+abbrev pub is_text : Data → List ℕ → Bool
+is_text d s = option_map_or (λ t. bytes_eq t s) (as_text d) false
+
+-- an object keeps its id
+abbrev pub has_other_id : Kind → ℕ → List Pair → Bool
+has_other_id kind n ps = option_map_or (λ d. not (is_text d (id_text kind n))) (lookup (codes "id") (given ps)) false
+
+module _ (g : Ground) (cs : List Change) where
+  -- what comes of storing calendar n with these members; `names_id` says whether the client gives an id that it may not give
+  abbrev pub calendar_outcome : ℕ → Bool → List Pair → Outcome
+  calendar_outcome n names_id ps = if is_resource ps then Refused NotBuilt else after_tests cs
+      (put Calendar n (stored (calendar_in (with_own_id Calendar n ps))))
+      (with_name_if names_id (codes "id") (bad_properties g.base.zones (with_own_id Calendar n ps)))
+
+  abbrev pub object_outcome : Kind → ℕ → Bool → List Pair → Outcome
+  object_outcome Calendar n names_id ps = calendar_outcome n names_id ps
+  object_outcome Event n names_id ps = Refused NotBuilt
+
+  -- a new object has no id yet
+  abbrev pub created_outcome : Kind → List Pair → Outcome
+  created_outcome kind ps = object_outcome kind (next_number cs kind) (is_some (lookup (codes "id") (given ps))) ps
+
+  abbrev pub patched_outcome : Kind → ℕ → Result Data (List ℕ) → Outcome
+  patched_outcome kind n (Err key) = Refused (InvalidPatch key)
+  patched_outcome kind n (Ok d) = object_outcome kind n (has_other_id kind n (members_in d)) (members_in d)
+
+  abbrev pub updated_outcome : Kind → List Pair → Bool → Bool → Option (ℕ × Tree) → Outcome
+  updated_outcome kind patch is_destroyed is_repeated None = Refused NotFound
+  updated_outcome kind patch true is_repeated (Some q) = Refused WillDestroy
+  updated_outcome kind patch false true (Some q) = Refused (InvalidPatch [])
+  updated_outcome kind patch false false (Some q) = patched_outcome kind q.0 (patched (data_of q.1) patch)
+
+  abbrev pub destroyed_outcome : Kind → Option (ℕ × Tree) → Outcome
+  destroyed_outcome kind None = Refused NotFound
+  destroyed_outcome kind (Some q) = within_quota cs (removal kind q.0)
+
+  -- the first reason why an operation is refused after these changes, or else the change that it makes
+  abbrev pub outcome_of : Kind → Operation → Outcome
+  outcome_of kind (create ps) = created_outcome kind ps
+  outcome_of kind (update id patch is_destroyed is_repeated) = updated_outcome kind patch is_destroyed is_repeated (object_named cs kind id)
+  outcome_of kind (destroy id) = destroyed_outcome kind (object_named cs kind id)
+
+abbrev pub changes_in : Outcome → List Change
+changes_in (Accepted c) = c ∷ []
+changes_in (Refused e) = []
+
+-- what comes of operations, each after the changes of those before it
+abbrev pub outcomes : Ground → Kind → List Change → List Operation → List Outcome
+outcomes g kind cs [] = []
+outcomes g kind cs (o ∷ os) = outcome_of g cs kind o ∷ outcomes g kind (cs ++ changes_in (outcome_of g cs kind o)) os

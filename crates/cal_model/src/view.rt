@@ -1,0 +1,68 @@
+//! What a set sees of an account while it is planned.
+ghost use Rattle.std.specs.Prelude.{◌≡◌, ◌≤◌, ◌++◌, ◌∷◌, [], List, OnErr, OnOk, length, option_map};
+ghost use Rattle.cal_model.specs.Quota.{IsFit, size_of, size_of_object};
+ghost use Rattle.cal_model.specs.declared.limits.TheConstants.{MAX_ENTRIES, MAX_OBJECT_BYTES};
+ghost use Rattle.model_history.specs.Base.{Base};
+ghost use Rattle.model_history.specs.History.{ids_at, live_object, state_at};
+ghost use Rattle.model_history.specs.declared.entry.Change.{Change as AnyChange};
+ghost use Rattle.model_history.specs.declared.entry.Entry.{Entry};
+
+use model_history::entry::{Change, Kind};
+use model_json::tree::Tree;
+use std::alloc::AllocError;
+
+/// What a set sees of an account: its history, with the changes of this call that were accepted so far.
+///
+/// Contracts see the account's base, its entries and the changes of its history, which no call changes, and the staged changes.
+/// Each call answers at the history followed by these.
+pub trait View {
+    ghost base: { Self → Base };
+
+    ghost entries: { Self → List Entry };
+
+    ghost history: { Self → List AnyChange };
+
+    ghost staged: { Self → List AnyChange };
+
+    /// The object of a kind and number, where it is live. Takes no memory.
+    fn live(&self, kind: Kind, id: u64) -> Option<&Tree>
+        ensures { option_map (λ t. t.now) result ≡ live_object (history self.now ++ staged self.now) kind id };
+
+    /// How many objects of a kind were created. Takes no memory.
+    fn created_so_far(&self, kind: Kind) -> u64
+        ensures exact { result ≡ length (ids_at (history self.now ++ staged self.now) kind) }
+        ensures most { result ≤ MAX_ENTRIES };
+
+    /// The state of a kind: how many changes are of it (RFC 8620 section 5.1). Takes no memory.
+    fn state(&self, kind: Kind) -> u64
+        ensures { result ≡ state_at (history self.now ++ staged self.now) kind };
+
+    /// The number of changes. Takes no memory.
+    fn count(&self) -> usize
+        ensures exact { result ≡ length (history self.now ++ staged self.now) }
+        ensures most { result ≤ MAX_ENTRIES };
+
+    /// The bytes of the compact texts of all objects that the changes put. Takes no memory.
+    fn text(&self) -> usize
+        ensures exact { result ≡ size_of (history self.now ++ staged self.now) }
+        ensures most { result ≤ MAX_OBJECT_BYTES };
+
+    /// Stages a change behind those that are staged. `size` is the bytes of its object's compact text, 0 for a removal.
+    ///
+    /// After want of memory nothing is staged.
+    fn stage(&mut self, change: Change, size: usize) -> Result<(), AllocError>
+        requires fit { IsFit (history self.old ++ staged self.old) change }
+        requires size { size ≡ size_of_object change.object }
+        ensures ok { OnOk result (staged self.new ≡ staged self.old ++ change ∷ []) }
+        ensures err { OnErr result (staged self.new ≡ []) }
+        ensures history { history self.new ≡ history self.old }
+        ensures entries { entries self.new ≡ entries self.old }
+        ensures base { base self.new ≡ base self.old };
+
+    /// Stages nothing any more. Takes no memory.
+    fn forget(&mut self)
+        ensures staged { staged self.new ≡ [] }
+        ensures history { history self.new ≡ history self.old }
+        ensures entries { entries self.new ≡ entries self.old }
+        ensures base { base self.new ≡ base self.old };
+}

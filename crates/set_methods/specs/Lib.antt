@@ -1,0 +1,3 @@
+pub mod IdsByKey
+pub mod Reports
+pub mod Requests

@@ -1,0 +1,24 @@
+//! The ids that a get asks for (RFC 8620 section 5.1).
+ghost use Rattle.std.specs.Prelude.{◌≡◌, IfOk, map};
+ghost use Rattle.cal_model.specs.CreatedIds.{different, resolved_id};
+
+use crate::created_ids::{ids_by_key, resolved};
+use crate::texts::note;
+use model_json::text::Text;
+use std::alloc::{AllocError, Global};
+
+/// The ids asked for, where `#key` stands for the created id of that key, each once in order of first mention.
+pub fn asked_ids(
+    alloc: Global,
+    ids: &[Text],
+    created: &[(Text, Text)],
+) -> Result<Vec<Text>, AllocError>
+    ensures { IfOk result (λ v. v.items ≡ different (map (resolved_id created.now) ids.now)) }
+{
+    let by_key = ids_by_key(alloc, created)?;
+    let mut asked = Vec::new(alloc);
+    for id in ids {
+        note(&mut asked, resolved(&by_key, id))?;
+    }
+    Ok(asked)
+}

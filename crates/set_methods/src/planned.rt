@@ -1,0 +1,46 @@
+//! What a plan gives.
+
+use model_call::call::MethodError;
+use model_json::lists::Pairs;
+use model_json::tree::Tree;
+use std::alloc::{AllocError, AllocFailed};
+
+/// What a call replies whose changes are staged.
+#[derive(Drop)]
+pub struct Plan {
+    /// The arguments of the response (RFC 8620 section 5.3).
+    pub arguments: Tree,
+    /// The creation ids of the objects that are created, each with the new id.
+    pub created: Pairs,
+}
+
+/// Why there is no plan. Nothing is staged then.
+#[derive(Drop)]
+pub enum PlanError {
+    /// The call is refused as a whole.
+    Method(MethodError),
+    /// There was no memory.
+    NoMemory,
+}
+
+impl From<AllocError> for PlanError {
+    ghost use Rattle.std.specs.Prelude.{◌≡◌};
+    ghost use Rattle.set_methods.specs.declared.planned.PlanError.TheVariants.{NoMemory};
+
+    ghost from_gives = { λ _ error. error ≡ NoMemory };
+
+    fn from(_: AllocError) -> Self {
+        PlanError::NoMemory
+    }
+}
+
+impl<T: Drop> From<AllocFailed<T>> for PlanError {
+    ghost use Rattle.std.specs.Prelude.{◌≡◌};
+    ghost use Rattle.set_methods.specs.declared.planned.PlanError.TheVariants.{NoMemory};
+
+    ghost from_gives = { λ _ error. error ≡ NoMemory };
+
+    fn from(_: AllocFailed<T>) -> Self {
+        PlanError::NoMemory
+    }
+}

@@ -1,0 +1,15 @@
+//! States.
+ghost use Rattle.std.specs.Prelude.{◌≡◌};
+ghost use Rattle.time_text.specs.State.{state_in};
+
+use crate::number::read_number;
+use model_core::numbers::MAX_UNSIGNED_INT;
+
+/// The number of entries that a state names (RFC 8620 section 5.1): decimal digits of a number below 2^53, without a leading zero.
+///
+/// None where the text is anything else. Takes no memory.
+pub fn read_state(text: &[u8]) -> Option<u64>
+    ensures { result ≡ state_in text.now }
+{
+    read_number(text).filter(|state| *state <= MAX_UNSIGNED_INT)
+}
