@@ -6,7 +6,7 @@ ghost use Rattle.model_history.specs.History.{changes_of, ids_at, live_at, live_
 ghost use Rattle.model_history.specs.Pages.{is_retained, mentions};
 ghost use Rattle.model_history.specs.declared.entry.Kind.{Kind};
 ghost use Rattle.state_log.specs.IsPage.{IsPage};
-ghost use Rattle.state_log.specs.Journal as journal_words;
+ghost use Rattle.state_log.specs.Journal.{logged};
 ghost use Rattle.state_log.specs.declared.journal.ChangesError;
 ghost use Rattle.version_table.specs.Histories.{of_kind};
 ghost use Rattle.account_store.specs.Places.{ArePlaces, object_in};
@@ -28,7 +28,7 @@ use version_table::Table;
 pub struct Store {
     journal: Journal,
     tables: Tables,
-    ghost placed: { (kind : Kind) → ArePlaces (journal_words.entries journal) kind (told tables kind) } by { Prim.hlevel (codes, data_code) },
+    ghost placed: { (kind : Kind) → ArePlaces (logged journal) kind (told tables kind) } by { Prim.hlevel (codes, data_code) },
 }
 
 impl Store {
