@@ -2,7 +2,7 @@
 use Rattle.std.proofs.Common.{◌≡◌, ℕ, ℤ, suc, List, [], ◌∷◌, Bool, Option, Some, None, length, map, unwrap_or, refl, sym, ap, ◌∙◌}
 use Rattle.std.proofs.lemmas.List.{length-map}
 use Rattle.cal_model.specs.Answer.{answer, answer_to, answered, added, changes_answer, changes_by, changes_if_built, entries_from, get_answer, ground, if_built, refused, set_added, set_answer, unless_error, unless_refused}
-use Rattle.cal_model.specs.Changes.{changes_arguments, changes_refusal}
+use Rattle.cal_model.specs.Changes.{changes_response, changes_refusal}
 use Rattle.cal_model.specs.Gets.{get_response, get_error, ids_not_found, objects_asked, selected}
 use Rattle.cal_model.specs.SetReply.{set_arguments}
 use Rattle.cal_model.specs.Sets.{Objects, new_ids, set_changes, set_refusal}
@@ -56,7 +56,7 @@ module _ (b : Base) (h h' : List Entry) (same : changes_of h ≡ changes_of h') 
 
     same_page : (kind : Kind) (since : List ℕ) (most : Option ℤ) → changes_answer b.account_id h kind since most ≡ changes_answer b.account_id h' kind since most
     same_page kind since most = same_by (λ cs. changes_refusal kind cs since most) _ _ (λ i. record {
-      arguments = changes_arguments b.account_id kind (same i) since most (unwrap_or (state_in since) 0);
+      arguments = changes_response b.account_id kind (same i) since most (unwrap_or (state_in since) 0);
       error = None;
       created = [];
       place = same_length i;
