@@ -15,6 +15,7 @@ use time_text::read_object_id;
 use zone_table::Zones;
 
 /// The properties of a calendar where these time zones are known.
+#[derive(Clone, Copy)]
 pub(crate) struct CalendarTable<'a> {
     pub zones: &'a Zones,
 }
@@ -28,6 +29,7 @@ impl PropertyTable for CalendarTable<'_> {
         Ok(passes(self.zones, name, value))
     }
 
+    #[tactic(auto, unfolding(cal_model::specs::Calendar::calendar_table))]
     fn required_names(&self) -> &'static [&'static str] {
         &["id", "name"]
     }
