@@ -64,6 +64,10 @@ is_resource ps = is_some (lookup (codes "resourceZone") (given ps))
 abbrev pub is_text : Data → List ℕ → Bool
 is_text d s = option_map_or (λ t. bytes_eq t s) (as_text d) false
 
+-- an object keeps its id
+abbrev pub has_other_id : Kind → ℕ → List Pair → Bool
+has_other_id kind n ps = option_map_or (λ d. not (is_text d (id_text kind n))) (lookup (codes "id") (given ps)) false
+
 module _ (g : Ground) (cs : List Change) where
   -- what comes of storing calendar n with these members; `names_id` says whether the client gives an id that it may not give
   abbrev pub calendar_outcome : ℕ → Bool → List Pair → Outcome
@@ -78,10 +82,6 @@ module _ (g : Ground) (cs : List Change) where
   -- a new object has no id yet
   abbrev pub created_outcome : Kind → List Pair → Outcome
   created_outcome kind ps = object_outcome kind (next_number cs kind) (is_some (lookup (codes "id") (given ps))) ps
-
-  -- an object keeps its id
-  abbrev pub has_other_id : Kind → ℕ → List Pair → Bool
-  has_other_id kind n ps = option_map_or (λ d. not (is_text d (id_text kind n))) (lookup (codes "id") (given ps)) false
 
   abbrev pub patched_outcome : Kind → ℕ → Result Data (List ℕ) → Outcome
   patched_outcome kind n (Err key) = Refused (InvalidPatch key)

@@ -1,3 +1,4 @@
 pub mod IdsByKey
+pub mod Judging
 pub mod Reports
 pub mod Requests
