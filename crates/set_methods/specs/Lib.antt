@@ -2,3 +2,4 @@ pub mod IdsByKey
 pub mod Judging
 pub mod Reports
 pub mod Requests
+pub mod Telling

@@ -8,6 +8,7 @@ ghost use Rattle.model_json.specs.TreeData.{data_of};
 ghost use Rattle.property_table.specs.Table.{given};
 
 use crate::object_id::object_id;
+use crate::texts::copies;
 use model_history::entry::Kind;
 use model_json::lists::Texts;
 use model_json::text::Text;
@@ -93,10 +94,7 @@ pub(crate) fn with_id_if(alloc: Global, is_bad: bool, names: Texts) -> Result<Te
     if !is_bad {
         return Ok(names);
     }
-    let mut all = Vec::new(alloc);
-    for name in names.items() {
-        all.push(name.copy()?)?;
-    }
+    let mut all = copies(alloc, names.items())?;
     put_name(&mut all, Text::from_str(alloc, "id")?)?;
     Ok(Texts::new(all))
 }
