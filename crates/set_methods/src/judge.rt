@@ -134,8 +134,9 @@ fn patch_object<V: View>(
         ≡ patched_outcome (ground_in setting.now) (V.history view.now ++ V.staged view.now) setting.now.kind number (patched (data_of object.now) (members_in (data_of patch.now)))) }
     ensures allowed { IfOk result (IsAllowed (V.history view.now ++ V.staged view.now)) }
 {
-    let patch = copy_of_object(alloc, patch)?;
-    match apply(alloc, object, &patch) {
+    let empty = TreeObject::new(Vec::new(alloc));
+    let patch = patch.as_object().unwrap_or(&empty);
+    match apply(alloc, object, patch) {
         Ok(tree) => {
             let object = into_object(alloc, tree);
             let names_id = has_other_id(alloc, setting.kind, number, &object)?;

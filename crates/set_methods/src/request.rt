@@ -9,6 +9,7 @@ use model_json::text::Text;
 use model_json::tree::{Member, TreeObject};
 
 /// What a set asks of an account: the arguments of the call (RFC 8620 section 5.3).
+#[derive(Drop)]
 pub struct SetRequest<'a> {
     /// The kind of the objects.
     pub kind: Kind,

@@ -10,6 +10,7 @@ use model_time::moment::Moment;
 use zone_table::Zones;
 
 /// What the operations of a set are judged against, beside the changes before them.
+#[derive(Drop)]
 pub(crate) struct Setting<'a> {
     pub kind: Kind,
     pub account: &'a Text,

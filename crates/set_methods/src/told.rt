@@ -6,6 +6,7 @@ use model_json::text::Text;
 use model_json::tree::Member;
 
 /// What the response to a set tells: the states before and after it, and what came of each object.
+#[derive(Drop)]
 pub(crate) struct Told<'a> {
     pub account: &'a Text,
     pub old_state: u64,
