@@ -39,27 +39,25 @@ pub(crate) fn carry_out<V: View>(
     let old_state = view.state(setting.kind);
     let made = run(alloc, view, setting, &creates(alloc, request.creates())?)?;
     let added = new_ids(alloc, request.creates(), &made)?;
-    let ids = CreatedIds::of(alloc, created.pairs(), &added)?;
-    let named = ids_named(alloc, &ids, request.destroys())?;
-    let changed = run(
-        alloc,
-        view,
-        setting,
-        &updates(alloc, &ids, &named, request.updates())?,
-    )?;
-    let removed = run(alloc, view, setting, &destroys(alloc, &named)?)?;
-    let told = Told {
-        account: setting.account,
-        old_state,
-        new_state: view.state(setting.kind),
-        creates: request.creates(),
-        create_outcomes: &made,
-        updates: request.updates(),
-        update_outcomes: &changed,
-        destroys: &named,
-        destroy_outcomes: &removed,
+    let arguments = {
+        let ids = CreatedIds::of(alloc, created.pairs(), &added)?;
+        let named = ids_named(alloc, &ids, request.destroys())?;
+        let updates = updates(alloc, &ids, &named, request.updates())?;
+        let changed = run(alloc, view, setting, &updates)?;
+        let removed = run(alloc, view, setting, &destroys(alloc, &named)?)?;
+        let told = Told {
+            account: setting.account,
+            old_state,
+            new_state: view.state(setting.kind),
+            creates: request.creates(),
+            create_outcomes: &made,
+            updates: request.updates(),
+            update_outcomes: &changed,
+            destroys: &named,
+            destroy_outcomes: &removed,
+        };
+        arguments(alloc, &told)?
     };
-    let arguments = arguments(alloc, &told)?;
     Ok(Plan {
         arguments,
         created: Pairs::new(added),
