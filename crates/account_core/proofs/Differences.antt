@@ -5,7 +5,8 @@ use Rattle.std.proofs.lemmas.Slice.Eq.{bytes_eq-Decides}
 use Rattle.std.specs.List.{list_any}
 use Rattle.std.specs.Str.{bytes_eq}
 use Rattle.model_json.specs.Data.{Pair, object, members_of}
-use Rattle.cal_model.specs.Gets.{different, is_asked_for, selected, with_text}
+use Rattle.cal_model.specs.CreatedIds.{different, with_text}
+use Rattle.cal_model.specs.Gets.{is_asked_for, selected}
 use Rattle.model_json.specs.Parts.{members_in}
 use Rattle.model_json.specs.TreeData.{data_of}
 use Rattle.model_json.specs.declared.tree.Tree.{Tree}

@@ -1,5 +1,6 @@
 pub mod Differences
-pub mod Numbers
 pub mod Orders
-pub mod Planning
-pub mod Table
+pub mod Numbers
+pub mod Counting
+pub mod Committing
+pub mod Pages

@@ -1,14 +1,15 @@
 -- Numbers that are given in order.
-use Rattle.std.proofs.Common.{◌≡◌, ◌+◌, ◌<◌, ◌==◌, false, cond, ℕ, zero, suc, List, [], ◌∷◌, ◌++◌, length, arith, add-zero, add-one, refl, sym, ap, ◌∙◌}
+use Rattle.std.proofs.lemmas.Bool.{false≢true}
+use Rattle.std.proofs.Common.{◌≡◌, ◌⊎◌, inl, inr, ◌+◌, ◌<◌, ◌≤◌, ◌==◌, ◌&&◌, ◌||◌, Bool, true, false, cond, ℕ, zero, suc, List, [], ◌∷◌, ◌++◌, Option, is_some, length, arith, add-zero, add-one, refl, sym, ap, ◌∙◌, max, subst}
 use Rattle.std.proofs.lemmas.Bool.Decides.{nat_tests}
+use Rattle.std.proofs.lemmas.List.Folds.{list_any-append}
 use Rattle.std.proofs.lemmas.List.FromFn.{length-range_with_len}
 use Rattle.std.specs.List.{list_any, range_with_len}
-use Rattle.cal_model.specs.Calendar.{new_calendar}
-use Rattle.model_json.specs.Data.{Data}
-use Rattle.model_history.specs.History.{ids_at, ids_from, is_kind, next_number, with_id}
+use Rattle.model_history.specs.History.{ids_at, ids_from, is_kind, names, next_number, live_object, object_from, with_id}
+use Rattle.model_history.specs.Pages.{is_in}
 use Rattle.model_history.specs.declared.entry.Change.{Change}
 use Rattle.model_history.specs.declared.entry.Kind.{Kind}
-use Rattle.model_history.specs.declared.entry.Kind.TheVariants.{Calendar}
+use Rattle.model_json.specs.declared.tree.Tree.{Tree}
 
 -- one number more
 range_more : (a n : ℕ) → range_with_len a (suc n) ≡ range_with_len a n ++ (a + n) ∷ []
@@ -19,7 +20,7 @@ differs : (a m : ℕ) → a < m → (a == m) ≡ false
 differs a m h = grind (arith, nat_tests)
 
 -- the next number is new
-is_new : (a n m : ℕ) → a + n ≡ m → list_any (λ k. k == m) (range_with_len a n) ≡ false
+is_new : (a n m : ℕ) → a + n ≡ m → is_in (range_with_len a n) m ≡ false
 is_new a zero m e = refl
 is_new a (suc n) m e = rw (differs a m (omega (arith, e))) (is_new (a + 1) n m (omega (arith, e)))
 
@@ -28,13 +29,67 @@ with_next n =
     let last : range_with_len 1 (n + 1) ≡ range_with_len 1 n ++ (n + 1) ∷ [] = rw (add-one n) (range_more 1 n ∙ ap (λ m. range_with_len 1 n ++ m ∷ []) (omega arith)) in
     rw (is_new 1 n (n + 1) (omega arith)) (sym last)
 
-ids_from-push : (cs : List Change) (ids : List ℕ) (c : Change) (kind : Kind) → ids_from ids (cs ++ c ∷ []) kind ≡ cond (is_kind kind c.kind) (with_id (ids_from ids cs kind) c.id) (ids_from ids cs kind)
+-- a number that was given adds nothing
+with_known : (ids : List ℕ) (id : ℕ) → is_in ids id ≡ true → with_id ids id ≡ ids
+with_known ids id known = rw known refl
+
+pub ids_from-push : (cs : List Change) (ids : List ℕ) (c : Change) (kind : Kind) → ids_from ids (cs ++ c ∷ []) kind ≡ cond (is_kind kind c.kind) (with_id (ids_from ids cs kind) c.id) (ids_from ids cs kind)
 ids_from-push [] ids c kind = refl
 ids_from-push (d ∷ cs) ids c kind = ids_from-push cs _ c kind
 
--- the calendar of the next number keeps the numbers in order
-pub numbers_more : (cs : List Change) (n : ℕ) (d : Data) → ids_at cs Calendar ≡ range_with_len 1 n → ids_at (cs ++ new_calendar (n + 1) d ∷ []) Calendar ≡ range_with_len 1 (n + 1)
-numbers_more cs n d h = ids_from-push cs [] (new_calendar (n + 1) d) Calendar ∙ ap (λ ids. with_id ids (n + 1)) h ∙ with_next n
+same_number : (a b : ℕ) → (a == b) ≡ true → (b == a) ≡ true
+same_number a b e = grind (arith, nat_tests)
 
-pub next_is : (cs : List Change) (n : ℕ) → ids_at cs Calendar ≡ range_with_len 1 n → next_number cs Calendar ≡ n + 1
-next_is cs n h = omega (arith, ap length h, length-range_with_len 1 n)
+true_later : (a b : Bool) → b ≡ true → (cond a true b) ≡ true
+true_later true b e = refl
+true_later false b e = e
+
+in_with_by : (ids : List ℕ) (id q : ℕ) (known : Bool) → is_in ids id ≡ known → is_in ids q ≡ true → is_in (cond known ids (ids ++ id ∷ [])) q ≡ true
+in_with_by ids id q true is h = h
+in_with_by ids id q false is h = rw (list_any-append, h) refl
+
+-- what was in stays in
+in_with : (ids : List ℕ) (id q : ℕ) → is_in ids q ≡ true → is_in (with_id ids id) q ≡ true
+in_with ids id q h = in_with_by ids id q (is_in ids id) refl h
+
+put_in_by : (ids : List ℕ) (id : ℕ) (known : Bool) → is_in ids id ≡ known → is_in (cond known ids (ids ++ id ∷ [])) id ≡ true
+put_in_by ids id true is = is
+put_in_by ids id false is = rw (list_any-append, is, same_number id id (grind (arith, nat_tests))) refl
+
+in_put : (ids : List ℕ) (id : ℕ) → is_in (with_id ids id) id ≡ true
+in_put ids id = put_in_by ids id (is_in ids id) refl
+
+step_by : (ids : List ℕ) (before o : Option Tree) (c id : ℕ) (kind same : Bool) → (id == c) ≡ same → (is_some before ≡ true → is_in ids id ≡ true)
+    → is_some (cond (kind && same) o before) ≡ true → is_in (cond kind (with_id ids c) ids) id ≡ true
+step_by ids before o c id false same is h live = h live
+step_by ids before o c id true false is h live = in_with ids c id (h live)
+step_by ids before o c id true true is h live = grind (arith, nat_tests, in_put)
+
+-- an object that is live was given its number
+pub numbered_if_live : (cs : List Change) (kind : Kind) (id : ℕ) (before : Option Tree) (ids : List ℕ) → (is_some before ≡ true → is_in ids id ≡ true)
+    → is_some (object_from before cs kind id) ≡ true → is_in (ids_from ids cs kind) id ≡ true
+numbered_if_live [] kind id before ids h live = h live
+numbered_if_live (c ∷ cs) kind id before ids h live =
+    numbered_if_live cs kind id _ _ (λ l. step_by ids before c.object c.id id (is_kind kind c.kind) (id == c.id) refl h l) live
+
+pub next_is : (cs : List Change) (n : ℕ) (kind : Kind) → ids_at cs kind ≡ range_with_len 1 n → next_number cs kind ≡ n + 1
+next_is cs n kind h = omega (arith, ap length h, length-range_with_len 1 n)
+
+in_range_by : (a n id : ℕ) (same : Bool) → (a == id) ≡ same → ((is_in (range_with_len (a + 1) n) id ≡ true) → id < (a + 1) + n) → (same || is_in (range_with_len (a + 1) n) id) ≡ true → id < a + suc n
+in_range_by a n id true is rest h = grind (arith, nat_tests)
+in_range_by a n id false is rest h = omega (arith, rest h)
+
+-- numbers of a range lie in it
+pub in_range : (a n id : ℕ) → is_in (range_with_len a n) id ≡ true → id < a + n
+in_range a zero id h = absurd (false≢true h)
+in_range a (suc n) id h = in_range_by a n id (a == id) refl (in_range (a + 1) n id) h
+
+-- after a change of the next object or of one that is there the numbers are still in order
+pub numbers_counted : (cs : List Change) (c : Change) (n : ℕ) → ids_at cs c.kind ≡ range_with_len 1 n → (c.id ≡ next_number cs c.kind) ⊎ (is_some (live_object cs c.kind c.id) ≡ true)
+    → with_id (ids_at cs c.kind) c.id ≡ range_with_len 1 (max n c.id)
+numbers_counted cs c n h (inl next) =
+    let number : c.id ≡ n + 1 = next ∙ next_is cs n c.kind h in
+    rw (h, number) (with_next n ∙ ap (range_with_len 1) (omega arith))
+numbers_counted cs c n h (inr live) =
+    let known : is_in (range_with_len 1 n) c.id ≡ true = subst (λ ids. is_in ids c.id ≡ true) h (numbered_if_live cs c.kind c.id _ [] (λ e. absurd (false≢true e)) live) in
+    rw h (with_known (range_with_len 1 n) c.id known ∙ ap (range_with_len 1) (omega (arith, in_range 1 n c.id known)))

@@ -1,3 +1,3 @@
-pub mod IdsByKey
-pub mod Outcome
+pub mod PageObject
 pub mod Tally
+pub mod Ledger

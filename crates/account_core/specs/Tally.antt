@@ -1,14 +1,20 @@
--- What is kept beside the entries of an account.
-use Rattle.std.specs.Prelude.{◌≡◌, List, length}
+-- What is counted of the changes of an account.
+use Rattle.std.specs.Prelude.{◌≡◌, ℕ, List, length}
 use Rattle.std.specs.List.{range_with_len}
+use Rattle.cal_model.specs.Quota.{size_of}
 use Rattle.model_history.specs.History.{ids_at}
-use Rattle.cal_model.specs.Sets.{size_of}
 use Rattle.model_history.specs.declared.entry.Change.{Change}
-use Rattle.model_history.specs.declared.entry.Kind.TheVariants.{Calendar}
+use Rattle.model_history.specs.declared.entry.Kind.{Kind}
+use Rattle.model_history.specs.declared.entry.Kind.TheVariants.{Calendar, Event}
 use Rattle.account_core.specs.declared.tally.Tally.{Tally}
 
--- the tally is that of these changes, whose calendars got the numbers from 1 on, in order
+-- how many objects of a kind were created
+abbrev pub created : Tally → Kind → ℕ
+created t Calendar = t.calendars
+created t Event = t.events
+
+-- the tally is that of these changes, whose objects got the numbers from 1 on, in order
 pub record Tallies (t : Tally) (cs : List Change) : Type 0 where
   pub entries : t.entries ≡ length cs
   pub size : t.size ≡ size_of cs
-  pub numbers : ids_at cs Calendar ≡ range_with_len 1 t.calendars
+  pub numbers : (kind : Kind) → ids_at cs kind ≡ range_with_len 1 (created t kind)

@@ -1,15 +1,17 @@
 //! What a get of calendars finds (RFC 8620 section 5.1).
 ghost use Rattle.std.specs.Prelude.{◌≡◌, [], Some, IfOk, filter, flat_map, is_some, map, not, option_and_then, option_map};
-ghost use Rattle.cal_model.specs.Gets.{ids_not_found, object_with_id, objects_asked, selected};
+ghost use Rattle.account_store.specs.Store.{entries};
+ghost use Rattle.cal_model.specs.CreatedIds.{object_with_id};
+ghost use Rattle.cal_model.specs.Gets.{ids_not_found, objects_asked, selected};
 ghost use Rattle.model_history.specs.History.{changes_of};
 ghost use Rattle.model_json.specs.Parts.{some_of};
 ghost use Rattle.model_json.specs.TreeData.{data_of};
 ghost use Rattle.model_history.specs.declared.entry.Kind.TheVariants.{Calendar};
 
-use crate::asked_ids::asked_ids;
+use set_methods::asked_ids::asked_ids;
 use crate::properties::{asked_properties, select};
-use crate::replay::object;
-use model_history::entry::{Entry, Kind};
+use account_store::Store;
+use model_history::entry::Kind;
 use model_json::lists::Texts;
 use model_json::text::Text;
 use model_json::tree::Tree;
@@ -26,10 +28,10 @@ pub struct Found {
 }
 
 /// The live object of an id. Takes no memory.
-fn object_of_id<'a>(history: &'a [Entry], kind: Kind, id: &Text) -> Option<&'a Tree>
-    ensures { option_map (λ t. t.now) result ≡ object_with_id (changes_of history.now) kind id.now }
+fn object_of_id<'a>(store: &'a Store, kind: Kind, id: &Text) -> Option<&'a Tree>
+    ensures { option_map (λ t. t.now) result ≡ object_with_id (changes_of (entries store.now)) kind id.now }
 {
-    object(history, kind, read_object_id(kind, id.as_str().as_bytes())?)
+    store.object(kind, read_object_id(kind, id.as_str().as_bytes())?)
 }
 
 /// Copies of objects with those of their members alone that are asked for, and `id`.
@@ -50,19 +52,19 @@ fn select_all(
 /// What is found of these different ids.
 fn find_each(
     alloc: Global,
-    history: &[Entry],
+    store: &Store,
     properties: &Option<Texts>,
     ids: Vec<Text>,
 ) -> Result<Found, AllocError>
     ensures list { IfOk result (λ found. map data_of found.list.items ≡ map (selected properties.now)
-        (flat_map (λ id. some_of (object_with_id (changes_of history.now) Calendar id)) ids.items)) }
+        (flat_map (λ id. some_of (object_with_id (changes_of (entries store.now)) Calendar id)) ids.items)) }
     ensures missing { IfOk result (λ found. found.missing.items
-        ≡ filter (λ id. not (is_some (object_with_id (changes_of history.now) Calendar id))) ids.items) }
+        ≡ filter (λ id. not (is_some (object_with_id (changes_of (entries store.now)) Calendar id))) ids.items) }
 {
     let mut list = Vec::new(alloc);
     let mut missing = Vec::new(alloc);
     for id in ids {
-        match object_of_id(history, Kind::Calendar, &id) {
+        match object_of_id(store, Kind::Calendar, &id) {
             Some(object) => list.push(select(alloc, properties, object)?)?,
             None => missing.push(id)?,
         }
@@ -73,17 +75,17 @@ fn find_each(
 /// What is found of the calendars of these ids, where `#key` stands for the created id of that key.
 pub fn find_ids(
     alloc: Global,
-    history: &[Entry],
+    store: &Store,
     ids: &[Text],
     properties: &Option<Texts>,
     created: &[(Text, Text)],
 ) -> Result<Found, AllocError>
-    ensures list { IfOk result (λ found. map data_of found.list.items ≡ map (selected properties.now) (objects_asked (changes_of history.now) Calendar created.now (Some ids.now))) }
-    ensures missing { IfOk result (λ found. found.missing.items ≡ ids_not_found (changes_of history.now) Calendar created.now (Some ids.now)) }
+    ensures list { IfOk result (λ found. map data_of found.list.items ≡ map (selected properties.now) (objects_asked (changes_of (entries store.now)) Calendar created.now (Some ids.now))) }
+    ensures missing { IfOk result (λ found. found.missing.items ≡ ids_not_found (changes_of (entries store.now)) Calendar created.now (Some ids.now)) }
 {
     let ids = asked_ids(alloc, ids, created)?;
     let properties = asked_properties(alloc, properties)?;
-    find_each(alloc, history, &properties, ids)
+    find_each(alloc, store, &properties, ids)
 }
 
 /// What is found where these are all objects, and all are asked for.

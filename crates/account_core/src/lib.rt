@@ -1,18 +1,12 @@
-//! One account, which keeps its history as a list of entries and replays it for each call.
+//! One account: what it holds, and what it answers.
 #![tactic(auto)]
 
 pub mod account;
-mod asked_ids;
-mod calendar;
-mod entries;
+mod changes;
 mod found;
-mod get_reply;
-mod outcome;
-mod plain;
-mod plan;
+mod get;
+mod ledger;
 mod properties;
-mod replay;
 mod reply;
-mod set_reply;
+mod set;
 mod tally;
-mod texts;

@@ -6,13 +6,14 @@ ghost use Rattle.cal_model.specs.Gets.{are_calendar_properties, is_asked_for, se
 ghost use Rattle.model_json.specs.TreeData.{data_of, pair_of};
 ghost use Rattle.model_json.specs.declared.tree.Tree.{Tree as AnyTree};
 
-use crate::texts::{different_texts, is_among};
+use set_methods::texts::{different_texts, is_among};
 use model_json::lists::Texts;
 use model_json::text::Text;
 use model_json::tree::{Member, Tree, TreeObject};
 use std::alloc::{AllocError, Global};
 
 /// Whether this is the name of a property of calendars.
+#[tactic(auto, unfolding(cal_model::specs::Calendar::calendar_table))]
 fn is_property(name: &str) -> bool
     ensures { result ≡ is_calendar_property name.now }
 {

@@ -1,11 +1,13 @@
 //! How much an account holds.
-ghost use Rattle.std.specs.Prelude.{◌≡◌, ◌+◌, ◌≤◌, ◌&&◌, ◌<◌, nat_lt, not};
+ghost use Rattle.std.specs.Prelude.{◌≡◌, ◌+◌, ◌≤◌, ◌<◌, if◌then◌else◌, max};
 ghost use Rattle.cal_model.specs.declared.limits.TheConstants.{MAX_ENTRIES, MAX_OBJECT_BYTES};
+ghost use Rattle.model_history.specs.History.{is_kind};
+ghost use Rattle.model_history.specs.declared.entry.Kind.{Kind as AnyKind};
 
-use cal_model::limits::{MAX_ENTRIES, MAX_OBJECT_BYTES};
+use model_history::entry::Kind;
 
-/// How much an account holds, and how many calendars it has had. It tells whether a change is within the quota, and the
-/// number of the next calendar, without going over the history.
+/// How much an account holds, and how many objects of each kind it has had. It tells whether a change is within the quota,
+/// and the number of the next object, without going over the history.
 #[derive(Clone, Copy, Drop)]
 pub struct Tally {
     /// The number of entries.
@@ -14,13 +16,16 @@ pub struct Tally {
     pub size: usize,
     /// How many calendars were created, with the numbers from 1 on, in order.
     pub calendars: u64,
+    /// How many events were created, with the numbers from 1 on, in order.
+    pub events: u64,
     ghost few: { entries ≤ MAX_ENTRIES },
     ghost small: { size ≤ MAX_OBJECT_BYTES },
-    ghost numbered: { calendars ≤ entries },
+    ghost calendars_numbered: { calendars ≤ entries },
+    ghost events_numbered: { events ≤ entries },
 }
 
 impl Tally {
-    ghost use Rattle.account_core.specs.Tally.{Tallies};
+    ghost use Rattle.account_core.specs.Tally.{Tallies, created};
     ghost use Rattle.std.specs.Prelude.{[]};
 
     /// The tally of no entries. Takes no memory.
@@ -31,26 +36,35 @@ impl Tally {
             entries: 0,
             size: 0,
             calendars: 0,
+            events: 0,
         }
     }
 
-    /// Whether one more entry is within the quota, whose object has a text of this many bytes. Takes no memory.
-    pub fn has_room(&self, size: usize) -> bool
-        ensures { result ≡ (nat_lt self.now.entries MAX_ENTRIES && not (nat_lt MAX_OBJECT_BYTES (self.now.size + size))) }
+    /// How many objects of a kind were created. Takes no memory.
+    pub fn created(&self, kind: Kind) -> u64
+        ensures exact { result ≡ created self.now kind }
+        ensures most { result ≤ self.now.entries }
     {
-        self.entries < MAX_ENTRIES && size <= MAX_OBJECT_BYTES - self.size
+        match kind {
+            Kind::Calendar => self.calendars,
+            Kind::Event => self.events,
+        }
     }
 
-    /// Counts one more entry, which creates a calendar with a text of this many bytes. Takes no memory.
-    pub fn count_calendar(&mut self, size: usize)
+    /// Counts one more entry: a change of the object `id` of a kind, whose text has `size` bytes. Takes no memory.
+    pub fn count(&mut self, kind: Kind, id: u64, size: usize)
         requires few { self.old.entries < MAX_ENTRIES }
         requires small { self.old.size + size ≤ MAX_OBJECT_BYTES }
+        requires next { id ≤ created self.old kind + 1 }
         ensures entries { self.new.entries ≡ self.old.entries + 1 }
         ensures size { self.new.size ≡ self.old.size + size }
-        ensures calendars { self.new.calendars ≡ self.old.calendars + 1 }
+        ensures created { (k : AnyKind) → created self.new k ≡ if is_kind k kind then max (created self.old k) id else created self.old k }
     {
         self.entries += 1;
         self.size += size;
-        self.calendars += 1;
+        match kind {
+            Kind::Calendar => self.calendars = self.calendars.max(id),
+            Kind::Event => self.events = self.events.max(id),
+        }
     }
 }

@@ -1,5 +1,5 @@
 -- What tables of places show.
-use Rattle.std.proofs.Common.{◌≡◌, ℕ, List, Option, None, Some, filter, is_some, map, option_and_then, option_map, refl, sym, ap, ◌∙◌, take}
+use Rattle.std.proofs.Common.{◌≡◌, ℕ, List, Option, None, Some, filter, is_some, option_and_then, option_map, refl, sym, ap, ◌∙◌, take}
 use Rattle.std.specs.Option.{option_flatten}
 use Rattle.model_history.specs.History.{changes_of, ids_at, live_object}
 use Rattle.model_history.specs.declared.entry.Entry.{Entry}
@@ -15,7 +15,7 @@ flattened : (read : ℕ → Option Tree) (o : Option ℕ) → option_flatten (op
 flattened read None = refl
 flattened read (Some i) = refl
 
-flattened_some : (t : Option Tree) → option_flatten (option_map {B = Option Tree} Some t) ≡ t
+flattened_some : (t : Option Tree) → option_flatten (option_map {U = Option Tree} Some t) ≡ t
 flattened_some None = refl
 flattened_some (Some x) = refl
 

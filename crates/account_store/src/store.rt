@@ -1,5 +1,7 @@
 //! The store of an account.
 ghost use Rattle.std.specs.Prelude.{◌≡◌, ◌<◌, ◌≤◌, ◌+◌, ◌++◌, ◌∷◌, ◌↔◌, [], false, filter, is_some, length, map, option_and_then, option_copied, take, IfOk, IsErrOf, OnOk};
+ghost use Rattle.std.specs.Coded.{codes};
+ghost use Rattle.model_json.specs.DataCode.{data_code};
 ghost use Rattle.model_history.specs.History.{changes_of, ids_at, live_at, live_object, state_at};
 ghost use Rattle.model_history.specs.Pages.{is_retained, mentions};
 ghost use Rattle.model_history.specs.declared.entry.Kind.{Kind};
@@ -26,7 +28,7 @@ use version_table::Table;
 pub struct Store {
     journal: Journal,
     tables: Tables,
-    ghost placed: { (kind : Kind) → ArePlaces (journal_words.entries journal) kind (told tables kind) },
+    ghost placed: { (kind : Kind) → ArePlaces (journal_words.entries journal) kind (told tables kind) } by { Prim.hlevel (codes, data_code) },
 }
 
 impl Store {
@@ -67,7 +69,7 @@ impl Store {
         let end = self.journal.entries().len();
         let kind = entry.change.kind;
         let id = entry.change.id;
-        let place = entry.change.object.as_ref().map(|_| end);
+        let place = entry.change.object.is_some().then_some(end);
         let state = self.journal.count(kind) + 1;
         self.journal.push_reserved(entry);
         self.tables.note(kind, id, state, place);
@@ -77,21 +79,21 @@ impl Store {
     pub fn object(&self, kind: Kind, id: u64) -> Option<&Tree>
         ensures { option_copied result ≡ live_object (changes_of (entries self.now)) kind id }
     {
-        self.object_of(self.tables.of(kind).get(id))
+        self.object_of(self.tables.of(kind).get(id).copied())
     }
 
     /// The object of a kind and number at state `k` of the kind, where it was live. Takes no memory.
     pub fn object_at(&self, kind: Kind, id: u64, k: u64) -> Option<&Tree>
         ensures { option_copied result ≡ live_object (take k (of_kind kind (changes_of (entries self.now)))) kind id }
     {
-        self.object_of(self.tables.of(kind).get_at(id, k))
+        self.object_of(self.tables.of(kind).get_at(id, k).copied())
     }
 
     // The object that the entry at a place puts.
-    fn object_of(&self, place: Option<&usize>) -> Option<&Tree>
-        ensures { option_copied result ≡ option_and_then (object_in (entries self.now)) (option_copied place) }
+    fn object_of(&self, place: Option<usize>) -> Option<&Tree>
+        ensures { option_copied result ≡ option_and_then (object_in (entries self.now)) place }
     {
-        self.journal.entries().get(*place?)?.change.object.as_ref()
+        self.journal.entries().get(place?)?.change.object.as_ref()
     }
 
     /// The live objects of a kind, in order of creation. Takes memory for the list.

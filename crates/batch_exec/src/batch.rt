@@ -29,6 +29,12 @@ fn error_name(error: MethodError) -> &'static str
         MethodError::AccountNotFound => "accountNotFound",
         MethodError::AccountReadOnly => "accountReadOnly",
         MethodError::RequestTooLarge => "requestTooLarge",
+        MethodError::StateMismatch => "stateMismatch",
+        MethodError::UnsupportedFilter => "unsupportedFilter",
+        MethodError::UnsupportedSort => "unsupportedSort",
+        MethodError::AnchorNotFound => "anchorNotFound",
+        MethodError::CannotCalculateChanges => "cannotCalculateChanges",
+        MethodError::TooManyChanges => "tooManyChanges",
         MethodError::NotBuilt => "notBuilt",
     }
 }

@@ -28,6 +28,15 @@ answered h arguments created = record { arguments = arguments; error = None; cre
 abbrev pub refused : List Entry → MethodError → Reply
 refused h error = record { arguments = Null; error = Some error; created = []; place = length h }
 
+-- events aren't built yet
+abbrev pub if_built : List Entry → Kind → Reply → Reply
+if_built h Calendar reply = reply
+if_built h Event reply = refused h NotBuilt
+
+abbrev pub changes_if_built : Kind → List Change → List Change
+changes_if_built Calendar cs = cs
+changes_if_built Event cs = []
+
 abbrev pub unless_error : List Entry → Option MethodError → Reply → Reply
 unless_error h None reply = reply
 unless_error h (Some e) reply = refused h e
@@ -37,13 +46,13 @@ abbrev pub unless_refused : Option MethodError → List Change → List Change
 unless_refused None cs = cs
 unless_refused (Some e) cs = []
 
-abbrev pub get_answer : Base → List Entry → List (List ℕ × List ℕ) → Option (List (List ℕ)) → Option (List (List ℕ)) → Reply
-get_answer base h created ids properties = unless_error h (get_error (changes_of h) ids properties) (answered h (get_response base.account_id (changes_of h)
+abbrev pub get_answer : List ℕ → List Entry → List (List ℕ × List ℕ) → Option (List (List ℕ)) → Option (List (List ℕ)) → Reply
+get_answer account h created ids properties = unless_error h (get_error (changes_of h) ids properties) (answered h (get_response account (changes_of h)
     (map (selected properties) (objects_asked (changes_of h) Calendar created ids)) (ids_not_found (changes_of h) Calendar created ids)) [])
 
-abbrev pub changes_answer : Base → List Entry → Kind → List ℕ → Option ℤ → Reply
-changes_answer base h kind since most = unless_error h (changes_refusal kind (changes_of h) since most)
-    (answered h (changes_arguments base.account_id kind (changes_of h) since most (unwrap_or (state_in since) 0)) [])
+abbrev pub changes_answer : List ℕ → List Entry → Kind → List ℕ → Option ℤ → Reply
+changes_answer account h kind since most = unless_error h (changes_refusal kind (changes_of h) since most)
+    (answered h (changes_arguments account kind (changes_of h) since most (unwrap_or (state_in since) 0)) [])
 
 module _ (base : Base) (h : List Entry) (moment : ℤ) (kind : Kind) (created : List (List ℕ × List ℕ)) where
   abbrev pub ground : Ground
@@ -58,12 +67,9 @@ module _ (base : Base) (h : List Entry) (moment : ℤ) (kind : Kind) (created : 
 
 module _ (base : Base) (h : List Entry) (moment : ℤ) (created : List (List ℕ × List ℕ)) where
   abbrev pub answer_to : Asks → Reply
-  answer_to (Get Calendar ids properties) = get_answer base h created ids properties
-  answer_to (Get Event ids properties) = refused h NotBuilt
-  answer_to (Changes Calendar since most) = changes_answer base h Calendar since most
-  answer_to (Changes Event since most) = refused h NotBuilt
-  answer_to (Set Calendar if_in_state create update destroy remove_events) = set_answer base h moment Calendar created (objects create update destroy) if_in_state remove_events
-  answer_to (Set Event if_in_state create update destroy remove_events) = refused h NotBuilt
+  answer_to (Get kind ids properties) = if_built h kind (get_answer base.account_id h created ids properties)
+  answer_to (Changes kind since most) = if_built h kind (changes_answer base.account_id h kind since most)
+  answer_to (Set kind if_in_state create update destroy remove_events) = if_built h kind (set_answer base h moment kind created (objects create update destroy) if_in_state remove_events)
   answer_to (Query filter sort position anchor anchor_offset limit calculate_total expand time_zone) = refused h NotBuilt
   answer_to (QueryChanges filter sort since most up_to calculate_total expand time_zone) = refused h NotBuilt
   answer_to (Availability id utc_start utc_end time_zone) = refused h NotBuilt
@@ -72,8 +78,7 @@ module _ (base : Base) (h : List Entry) (moment : ℤ) (created : List (List ℕ
   abbrev pub changes_by : Asks → List Change
   changes_by (Get kind ids properties) = []
   changes_by (Changes kind since most) = []
-  changes_by (Set Calendar if_in_state create update destroy remove_events) = set_added base h moment Calendar created (objects create update destroy) if_in_state remove_events
-  changes_by (Set Event if_in_state create update destroy remove_events) = []
+  changes_by (Set kind if_in_state create update destroy remove_events) = changes_if_built kind (set_added base h moment kind created (objects create update destroy) if_in_state remove_events)
   changes_by (Query filter sort position anchor anchor_offset limit calculate_total expand time_zone) = []
   changes_by (QueryChanges filter sort since most up_to calculate_total expand time_zone) = []
   changes_by (Availability id utc_start utc_end time_zone) = []

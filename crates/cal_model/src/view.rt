@@ -5,6 +5,7 @@ ghost use Rattle.cal_model.specs.declared.limits.TheConstants.{MAX_ENTRIES, MAX_
 ghost use Rattle.model_history.specs.Base.{Base};
 ghost use Rattle.model_history.specs.History.{ids_at, live_object, state_at};
 ghost use Rattle.model_history.specs.declared.entry.Change.{Change as AnyChange};
+ghost use Rattle.model_history.specs.declared.entry.Entry.{Entry};
 
 use model_history::entry::{Change, Kind};
 use model_json::tree::Tree;
@@ -12,10 +13,12 @@ use std::alloc::AllocError;
 
 /// What a set sees of an account: its history, with the changes of this call that were accepted so far.
 ///
-/// Contracts see the account's base and the changes of its history, which no call changes, and the staged changes. Each call
-/// answers at the history followed by these.
+/// Contracts see the account's base, its entries and the changes of its history, which no call changes, and the staged changes.
+/// Each call answers at the history followed by these.
 pub trait View {
     ghost base: { Self → Base };
+
+    ghost entries: { Self → List Entry };
 
     ghost history: { Self → List AnyChange };
 
@@ -35,7 +38,7 @@ pub trait View {
         ensures { result ≡ state_at (history self.now ++ staged self.now) kind };
 
     /// The number of changes. Takes no memory.
-    fn entries(&self) -> usize
+    fn count(&self) -> usize
         ensures exact { result ≡ length (history self.now ++ staged self.now) }
         ensures most { result ≤ MAX_ENTRIES };
 
@@ -53,11 +56,13 @@ pub trait View {
         ensures ok { OnOk result (staged self.new ≡ staged self.old ++ change ∷ []) }
         ensures err { OnErr result (staged self.new ≡ []) }
         ensures history { history self.new ≡ history self.old }
+        ensures entries { entries self.new ≡ entries self.old }
         ensures base { base self.new ≡ base self.old };
 
     /// Stages nothing any more. Takes no memory.
     fn forget(&mut self)
         ensures staged { staged self.new ≡ [] }
         ensures history { history self.new ≡ history self.old }
+        ensures entries { entries self.new ≡ entries self.old }
         ensures base { base self.new ≡ base self.old };
 }

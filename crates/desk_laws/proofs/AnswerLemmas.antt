@@ -1,19 +1,25 @@
 -- Answers look at the changes of a history and at nothing else of it.
-use Rattle.std.proofs.Common.{◌≡◌, ℕ, ℤ, suc, List, [], ◌∷◌, Option, Some, None, length, map, flat_map, refl, sym, ap, ◌∙◌}
+use Rattle.std.proofs.Common.{◌≡◌, ℕ, ℤ, suc, List, [], ◌∷◌, Bool, Option, Some, None, length, map, unwrap_or, refl, sym, ap, ◌∙◌}
 use Rattle.std.proofs.lemmas.List.{length-map}
-use Rattle.cal_model.specs.Answer.{Form, get_calendars, create_plain, not_built, form_of, answer, answer_to, added, added_by_form, entries_from, unless_error, get_found, refused}
-use Rattle.model_history.specs.Base.{Base}
+use Rattle.cal_model.specs.Answer.{answer, answer_to, answered, added, changes_answer, changes_by, changes_if_built, entries_from, get_answer, ground, if_built, refused, set_added, set_answer, unless_error, unless_refused}
+use Rattle.cal_model.specs.Changes.{changes_arguments, changes_refusal}
 use Rattle.cal_model.specs.Gets.{get_response, get_error, ids_not_found, objects_asked, selected}
+use Rattle.cal_model.specs.SetReply.{set_arguments}
+use Rattle.cal_model.specs.Sets.{Objects, new_ids, set_changes, set_refusal}
+use Rattle.model_history.specs.Base.{Base}
 use Rattle.model_history.specs.History.{changes_of}
-use Rattle.cal_model.specs.Sets.{changes_in, created_id, of_each, outcomes, set_arguments}
+use Rattle.model_call.specs.declared.call.Asks.{Asks}
+use Rattle.model_call.specs.declared.call.Asks.TheVariants.{Availability, Changes, Get, Query, QueryChanges, Set}
 use Rattle.model_call.specs.declared.call.Call.{Call}
 use Rattle.model_call.specs.declared.call.MethodError.{MethodError}
 use Rattle.model_call.specs.declared.call.Reply.{Reply}
 use Rattle.model_history.specs.declared.entry.Change.{Change}
 use Rattle.model_history.specs.declared.entry.Entry.{Entry}
-use Rattle.model_history.specs.declared.entry.Kind.TheVariants.{Calendar}
+use Rattle.model_history.specs.declared.entry.Kind.{Kind}
+use Rattle.model_history.specs.declared.entry.Kind.TheVariants.{Calendar, Event}
 use Rattle.model_history.specs.declared.stamp.Stamp.{Stamp}
 use Rattle.model_json.specs.declared.tree.Tree.TheVariants.{Null}
+use Rattle.time_text.specs.State.{state_in}
 
 -- the entries of changes have these changes
 changes_of_entries : (s : Stamp) (part : ℕ) (cs : List Change) → changes_of (entries_from s part cs) ≡ cs
@@ -31,36 +37,63 @@ module _ (b : Base) (h h' : List Entry) (same : changes_of h ≡ changes_of h') 
   same_unless None r r' is = is
   same_unless (Some e) r r' is = same_refused e
 
-  same_form : (f : Form) → answer_to b h f ≡ answer_to b h' f
-  same_form (get_calendars ids properties created) =
-      let found : get_found b h ids properties created ≡ get_found b h' ids properties created = λ i. record {
-        arguments = get_response b.account_id (same i) (map (selected properties) (objects_asked (same i) Calendar created ids)) (ids_not_found (same i) Calendar created ids);
-        error = None;
-        created = [];
-        place = same_length i;
-      } in
-      ap (λ (cs : List Change). unless_error h (get_error cs ids properties) (get_found b h ids properties created)) same
-      ∙ same_unless (get_error (changes_of h') ids properties) (get_found b h ids properties created) (get_found b h' ids properties created) found
-  same_form (create_plain creates) = λ i. record {
-    arguments = set_arguments b.account_id (same i) creates (outcomes (same i) creates);
-    error = None;
-    created = of_each created_id creates (outcomes (same i) creates);
-    place = same_length i;
-  }
-  same_form not_built = same_refused _
+  -- a refusal that looks at changes alone, and else replies that are the same
+  same_by : (refusal : List Change → Option MethodError) (r r' : Reply) → r ≡ r' → unless_error h (refusal (changes_of h)) r ≡ unless_error h' (refusal (changes_of h')) r'
+  same_by refusal r r' is = ap (λ (cs : List Change). unless_error h (refusal cs) r) same ∙ same_unless (refusal (changes_of h')) r r' is
 
-  same_more : (s s' : Stamp) (f : Form) → changes_of (added_by_form s h f) ≡ changes_of (added_by_form s' h' f)
-  same_more s s' (get_calendars ids properties created) = refl
-  same_more s s' (create_plain creates) =
-      changes_of_entries s 0 (flat_map changes_in (outcomes (changes_of h) creates))
-      ∙ (ap (λ (cs : List Change). flat_map changes_in (outcomes cs creates)) same ∙ sym (changes_of_entries s' 0 (flat_map changes_in (outcomes (changes_of h') creates))))
-  same_more s s' not_built = refl
+  same_built : (kind : Kind) (r r' : Reply) → r ≡ r' → if_built h kind r ≡ if_built h' kind r'
+  same_built Calendar r r' is = is
+  same_built Event r r' is = same_refused _
+
+  module _ (m : ℤ) (created : List (List ℕ × List ℕ)) where
+    same_get : (ids properties : Option (List (List ℕ))) → get_answer b.account_id h created ids properties ≡ get_answer b.account_id h' created ids properties
+    same_get ids properties = same_by (λ cs. get_error cs ids properties) _ _ (λ i. record {
+      arguments = get_response b.account_id (same i) (map (selected properties) (objects_asked (same i) Calendar created ids)) (ids_not_found (same i) Calendar created ids);
+      error = None;
+      created = [];
+      place = same_length i;
+    })
+
+    same_page : (kind : Kind) (since : List ℕ) (most : Option ℤ) → changes_answer b.account_id h kind since most ≡ changes_answer b.account_id h' kind since most
+    same_page kind since most = same_by (λ cs. changes_refusal kind cs since most) _ _ (λ i. record {
+      arguments = changes_arguments b.account_id kind (same i) since most (unwrap_or (state_in since) 0);
+      error = None;
+      created = [];
+      place = same_length i;
+    })
+
+    same_set : (kind : Kind) (s : Objects) (if_in_state : Option (List ℕ)) (remove_events : Option Bool) → set_answer b h m kind created s if_in_state remove_events ≡ set_answer b h' m kind created s if_in_state remove_events
+    same_set kind s if_in_state remove_events = same_by (λ cs. set_refusal kind cs s if_in_state remove_events) _ _ (λ i. record {
+      arguments = set_arguments (ground b h m kind created) kind created (same i) s;
+      error = None;
+      created = new_ids (ground b h m kind created) kind created (same i) s;
+      place = same_length i;
+    })
+
+    same_to : (asks : Asks) → answer_to b h m created asks ≡ answer_to b h' m created asks
+    same_to (Get kind ids properties) = same_built kind _ _ (same_get ids properties)
+    same_to (Changes kind since most) = same_built kind _ _ (same_page kind since most)
+    same_to (Set kind if_in_state create update destroy remove_events) = same_built kind _ _ (same_set kind _ if_in_state remove_events)
+    same_to (Query filter sort position anchor anchor_offset limit calculate_total expand time_zone) = same_refused _
+    same_to (QueryChanges filter sort since most up_to calculate_total expand time_zone) = same_refused _
+    same_to (Availability id utc_start utc_end time_zone) = same_refused _
+
+    same_changes : (asks : Asks) → changes_by b h m created asks ≡ changes_by b h' m created asks
+    same_changes (Get kind ids properties) = refl
+    same_changes (Changes kind since most) = refl
+    same_changes (Set kind if_in_state create update destroy remove_events) =
+        ap (λ (cs : List Change). changes_if_built kind (unless_refused (set_refusal kind cs _ if_in_state remove_events) (set_changes (ground b h m kind created) kind created cs _))) same
+    same_changes (Query filter sort position anchor anchor_offset limit calculate_total expand time_zone) = refl
+    same_changes (QueryChanges filter sort since most up_to calculate_total expand time_zone) = refl
+    same_changes (Availability id utc_start utc_end time_zone) = refl
 
   module _ (c : Call) where
     -- two histories with the same changes have the same answer at one moment
     pub same_answer : (m m' : ℤ) → m ≡ m' → answer b h c m ≡ answer b h' c m'
-    same_answer m m' moments = same_form (form_of c)
+    same_answer m m' moments = same_to m c.created c.asks ∙ ap (λ (n : ℤ). answer b h' c n) moments
 
     -- and the same changes are added
     pub same_added : (s s' : Stamp) → s.moment ≡ s'.moment → changes_of (added b h c s) ≡ changes_of (added b h' c s')
-    same_added s s' moments = same_more s s' (form_of c)
+    same_added s s' moments =
+        changes_of_entries s 0 (changes_by b h s.moment c.created c.asks)
+        ∙ (same_changes s.moment c.created c.asks ∙ (ap (λ (n : ℤ). changes_by b h' n c.created c.asks) moments ∙ sym (changes_of_entries s' 0 (changes_by b h' s'.moment c.created c.asks))))

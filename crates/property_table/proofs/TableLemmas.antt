@@ -10,15 +10,15 @@ use Rattle.model_json.specs.Parts.{is_null, members_in}
 use Rattle.model_json.specs.ObjectKeys.{is_above, keys_rise}
 use Rattle.property_table.specs.Names.{has_name, names_rise, put_name}
 use Rattle.property_table.specs.OnePass.{fails_given, failing_keys, with_missing}
-use Rattle.property_table.specs.Table.{NamesAllFailing, Table, Test, fails, failing, given, keys_of, names_of, required_names, test_at}
+use Rattle.property_table.specs.Table.{NamesAllFailing, Table, Test, failing, fails_at, given, keys_of, names_of, required_names, test_at}
 use Rattle.property_table.proofs.NameLemmas.{has_append, has_filter, has_keys, has_ordered, has_put, rises_ordered, rises_put, unique}
 
 pub all_failing : (t : Table) (ps : List Pair) → NamesAllFailing t ps
 all_failing t ps =
     let names : List (List ℕ) = names_of t.rows ++ keys_of ps in
     record {
-      rise = rises_ordered (filter (fails t ps) names);
-      exact = λ n. has_ordered (filter (fails t ps) names) n ∙ has_filter (fails t ps) names n;
+      rise = rises_ordered (filter (fails_at t ps) names);
+      exact = λ n. has_ordered (filter (fails_at t ps) names) n ∙ has_filter (fails_at t ps) names n;
     }
 
 -- Some of the members of an object.
@@ -155,15 +155,15 @@ agree named test (Some d) = agree_given named test d (is_null d) refl
 pub one_pass : (t : Table) (ps : List Pair) → keys_rise ps ≡ true → with_missing (given ps) (required_names t) (failing_keys t ps) ≡ failing t (given ps)
 one_pass t ps r =
     unique _ _ (rises_missing (given ps) (required_names t) (failing_keys t ps) (rises_keys (filter (fails_given t) ps) (rises_filter (fails_given t) ps r)))
-    (rises_ordered (filter (fails t (given ps)) (names_of t.rows ++ keys_of (given ps))))
+    (rises_ordered (filter (fails_at t (given ps)) (names_of t.rows ++ keys_of (given ps))))
     (λ k. has_missing (given ps) (required_names t) (failing_keys t ps) k
     ∙ ap (λ b. (b && not (is_some (lookup k (given ps)))) || has_name (failing_keys t ps) k) (has_filter (λ n. not (test_at t n None)) (names_of t.rows) k)
     ∙ ap (λ b. ((has_name (names_of t.rows) k && not (test_at t k None)) && not (is_some (lookup k (given ps)))) || b) (has_failing t ps k r)
     ∙ ap (λ found. ((has_name (names_of t.rows) k && not (test_at t k None)) && not (is_some found)) || fails_value (test_at t k) (lookup k ps)) (given_is k ps r)
     ∙ agree (has_name (names_of t.rows) k) (test_at t k) (lookup k ps)
     ∙ ap (λ found. (has_name (names_of t.rows) k || is_some found) && not (test_at t k found)) (sym (given_is k ps r))
-    ∙ ap (λ b. (has_name (names_of t.rows) k || b) && fails t (given ps) k) (sym (has_keys (given ps) k))
-    ∙ ap (λ b. b && fails t (given ps) k) (sym (has_append (names_of t.rows) (keys_of (given ps)) k))
+    ∙ ap (λ b. (has_name (names_of t.rows) k || b) && fails_at t (given ps) k) (sym (has_keys (given ps) k))
+    ∙ ap (λ b. b && fails_at t (given ps) k) (sym (has_append (names_of t.rows) (keys_of (given ps)) k))
     ∙ sym ((all_failing t (given ps)).exact k))
 
 field_is : (k : List ℕ) (d : Data) → field k d ≡ lookup k (members_in d)

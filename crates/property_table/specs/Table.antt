@@ -9,12 +9,12 @@ use Rattle.property_table.specs.Names.{has_name, in_byte_order, names_rise}
 abbrev pub Test : Type 0
 Test = Option Data → Bool
 
-abbrev pub Row : Type 0
-Row = List ℕ × Test
+abbrev pub PropertyRow : Type 0
+PropertyRow = List ℕ × Test
 
 -- the rows, and the tests at all other names
 pub record Table : Type 0 where
-  pub rows : List Row
+  pub rows : List PropertyRow
   pub other : List ℕ → Test
 
 -- the value may be left out
@@ -32,14 +32,14 @@ abbrev pub never : Test
 never None = true
 never (Some d) = false
 
-abbrev pub names_of : List Row → List (List ℕ)
+abbrev pub names_of : List PropertyRow → List (List ℕ)
 names_of rows = map (λ row. row.0) rows
 
 abbrev pub keys_of : List Pair → List (List ℕ)
 keys_of ps = map (λ p. p.0) ps
 
 -- the test at a name, among these rows
-abbrev pub test_among : List Row → (List ℕ → Test) → List ℕ → Test
+abbrev pub test_among : List PropertyRow → (List ℕ → Test) → List ℕ → Test
 test_among [] other name = other name
 test_among (row ∷ rows) other name = if bytes_eq row.0 name then row.1 else test_among rows other name
 
@@ -52,12 +52,12 @@ abbrev pub required_names : Table → List (List ℕ)
 required_names t = filter (λ name. not (test_at t name None)) (names_of t.rows)
 
 -- the value at this name doesn't pass
-abbrev pub fails : Table → List Pair → List ℕ → Bool
-fails t ps name = not (test_at t name (lookup name ps))
+abbrev pub fails_at : Table → List Pair → List ℕ → Bool
+fails_at t ps name = not (test_at t name (lookup name ps))
 
 -- all names at which the value doesn't pass, in byte order
 abbrev pub failing : Table → List Pair → List (List ℕ)
-failing t ps = in_byte_order (filter (fails t ps) (names_of t.rows ++ keys_of ps))
+failing t ps = in_byte_order (filter (fails_at t ps) (names_of t.rows ++ keys_of ps))
 
 -- the members that aren't null
 abbrev pub given : List Pair → List Pair
@@ -70,4 +70,4 @@ failing_of t d = failing t (given (members_in d))
 -- what `failing` names: in byte order, those names of rows and members that fail, and no others
 pub record NamesAllFailing (t : Table) (ps : List Pair) : Type 0 where
   pub rise : names_rise (failing t ps) ≡ true
-  pub exact : (name : List ℕ) → has_name (failing t ps) name ≡ (has_name (names_of t.rows ++ keys_of ps) name && fails t ps name)
+  pub exact : (name : List ℕ) → has_name (failing t ps) name ≡ (has_name (names_of t.rows ++ keys_of ps) name && fails_at t ps name)

@@ -34,6 +34,7 @@ pub(crate) fn carry_out<V: View>(
     ensures created { IfOk result (λ p. p.created ≡ new_ids (ground_in setting.now) setting.now.kind created.now (V.history view.old) (objects_in request.now)) }
     ensures staged { OnOk result (V.staged view.new ≡ set_changes (ground_in setting.now) setting.now.kind created.now (V.history view.old) (objects_in request.now)) }
     ensures history { V.history view.new ≡ V.history view.old }
+    ensures entries { V.entries view.new ≡ V.entries view.old }
     ensures base { V.base view.new ≡ V.base view.old }
 {
     let old_state = view.state(setting.kind);

@@ -3,13 +3,13 @@ ghost use Rattle.std.specs.Prelude.{◌≡◌, IfOk, length, map};
 ghost use Rattle.cal_model.specs.SetReply.{destroyed_item, list_or_null, object_or_null, updated_member};
 ghost use Rattle.cal_model.specs.Sets.{of_each};
 ghost use Rattle.model_json.specs.TreeData.{data_of, pair_of};
-
 use crate::named_id::NamedId;
-use crate::object_id::object_id;
+
 use crate::parts::{list_or_null, object_or_null};
 use cal_model::outcome::Outcome;
 use model_json::tree::{Member, Tree};
 use std::alloc::{AllocError, Global};
+use time_text::object_id_text;
 
 /// What is told of the updates that were accepted: that nothing was changed which the client doesn't know.
 pub(crate) fn updated(
@@ -47,7 +47,7 @@ fn updated_members(
     for (i, _update) in updates.iter().enumerate() {
         match &outcomes[i] {
             Outcome::Accepted(change) => {
-                let key = object_id(alloc, change.kind, change.id)?;
+                let key = object_id_text(alloc, change.kind, change.id)?;
                 members.push(Member {
                     key,
                     value: Tree::Null,
@@ -71,7 +71,7 @@ fn destroyed_ids(
     for (i, _named) in named.iter().enumerate() {
         match &outcomes[i] {
             Outcome::Accepted(change) => {
-                let id = object_id(alloc, change.kind, change.id)?;
+                let id = object_id_text(alloc, change.kind, change.id)?;
                 ids.push(Tree::Text(id))?;
             }
             Outcome::Refused(_) => {}

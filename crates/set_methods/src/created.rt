@@ -8,13 +8,14 @@ ghost use Rattle.model_json.specs.ObjectKeys.{HasOrderedKeys};
 ghost use Rattle.model_json.specs.Parts.{members_in};
 ghost use Rattle.model_json.specs.TreeData.{data_of, pair_of};
 
-use crate::object_id::object_id;
+
 use crate::parts::object_or_null;
 use cal_model::outcome::Outcome;
 use model_history::entry::Change;
 use model_json::text::Text;
 use model_json::tree::{Member, Tree, TreeObject};
 use std::alloc::{AllocError, Global};
+use time_text::object_id_text;
 
 /// The creation ids of the creates that were accepted, each with the id that the object got.
 pub(crate) fn new_ids(
@@ -29,7 +30,7 @@ pub(crate) fn new_ids(
     for (i, create) in creates.iter().enumerate() {
         match &outcomes[i] {
             Outcome::Accepted(change) => {
-                let id = object_id(alloc, change.kind, change.id)?;
+                let id = object_id_text(alloc, change.kind, change.id)?;
                 ids.push((create.key.copy()?, id))?;
             }
             Outcome::Refused(_) => {}

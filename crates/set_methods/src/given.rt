@@ -7,7 +7,7 @@ ghost use Rattle.model_json.specs.Parts.{members_in};
 ghost use Rattle.model_json.specs.TreeData.{data_of};
 ghost use Rattle.property_table.specs.Table.{given};
 
-use crate::object_id::object_id;
+
 use crate::texts::copies;
 use model_history::entry::Kind;
 use model_json::lists::Texts;
@@ -15,6 +15,7 @@ use model_json::text::Text;
 use model_json::tree::{Tree, TreeObject};
 use property_table::names::put_name;
 use std::alloc::{AllocError, Global};
+use time_text::object_id_text;
 
 /// A copy of an object, without members where this is none.
 pub(crate) fn copy_of_object(alloc: Global, tree: &Tree) -> Result<TreeObject, AllocError>
@@ -58,7 +59,7 @@ pub(crate) fn has_other_id(
     ensures { IfOk result (λ b. b ≡ has_other_id kind number object.now) }
 {
     match given_at(object, "id") {
-        Some(id) => Ok(!is_text(id, &object_id(alloc, kind, number)?)),
+        Some(id) => Ok(!is_text(id, &object_id_text(alloc, kind, number)?)),
         None => Ok(false),
     }
 }
@@ -82,7 +83,7 @@ pub(crate) fn with_own_id(
     ensures { IfOk result (λ t. data_of t ≡ with_own_id kind number object) }
 {
     let mut object = object;
-    let id = object_id(alloc, kind, number)?;
+    let id = object_id_text(alloc, kind, number)?;
     object.put(Text::from_str(alloc, "id")?, Tree::Text(id))?;
     Ok(Tree::Object(object))
 }

@@ -11,7 +11,6 @@ pub mod created_ids;
 mod given;
 mod judge;
 mod named_id;
-pub mod object_id;
 mod operation;
 mod operations;
 mod parts;

@@ -44,6 +44,7 @@ pub fn plan<V: View>(
     ensures refused { IfErr result (λ e. Reports e (set_refusal request.now.kind (V.history view.old) (objects_in request.now) request.now.if_in_state.now request.now.remove_events)) }
     ensures forgotten { OnErr result (V.staged view.new ≡ []) }
     ensures history { V.history view.new ≡ V.history view.old }
+    ensures entries { V.entries view.new ≡ V.entries view.old }
     ensures base { V.base view.new ≡ V.base view.old }
 {
     if let Some(error) = refusal(alloc, view, request)? {

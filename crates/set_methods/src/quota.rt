@@ -48,5 +48,5 @@ fn size_of_change(alloc: Global, change: &Change) -> Result<usize, AllocError>
 fn has_room<V: View>(view: &V, size: usize) -> bool
     ensures { result ≡ not (exceeds_quota (V.history view.now ++ V.staged view.now) size) }
 {
-    view.entries() < MAX_ENTRIES && size <= MAX_OBJECT_BYTES - view.text()
+    view.count() < MAX_ENTRIES && size <= MAX_OBJECT_BYTES - view.text()
 }

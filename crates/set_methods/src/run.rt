@@ -23,6 +23,7 @@ pub(crate) fn run<V: View>(
     ensures lengths { IfOk result (λ v. vec_len v ≡ length operations.now) }
     ensures staged { IfOk result (λ v. V.staged view.new ≡ V.staged view.old ++ flat_map changes_in v.items) }
     ensures history { V.history view.new ≡ V.history view.old }
+    ensures entries { V.entries view.new ≡ V.entries view.old }
     ensures base { V.base view.new ≡ V.base view.old }
 {
     let mut outcomes = Vec::with_capacity(alloc, operations.len())?;
@@ -40,6 +41,7 @@ fn staged<V: View>(view: &mut V, judged: Judged) -> Result<Outcome, AllocError>
     ensures outcome { IfOk result (λ o. o ≡ judged.outcome) }
     ensures staged { IfOk result (λ o. V.staged view.new ≡ V.staged view.old ++ changes_in o) }
     ensures history { V.history view.new ≡ V.history view.old }
+    ensures entries { V.entries view.new ≡ V.entries view.old }
     ensures base { V.base view.new ≡ V.base view.old }
 {
     match &judged.outcome {

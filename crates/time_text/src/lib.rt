@@ -16,6 +16,6 @@ pub use id::read_id;
 pub use laws::{written_times_are_read, years_have_four_digits};
 pub use local::{is_in_years, read_local, read_utc};
 pub use number::read_number;
-pub use object_id::read_object_id;
+pub use object_id::{object_id_text, read_object_id};
 pub use state::read_state;
 pub use text::{local_text, utc_text};

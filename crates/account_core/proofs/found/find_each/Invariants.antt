@@ -1,5 +1,7 @@
 use Rattle.std.proofs.Common.{◌≡◌, filter, flat_map, is_some, map, not}
-use Rattle.cal_model.specs.Gets.{object_with_id, selected}
+use Rattle.account_store.specs.Store.{entries}
+use Rattle.cal_model.specs.CreatedIds.{object_with_id}
+use Rattle.cal_model.specs.Gets.{selected}
 use Rattle.model_history.specs.History.{changes_of}
 use Rattle.model_json.specs.Parts.{some_of}
 use Rattle.model_json.specs.TreeData.{data_of}
@@ -8,6 +10,6 @@ use Rattle.account_core.proofs.found.find_each.Given as goal
 
 abbrev pub invariant-loop-id : goal.invariant-loop-id
 invariant-loop-id l = record {
-  list : map data_of l.list.items ≡ map (selected l.properties) (flat_map (λ id. some_of (object_with_id (changes_of l.history) Calendar id)) l.yielded);
-  missing : l.missing.items ≡ filter (λ id. not (is_some (object_with_id (changes_of l.history) Calendar id))) l.yielded;
+  list : map data_of l.list.items ≡ map (selected l.properties) (flat_map (λ id. some_of (object_with_id (changes_of (entries l.store)) Calendar id)) l.yielded);
+  missing : l.missing.items ≡ filter (λ id. not (is_some (object_with_id (changes_of (entries l.store)) Calendar id))) l.yielded;
 }

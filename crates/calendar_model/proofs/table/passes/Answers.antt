@@ -1,4 +1,4 @@
-use Rattle.std.proofs.Common.{◌≡◌, ⊎_elim, refl, sym, true, false}
+use Rattle.std.proofs.Common.{⊎_elim, refl}
 use Rattle.property_table.proofs.TableLemmas.{unlike}
 use Rattle.cal_model.specs.Calendar.{calendar_table}
 use Rattle.calendar_model.proofs.table.passes.Goals as goal

@@ -7,6 +7,7 @@ abbrev pub invariant-loop-operation : goal.invariant-loop-operation
 invariant-loop-operation g l = record {
   count : vec_len l.outcomes ≡ l.operation-index;
   history : g.V.View.history l.view ≡ g.V.View.history l.initial.view;
+  entries : g.V.View.entries l.view ≡ g.V.View.entries l.initial.view;
   base : g.V.View.base l.view ≡ g.V.View.base l.initial.view;
   staged : g.V.View.staged l.view ≡ g.V.View.staged l.initial.view ++ flat_map changes_in l.outcomes.items;
   rest : l.outcomes.items ++ outcomes (ground_in l.setting) l.setting.kind (g.V.View.history l.initial.view ++ g.V.View.staged l.view) (map operation_in (drop l.operation-index l.operations))

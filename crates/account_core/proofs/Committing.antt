@@ -1,0 +1,39 @@
+-- The entries that changes become.
+use Rattle.std.proofs.Common.{◌≡◌, ◌+◌, ℕ, suc, List, [], ◌∷◌, ◌++◌, add-zero, append_assoc, arith, length, map, refl, sym, ap, ◌∙◌, zero-add}
+use Rattle.std.proofs.lemmas.List.{map-append}
+use Rattle.std.proofs.lemmas.List.Sums.{sum_by-append}
+use Rattle.account_core.specs.Tally.{Tallies}
+use Rattle.account_core.specs.declared.tally.Tally.{Tally}
+use Rattle.cal_model.specs.Answer.{entries_from, entry_of}
+use Rattle.model_history.specs.History.{changes_of, is_kind, live_object, object_from, state_at}
+use Rattle.model_history.specs.declared.entry.Change.{Change}
+use Rattle.model_history.specs.declared.entry.Entry.{Entry}
+use Rattle.model_history.specs.declared.entry.Kind.{Kind}
+use Rattle.model_history.specs.declared.stamp.Stamp.{Stamp}
+use Rattle.model_json.specs.declared.tree.Tree.{Tree}
+use Rattle.std.specs.Prelude.{Option}
+
+-- the changes of the entries that changes become
+pub changes_back : (s : Stamp) (cs : List Change) (n : ℕ) → changes_of (entries_from s n cs) ≡ cs
+changes_back s [] n = refl
+changes_back s (c ∷ cs) n = ap (λ ds. c ∷ ds) (changes_back s cs (suc n))
+
+-- the tally of a history with its staged changes is that of the history which they became part of
+pub tally_committed : (t : Tally) (h h' : List Entry) (s : Stamp) (cs : List Change) → Tallies t (changes_of h ++ cs) → h' ≡ h ++ entries_from s 0 cs → Tallies t (changes_of h')
+tally_committed t h h' s cs tallies is = rw (is, map-append, changes_back) tallies
+
+pub object_from_append : (cs ds : List Change) (before : Option Tree) (kind : Kind) (id : ℕ) → object_from before (cs ++ ds) kind id ≡ object_from (object_from before cs kind id) ds kind id
+object_from_append [] ds before kind id = refl
+object_from_append (c ∷ cs) ds before kind id = object_from_append cs ds _ kind id
+
+pub state_at_append : (cs ds : List Change) (kind : Kind) → state_at (cs ++ ds) kind ≡ state_at cs kind + state_at ds kind
+state_at_append cs ds kind = sum_by-append _ cs ds
+
+entries_push : (s : Stamp) (cs : List Change) (n : ℕ) (c : Change) → entries_from s n (cs ++ c ∷ []) ≡ entries_from s n cs ++ entry_of s (n + length cs) c ∷ []
+entries_push s [] n c = rw add-zero refl
+entries_push s (d ∷ cs) n c = ap (λ es. entry_of s n d ∷ es) (entries_push s cs (suc n) c ∙ ap (λ m. entries_from s (suc n) cs ++ entry_of s m c ∷ []) (omega arith))
+
+-- one entry more, with the next part
+pub entries_more : (h h' h'' : List Entry) (s : Stamp) (cs : List Change) (c : Change) (part : ℕ) → h' ≡ h ++ entries_from s 0 cs → part ≡ length cs → h'' ≡ h' ++ entry_of s part c ∷ []
+    → h'' ≡ h ++ entries_from s 0 (cs ++ c ∷ [])
+entries_more h h' h'' s cs c part before number push = push ∙ rw (before, number, append_assoc) (ap (λ es. h ++ es) (sym (entries_push s cs 0 c ∙ ap (λ m. entries_from s 0 cs ++ entry_of s m c ∷ []) (zero-add (length cs)))))

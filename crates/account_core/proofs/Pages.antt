@@ -1,0 +1,28 @@
+-- What a reply tells of a page is what the definition says.
+use Rattle.std.proofs.Common.{◌≡◌, ℕ, ℤ, [], List, Bool, true, false, Option, Some, option_map, unsigned_abs, refl}
+use Rattle.account_core.specs.PageObject.{page_object}
+use Rattle.cal_model.specs.Answer.{answered, changes_answer}
+use Rattle.cal_model.specs.Changes.{is_maximum, page_arguments}
+use Rattle.model_history.specs.History.{changes_of, state_at}
+use Rattle.model_history.specs.Pages.{is_retained, mentions, page_end}
+use Rattle.model_history.specs.declared.entry.Change.{Change}
+use Rattle.model_history.specs.declared.entry.Entry.{Entry}
+use Rattle.model_history.specs.declared.entry.Kind.{Kind}
+use Rattle.state_log.specs.IsPage.{IsPage}
+use Rattle.state_log.specs.declared.page.Page.{Page}
+use Rattle.time_text.specs.State.{state_in}
+
+page_told : (account : List ℕ) (kind : Kind) (cs : List Change) (since : List ℕ) (k : ℕ) (most : Option ℕ) (page : Page) → IsPage (mentions kind cs) k most page
+    → page_object account kind since (state_at cs kind) page ≡ page_arguments account kind cs since k (page_end (mentions kind cs) k most)
+page_told account kind cs since k most page h = rw (h.created, h.updated, h.destroyed, h.until) refl
+
+not_false : (b : Bool) → (b ≡ false → ⊥) → b ≡ true
+not_false true h = refl
+not_false false h = absurd (h refl)
+
+-- the reply that tells the page of a state that is known
+pub changes_told : (account : List ℕ) (h : List Entry) (kind : Kind) (since : List ℕ) (most : Option ℤ) (k : ℕ) (page : Page)
+    → is_maximum most ≡ true → state_in since ≡ Some k → (is_retained (state_at (changes_of h) kind) k ≡ false → ⊥) → IsPage (mentions kind (changes_of h)) k (option_map unsigned_abs most) page
+    → answered h (page_object account kind since (state_at (changes_of h) kind) page) [] ≡ changes_answer account h kind since most
+changes_told account h kind since most k page maximum state retained is =
+    rw (maximum, state, not_false (is_retained (state_at (changes_of h) kind) k) retained, page_told account kind (changes_of h) since k (option_map unsigned_abs most) page is) refl

@@ -1,6 +1,0 @@
-use Rattle.std.proofs.Common.{◌≡◌, fold, drop, map}
-use Rattle.cal_model.specs.Gets.{different, resolved_id, with_text}
-use Rattle.account_core.proofs.asked_ids.asked_ids.Given as goal
-
-abbrev pub invariant-loop-id : goal.invariant-loop-id
-invariant-loop-id l = fold with_text l.asked.items (map (resolved_id l.created) (drop l.id-index l.ids)) ≡ different (map (resolved_id l.created) l.ids)

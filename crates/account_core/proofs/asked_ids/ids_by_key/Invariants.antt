@@ -1,7 +1,0 @@
-use Rattle.std.proofs.Common.{◌≡◌, ℕ, List, take}
-use Rattle.account_core.specs.IdsByKey.{id_at}
-use Rattle.cal_model.specs.Gets.{created_id_at}
-use Rattle.account_core.proofs.asked_ids.ids_by_key.Given as goal
-
-abbrev pub invariant-loop-key : goal.invariant-loop-key
-invariant-loop-key l = (key : List ℕ) → id_at l.ids key ≡ created_id_at (take l.key-index l.created) key

@@ -1,0 +1,17 @@
+use Rattle.std.proofs.Common.{◌≡◌, ap, append-nil, subst, sym, ◌∙◌, ◌++◌, []}
+use Rattle.account_core.proofs.Committing.{tally_committed}
+use Rattle.account_core.specs.Tally.{Tallies}
+use Rattle.account_store.specs.Store.{entries}
+use Rattle.cal_model.specs.Answer.{entries_from}
+use Rattle.model_history.specs.History.{changes_of}
+use Rattle.account_core.proofs.ledger.Ledger.commit.Goals as goal
+
+pub invariant_of-self : goal.invariant_of-self
+invariant_of-self c =
+    let pushed = c.push_all.ensures ∙ ap (λ v. entries c.args.self.now.store ++ entries_from c.args.stamp.now 0 v.items) c.replace-staged.ensures.value in
+    let kept = tally_committed c.args.self.now.tally _ _ c.args.stamp.now _ c.args.self.now.told pushed in
+    let emptied : c.replace-staged.new.dest.items ≡ [] = ap (λ v. v.items) c.replace-staged.ensures.after ∙ c.new.ensures.items in
+    record {
+      kept_told = kept;
+      told = subst (λ items. Tallies c.args.self.now.tally (changes_of (entries c.push_all.new.store) ++ items)) (sym emptied) (rw append-nil kept);
+    }

@@ -1,0 +1,24 @@
+-- What a ledger shows.
+use Rattle.std.specs.Prelude.{ℕ, List}
+use Rattle.std.specs.Arc.{arc_value}
+use Rattle.account_core.specs.declared.ledger.Ledger.{Ledger}
+use Rattle.account_store.specs.Store as store
+use Rattle.model_history.specs.Base.{Base}
+use Rattle.model_history.specs.History.{changes_of}
+use Rattle.model_history.specs.declared.entry.Change.{Change}
+use Rattle.model_history.specs.declared.entry.Entry.{Entry}
+
+-- the account's id and zones
+abbrev pub base : Ledger → Base
+base l = record { account_id = l.id; zones = arc_value l.zones }
+
+-- the account's entries
+abbrev pub entries : Ledger → List Entry
+entries l = store.entries l.store
+
+abbrev pub history : Ledger → List Change
+history l = changes_of (entries l)
+
+-- the changes that a call makes and that aren't entries yet
+abbrev pub staged : Ledger → List Change
+staged l = l.staged.items

@@ -1,0 +1,119 @@
+//! What changed since a state (RFC 8620 section 5.2).
+ghost use Rattle.std.specs.Prelude.{◌≡◌, IfOk, option_map, true, unsigned_abs};
+ghost use Rattle.account_core.specs.Ledger as ledger_words;
+ghost use Rattle.account_store.specs.Store.{entries};
+ghost use Rattle.account_core.specs.PageObject.{page_object};
+ghost use Rattle.cal_model.specs.Answer.{changes_answer, if_built};
+ghost use Rattle.cal_model.specs.Changes.{id_list, is_maximum};
+ghost use Rattle.model_json.specs.TreeData.{data_of};
+
+use crate::ledger::Ledger;
+use crate::reply::{refusal, reply, state_tree};
+use account_store::Store;
+use model_call::call::{MethodError, Reply};
+use model_core::numbers::MAX_UNSIGNED_INT;
+use model_history::entry::Kind;
+use model_history::ids::Ids;
+use model_json::lists::Pairs;
+use model_json::num::Num;
+use model_json::text::Text;
+use model_json::tree::{Tree, TreeList};
+use state_log::{ChangesError, Page};
+use std::alloc::{AllocError, Global};
+use time_text::{object_id_text, read_state};
+
+/// Answers what changed of a kind since a state.
+pub fn changes(
+    ledger: &Ledger,
+    kind: Kind,
+    since: &Text,
+    most: &Option<Num>,
+) -> Result<Reply, AllocError>
+    ensures { IfOk result (λ r. r ≡ if_built (ledger_words.entries ledger.now) kind
+        (changes_answer (ledger_words.base ledger.now).account_id (ledger_words.entries ledger.now) kind since.now most.now)) }
+{
+    match kind {
+        Kind::Calendar => changes_since(ledger.alloc, &ledger.id, &ledger.store, kind, since, most),
+        Kind::Event => Ok(refusal(ledger.alloc, &ledger.store, MethodError::NotBuilt)),
+    }
+}
+
+// A maximum that isn't one is told before a state that isn't known.
+fn changes_since(
+    alloc: Global,
+    account: &Text,
+    store: &Store,
+    kind: Kind,
+    since: &Text,
+    most: &Option<Num>,
+) -> Result<Reply, AllocError>
+    ensures { IfOk result (λ r. r ≡ changes_answer account.now (entries store.now) kind since.now most.now) }
+{
+    if !is_maximum(most) {
+        return Ok(refusal(alloc, store, MethodError::InvalidArguments));
+    }
+    let Some(state) = read_state(since.as_str().as_bytes()) else {
+        return Ok(refusal(alloc, store, MethodError::CannotCalculateChanges));
+    };
+    let page = match store.changes(kind, state, limit(most)) {
+        Ok(page) => page,
+        Err(ChangesError::NotRetained) => {
+            return Ok(refusal(alloc, store, MethodError::CannotCalculateChanges));
+        }
+        Err(ChangesError::NoMemory) => return Err(AllocError),
+    };
+    let arguments = page_tree(alloc, account, store.count(kind), kind, since, &page)?;
+    Ok(reply(store, arguments, Pairs::new(Vec::new(alloc))))
+}
+
+fn is_maximum(most: &Option<Num>) -> bool
+    ensures { result ≡ is_maximum most.now }
+{
+    match most {
+        Some(number) => number.get() >= 1 && number.get() <= i128::from(MAX_UNSIGNED_INT),
+        None => true,
+    }
+}
+
+fn limit(most: &Option<Num>) -> Option<u64>
+    requires { is_maximum most.now ≡ true }
+    ensures { result ≡ option_map unsigned_abs most.now }
+{
+    match most {
+        Some(number) => Some(number.get() as u64),
+        None => None,
+    }
+}
+
+// The arguments that tell a page, where the kind is in this state.
+fn page_tree(
+    alloc: Global,
+    account: &Text,
+    state: u64,
+    kind: Kind,
+    since: &Text,
+    page: &Page,
+) -> Result<Tree, AllocError>
+    ensures { IfOk result (λ t. t ≡ page_object account.now kind since.now state page.now) }
+{
+    let members = vec![in alloc;
+        ("accountId", Tree::Text(account.copy()?)),
+        ("created", id_list(alloc, kind, &page.created)?),
+        ("destroyed", id_list(alloc, kind, &page.destroyed)?),
+        ("hasMoreChanges", Tree::Truth(page.until != state)),
+        ("newState", state_tree(alloc, page.until)?),
+        ("oldState", Tree::Text(since.copy()?)),
+        ("updated", id_list(alloc, kind, &page.updated)?),
+    ]?;
+    Tree::object(alloc, members)
+}
+
+fn id_list(alloc: Global, kind: Kind, ids: &Ids) -> Result<Tree, AllocError>
+    ensures { IfOk result (λ t. data_of t ≡ id_list kind ids.now) }
+{
+    let mut items = Vec::with_capacity(alloc, ids.items().len())?;
+    for id in ids.items() {
+        items.push(Tree::Text(object_id_text(alloc, kind, *id)?))?;
+    }
+    Ok(Tree::List(TreeList::new(items)))
+}

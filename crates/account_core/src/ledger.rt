@@ -1,0 +1,172 @@
+//! The history of an account with the changes that a call is about to make.
+ghost use Rattle.std.specs.Prelude.{◌≡◌, ◌<◌, ◌≤◌, ◌^◌, ◌++◌, [], OnErr, OnOk, length};
+ghost use Rattle.account_core.specs.Tally.{Tallies};
+ghost use Rattle.account_store.specs.Store as store_words;
+ghost use Rattle.cal_model.specs.Answer.{entries_from};
+ghost use Rattle.model_history.specs.History.{changes_of};
+
+use crate::tally::Tally;
+use account_store::Store;
+use cal_model::view::View;
+use model_history::entry::{Change, Entry, Kind};
+use model_history::stamp::Stamp;
+use model_json::text::Text;
+use model_json::tree::Tree;
+use std::alloc::{AllocError, Global};
+use std::mem;
+use std::sync::Arc;
+use zone_table::Zones;
+
+/// The history of an account, and the changes that a call makes before they become entries.
+///
+/// Contracts see the account's base, its entries, the staged changes, and how many of these can become entries without memory.
+#[derive(Drop)]
+pub struct Ledger {
+    pub alloc: Global,
+    pub id: Text,
+    pub zones: Arc<Zones>,
+    pub store: Store,
+    /// What the history holds.
+    kept: Tally,
+    staged: Vec<Change>,
+    /// What the history and the staged changes hold.
+    tally: Tally,
+    ghost kept_told: { Tallies kept (changes_of (store_words.entries store)) },
+    ghost told: { Tallies tally (changes_of (store_words.entries store) ++ staged.items) },
+}
+
+impl Ledger {
+    ghost use Rattle.account_core.specs.Ledger.{base, entries, history, staged};
+    ghost use Rattle.model_history.specs.Base.{Base};
+    ghost use Rattle.std.specs.Arc.{arc_value};
+
+    /// A ledger of an account of this id, with these zones and no entries. Takes no memory.
+    pub fn new(alloc: Global, id: Text, zones: Arc<Zones>) -> Ledger
+        ensures base { base result ≡ record { account_id = id; zones = arc_value zones } }
+        ensures entries { entries result ≡ [] }
+        ensures staged { staged result ≡ [] }
+    {
+        Ledger {
+            alloc,
+            id,
+            zones,
+            store: Store::new(alloc),
+            kept: Tally::new(),
+            staged: Vec::new(alloc),
+            tally: Tally::new(),
+        }
+    }
+
+    /// Takes memory for the entries that the staged changes become. After want of memory nothing is staged.
+    pub fn reserve(&mut self) -> Result<(), AllocError>
+        ensures spare { OnOk result (length (staged self.new) ≤ store_words.spare self.new.store) }
+        ensures ok { OnOk result (staged self.new ≡ staged self.old) }
+        ensures err { OnErr result (staged self.new ≡ []) }
+        ensures entries { entries self.new ≡ entries self.old }
+        ensures base { base self.new ≡ base self.old }
+    {
+        match self.store.reserve(self.staged.len() as u64) {
+            Ok(()) => Ok(()),
+            Err(error) => {
+                self.forget();
+                Err(error)
+            }
+        }
+    }
+
+    /// Makes the staged changes entries of a call. Takes no memory, since it was reserved.
+    pub fn commit(&mut self, stamp: &Stamp)
+        requires { length (staged self.old) ≤ store_words.spare self.old.store }
+        ensures entries { entries self.new ≡ entries self.old ++ entries_from stamp.now 0 (staged self.old) }
+        ensures staged { staged self.new ≡ [] }
+        ensures base { base self.new ≡ base self.old }
+    {
+        let staged = mem::replace(&mut self.staged, Vec::new(self.alloc));
+        push_all(&mut self.store, stamp, staged);
+        self.kept = self.tally;
+    }
+}
+
+// Puts the entries of these changes at the end.
+fn push_all(store: &mut Store, stamp: &Stamp, changes: Vec<Change>)
+    requires spare { length changes.items ≤ store_words.spare store.old }
+    requires few { length changes.items < 2 ^ 32 }
+    ensures { store_words.entries store.new ≡ store_words.entries store.old ++ entries_from stamp.now 0 changes.items }
+{
+    let mut part: u32 = 0;
+    for change in changes {
+        store.push_reserved(Entry {
+            author: stamp.author,
+            turn: stamp.turn,
+            part,
+            moment: stamp.moment,
+            change,
+        });
+        part += 1;
+    }
+}
+
+impl View for Ledger {
+    ghost use Rattle.account_core.specs.Ledger.{base, entries, history, staged};
+
+    ghost base = { base };
+
+    ghost entries = { entries };
+
+    ghost history = { history };
+
+    ghost staged = { staged };
+
+    #[tactic(auto, using(crate::proofs::Committing::object_from_append))]
+    fn live(&self, kind: Kind, id: u64) -> Option<&Tree> {
+        let mut found = self.store.object(kind, id);
+        for change in &self.staged {
+            if kind.is(change.kind) && id == change.id {
+                found = change.object.as_ref();
+            }
+        }
+        found
+    }
+
+    fn created_so_far(&self, kind: Kind) -> u64 {
+        self.tally.created(kind)
+    }
+
+    #[tactic(auto, using(crate::proofs::Committing::state_at_append))]
+    fn state(&self, kind: Kind) -> u64 {
+        let mut state = self.store.count(kind);
+        for change in &self.staged {
+            if kind.is(change.kind) {
+                state += 1;
+            }
+        }
+        state
+    }
+
+    fn count(&self) -> usize {
+        self.tally.entries
+    }
+
+    fn text(&self) -> usize {
+        self.tally.size
+    }
+
+    fn stage(&mut self, change: Change, size: usize) -> Result<(), AllocError> {
+        match self.staged.reserve(1) {
+            Ok(()) => {
+                self.tally.count(change.kind, change.id, size);
+                self.staged.push_reserved(change);
+                Ok(())
+            }
+            Err(error) => {
+                self.forget();
+                Err(error)
+            }
+        }
+    }
+
+    fn forget(&mut self) {
+        self.staged.clear();
+        self.tally = self.kept;
+    }
+}

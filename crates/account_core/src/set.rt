@@ -1,0 +1,96 @@
+//! Sets (RFC 8620 section 5.3).
+ghost use Rattle.std.specs.Prelude.{◌≡◌, ◌≤◌, ◌++◌, [], None, IfErr, IfOk, OnErr, OnOk, length};
+ghost use Rattle.account_core.specs.Ledger.{base, entries, history, staged};
+ghost use Rattle.account_store.specs.Store.{spare};
+ghost use Rattle.cal_model.specs.Answer.{answered, changes_if_built, entries_from, if_built, set_added, set_answer};
+ghost use Rattle.cal_model.specs.SetReply.{set_arguments};
+ghost use Rattle.cal_model.specs.Sets.{new_ids, set_changes, set_refusal};
+ghost use Rattle.set_methods.specs.Reports.{Reports};
+ghost use Rattle.set_methods.specs.Requests.{ground_at, objects_in};
+
+use crate::ledger::Ledger;
+use crate::reply::{refusal, reply};
+use model_call::call::{MethodError, Reply};
+use model_history::entry::Kind;
+use model_history::stamp::Stamp;
+use model_json::lists::Pairs;
+use model_time::moment::Moment;
+use set_methods::plan::plan;
+use set_methods::planned::PlanError;
+use set_methods::request::SetRequest;
+use std::alloc::AllocError;
+
+/// Answers a set of objects of a kind, and adds its entries. After want of memory the entries are as before.
+pub fn set(
+    ledger: &mut Ledger,
+    stamp: &Stamp,
+    request: &SetRequest<'_>,
+    created: &Pairs,
+) -> Result<Reply, AllocError>
+    requires { staged ledger.old ≡ [] }
+    ensures reply { IfOk result (λ r. r ≡ if_built (entries ledger.old) request.now.kind (set_answer (base ledger.old) (entries ledger.old) stamp.now.moment
+        request.now.kind created.now (objects_in request.now) request.now.if_in_state.now request.now.remove_events)) }
+    ensures grown { OnOk result (entries ledger.new ≡ entries ledger.old ++ entries_from stamp.now 0 (changes_if_built request.now.kind (set_added (base ledger.old)
+        (entries ledger.old) stamp.now.moment request.now.kind created.now (objects_in request.now) request.now.if_in_state.now request.now.remove_events))) }
+    ensures unchanged { OnErr result (entries ledger.new ≡ entries ledger.old) }
+    ensures staged { staged ledger.new ≡ [] }
+    ensures base { base ledger.new ≡ base ledger.old }
+{
+    match request.kind {
+        Kind::Calendar => carry_out(ledger, stamp, request, created),
+        Kind::Event => Ok(refusal(ledger.alloc, &ledger.store, MethodError::NotBuilt)),
+    }
+}
+
+// The changes are planned and memory is reserved before an entry is added, and nothing can fail then.
+fn carry_out(
+    ledger: &mut Ledger,
+    stamp: &Stamp,
+    request: &SetRequest<'_>,
+    created: &Pairs,
+) -> Result<Reply, AllocError>
+    requires { staged ledger.old ≡ [] }
+    ensures reply { IfOk result (λ r. r ≡ set_answer (base ledger.old) (entries ledger.old) stamp.now.moment request.now.kind created.now
+        (objects_in request.now) request.now.if_in_state.now request.now.remove_events) }
+    ensures grown { OnOk result (entries ledger.new ≡ entries ledger.old ++ entries_from stamp.now 0 (set_added (base ledger.old) (entries ledger.old)
+        stamp.now.moment request.now.kind created.now (objects_in request.now) request.now.if_in_state.now request.now.remove_events)) }
+    ensures unchanged { OnErr result (entries ledger.new ≡ entries ledger.old) }
+    ensures staged { staged ledger.new ≡ [] }
+    ensures base { base ledger.new ≡ base ledger.old }
+{
+    match prepare(ledger, stamp.moment, request, created) {
+        Ok(reply) => {
+            ledger.commit(stamp);
+            Ok(reply)
+        }
+        Err(PlanError::Method(error)) => Ok(refusal(ledger.alloc, &ledger.store, error)),
+        Err(PlanError::NoMemory) => Err(AllocError),
+    }
+}
+
+// Stages the changes of a set and takes memory for their entries.
+fn prepare(
+    ledger: &mut Ledger,
+    moment: Moment,
+    request: &SetRequest<'_>,
+    created: &Pairs,
+) -> Result<Reply, PlanError>
+    requires { staged ledger.old ≡ [] }
+    ensures carried_out { OnOk result (set_refusal request.now.kind (history ledger.old) (objects_in request.now) request.now.if_in_state.now request.now.remove_events ≡ None) }
+    ensures reply { IfOk result (λ r. r ≡ answered (entries ledger.old)
+        (set_arguments (ground_at (base ledger.old) moment) request.now.kind created.now (history ledger.old) (objects_in request.now))
+        (new_ids (ground_at (base ledger.old) moment) request.now.kind created.now (history ledger.old) (objects_in request.now))) }
+    ensures staged { OnOk result (staged ledger.new
+        ≡ set_changes (ground_at (base ledger.old) moment) request.now.kind created.now (history ledger.old) (objects_in request.now)) }
+    ensures spare { OnOk result (length (staged ledger.new) ≤ spare ledger.new.store) }
+    ensures refused { IfErr result (λ e. Reports e (set_refusal request.now.kind (history ledger.old) (objects_in request.now) request.now.if_in_state.now request.now.remove_events)) }
+    ensures forgotten { OnErr result (staged ledger.new ≡ []) }
+    ensures entries { entries ledger.new ≡ entries ledger.old }
+    ensures base { base ledger.new ≡ base ledger.old }
+{
+    let zones = ledger.zones.clone()?;
+    let account = ledger.id.copy()?;
+    let plan = plan(ledger.alloc, ledger, &zones, &account, moment, request, created)?;
+    ledger.reserve()?;
+    Ok(reply(&ledger.store, plan.arguments, plan.created))
+}
