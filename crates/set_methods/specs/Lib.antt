@@ -1,3 +1,5 @@
 pub mod IdsByKey
+pub mod Judging
 pub mod Reports
 pub mod Requests
+pub mod Telling

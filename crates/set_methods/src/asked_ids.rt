@@ -2,7 +2,7 @@
 ghost use Rattle.std.specs.Prelude.{◌≡◌, IfOk, map};
 ghost use Rattle.cal_model.specs.CreatedIds.{different, resolved_id};
 
-use crate::created_ids::{ids_by_key, resolved};
+use crate::created_ids::CreatedIds;
 use crate::texts::note;
 use model_json::text::Text;
 use std::alloc::{AllocError, Global};
@@ -15,10 +15,10 @@ pub fn asked_ids(
 ) -> Result<Vec<Text>, AllocError>
     ensures { IfOk result (λ v. v.items ≡ different (map (resolved_id created.now) ids.now)) }
 {
-    let by_key = ids_by_key(alloc, created)?;
+    let created = CreatedIds::of(alloc, created, &[])?;
     let mut asked = Vec::new(alloc);
     for id in ids {
-        note(&mut asked, resolved(&by_key, id))?;
+        note(&mut asked, created.resolved(id))?;
     }
     Ok(asked)
 }

@@ -5,8 +5,11 @@ ghost use Rattle.cal_model.specs.Sets.{new_ids, set_changes, set_refusal};
 ghost use Rattle.set_methods.specs.Reports.{Reports};
 ghost use Rattle.set_methods.specs.Requests.{ground_at, objects_in};
 
+use crate::carry_out::carry_out;
 use crate::planned::{Plan, PlanError};
+use crate::refusal::refusal;
 use crate::request::SetRequest;
+use crate::setting::Setting;
 use cal_model::view::View;
 use model_json::lists::Pairs;
 use model_json::text::Text;
@@ -44,6 +47,20 @@ pub fn plan<V: View>(
     ensures entries { V.entries view.new ≡ V.entries view.old }
     ensures base { V.base view.new ≡ V.base view.old }
 {
-    view.forget();
-    Err(PlanError::NoMemory)
+    if let Some(error) = refusal(alloc, view, request)? {
+        return Err(PlanError::Method(error));
+    }
+    let setting = Setting {
+        kind: request.kind,
+        account,
+        zones,
+        moment,
+    };
+    match carry_out(alloc, view, &setting, request, created) {
+        Ok(plan) => Ok(plan),
+        Err(_) => {
+            view.forget();
+            Err(PlanError::NoMemory)
+        }
+    }
 }

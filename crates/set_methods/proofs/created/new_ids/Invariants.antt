@@ -1,0 +1,7 @@
+use Rattle.std.proofs.Common.{◌≡◌, ◌++◌, drop, map}
+use Rattle.cal_model.specs.Sets.{created_id, of_each}
+use Rattle.model_json.specs.TreeData.{data_of, pair_of}
+use Rattle.set_methods.proofs.created.new_ids.Given as goal
+
+abbrev pub invariant-loop-i : goal.invariant-loop-i
+invariant-loop-i l = l.ids.items ++ of_each created_id (map pair_of (drop l.i l.creates)) (drop l.i l.outcomes) ≡ of_each created_id (map pair_of l.creates) l.outcomes

@@ -1,0 +1,15 @@
+use Rattle.std.proofs.Common.{◌≡◌, ◌++◌, drop, flat_map, map, vec_len}
+use Rattle.cal_model.specs.Operations.{changes_in, outcomes}
+use Rattle.set_methods.specs.Judging.{ground_in, operation_in}
+use Rattle.set_methods.proofs.run.run.Given as goal
+
+abbrev pub invariant-loop-operation : goal.invariant-loop-operation
+invariant-loop-operation g l = record {
+  count : vec_len l.outcomes ≡ l.operation-index;
+  history : g.V.View.history l.view ≡ g.V.View.history l.initial.view;
+  entries : g.V.View.entries l.view ≡ g.V.View.entries l.initial.view;
+  base : g.V.View.base l.view ≡ g.V.View.base l.initial.view;
+  staged : g.V.View.staged l.view ≡ g.V.View.staged l.initial.view ++ flat_map changes_in l.outcomes.items;
+  rest : l.outcomes.items ++ outcomes (ground_in l.setting) l.setting.kind (g.V.View.history l.initial.view ++ g.V.View.staged l.view) (map operation_in (drop l.operation-index l.operations))
+      ≡ outcomes (ground_in l.setting) l.setting.kind (g.V.View.history l.initial.view ++ g.V.View.staged l.initial.view) (map operation_in l.operations);
+}

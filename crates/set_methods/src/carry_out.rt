@@ -1,0 +1,66 @@
+//! Sets that are carried out.
+ghost use Rattle.std.specs.Prelude.{◌≡◌, [], IfOk, OnOk};
+ghost use Rattle.cal_model.specs.SetReply.{set_arguments};
+ghost use Rattle.cal_model.specs.Sets.{new_ids, set_changes};
+ghost use Rattle.set_methods.specs.Judging.{ground_in};
+ghost use Rattle.set_methods.specs.Requests.{objects_in};
+
+use crate::arguments::arguments;
+use crate::created::new_ids;
+use crate::created_ids::CreatedIds;
+use crate::named_id::ids_named;
+use crate::operations::{creates, destroys, updates};
+use crate::planned::Plan;
+use crate::request::SetRequest;
+use crate::run::run;
+use crate::setting::Setting;
+use crate::told::Told;
+use cal_model::view::View;
+use model_json::lists::Pairs;
+use std::alloc::{AllocError, Global};
+
+/// Carries out a set that isn't refused: creates, then updates, then destroys (RFC 8620 section 5.3).
+///
+/// After want of memory some changes may be staged.
+pub(crate) fn carry_out<V: View>(
+    alloc: Global,
+    view: &mut V,
+    setting: &Setting<'_>,
+    request: &SetRequest<'_>,
+    created: &Pairs,
+) -> Result<Plan, AllocError>
+    requires { V.staged view.old ≡ [] }
+    ensures arguments { IfOk result (λ p. p.arguments ≡ set_arguments (ground_in setting.now) setting.now.kind created.now (V.history view.old) (objects_in request.now)) }
+    ensures created { IfOk result (λ p. p.created ≡ new_ids (ground_in setting.now) setting.now.kind created.now (V.history view.old) (objects_in request.now)) }
+    ensures staged { OnOk result (V.staged view.new ≡ set_changes (ground_in setting.now) setting.now.kind created.now (V.history view.old) (objects_in request.now)) }
+    ensures history { V.history view.new ≡ V.history view.old }
+    ensures entries { V.entries view.new ≡ V.entries view.old }
+    ensures base { V.base view.new ≡ V.base view.old }
+{
+    let old_state = view.state(setting.kind);
+    let made = run(alloc, view, setting, &creates(alloc, request.creates())?)?;
+    let added = new_ids(alloc, request.creates(), &made)?;
+    let arguments = {
+        let ids = CreatedIds::of(alloc, created.pairs(), &added)?;
+        let named = ids_named(alloc, &ids, request.destroys())?;
+        let updates = updates(alloc, &ids, &named, request.updates())?;
+        let changed = run(alloc, view, setting, &updates)?;
+        let removed = run(alloc, view, setting, &destroys(alloc, &named)?)?;
+        let told = Told {
+            account: setting.account,
+            old_state,
+            new_state: view.state(setting.kind),
+            creates: request.creates(),
+            create_outcomes: &made,
+            updates: request.updates(),
+            update_outcomes: &changed,
+            destroys: &named,
+            destroy_outcomes: &removed,
+        };
+        arguments(alloc, &told)?
+    };
+    Ok(Plan {
+        arguments,
+        created: Pairs::new(added),
+    })
+}

@@ -1,0 +1,101 @@
+//! The members that a client gives.
+ghost use Rattle.std.specs.Prelude.{◌≡◌, ◌∷◌, [], Bool, IfOk, codes, false, not, option_map};
+ghost use Rattle.std.specs.Option.{option_map_or};
+ghost use Rattle.cal_model.specs.Operations.{has_other_id, is_text, with_name_if, with_own_id};
+ghost use Rattle.model_json.specs.Data.{lookup};
+ghost use Rattle.model_json.specs.Parts.{members_in};
+ghost use Rattle.model_json.specs.TreeData.{data_of};
+ghost use Rattle.property_table.specs.Table.{given};
+
+
+use crate::texts::copies;
+use model_history::entry::Kind;
+use model_json::lists::Texts;
+use model_json::text::Text;
+use model_json::tree::{Tree, TreeObject};
+use property_table::names::put_name;
+use std::alloc::{AllocError, Global};
+use time_text::object_id_text;
+
+/// A copy of an object, without members where this is none.
+pub(crate) fn copy_of_object(alloc: Global, tree: &Tree) -> Result<TreeObject, AllocError>
+    ensures { IfOk result (λ o. o ≡ members_in (data_of tree.now)) }
+{
+    match tree.as_object() {
+        Some(object) => object.copy(),
+        None => Ok(TreeObject::new(Vec::new(alloc))),
+    }
+}
+
+/// The object that this is, without members where it is none. Takes no memory.
+pub(crate) fn into_object(alloc: Global, tree: Tree) -> TreeObject
+    ensures { result ≡ members_in (data_of tree) }
+{
+    match tree.into_object() {
+        Some(object) => object,
+        None => TreeObject::new(Vec::new(alloc)),
+    }
+}
+
+/// The value at a key, where it isn't null. Takes no memory.
+#[tactic(auto, using(crate::proofs::GivenLemmas::given_is))]
+pub(crate) fn given_at<'a>(object: &'a TreeObject, key: &str) -> Option<&'a Tree>
+    ensures { option_map (λ t. data_of t.now) result ≡ lookup key.now (given object.now) }
+{
+    let _ordered = object.members();
+    match object.get(key) {
+        Some(value) if !value.is_null() => Some(value),
+        _ => None,
+    }
+}
+
+/// Whether an object gives an id other than its own.
+pub(crate) fn has_other_id(
+    alloc: Global,
+    kind: Kind,
+    number: u64,
+    object: &TreeObject,
+) -> Result<bool, AllocError>
+    ensures { IfOk result (λ b. b ≡ has_other_id kind number object.now) }
+{
+    match given_at(object, "id") {
+        Some(id) => Ok(!is_text(id, &object_id_text(alloc, kind, number)?)),
+        None => Ok(false),
+    }
+}
+
+fn is_text(value: &Tree, text: &Text) -> bool
+    ensures { result ≡ is_text (data_of value.now) text.now }
+{
+    match value {
+        Tree::Text(other) => other.as_str() == text.as_str(),
+        _ => false,
+    }
+}
+
+/// An object with the id of this kind and number.
+pub(crate) fn with_own_id(
+    alloc: Global,
+    kind: Kind,
+    number: u64,
+    object: TreeObject,
+) -> Result<Tree, AllocError>
+    ensures { IfOk result (λ t. data_of t ≡ with_own_id kind number object) }
+{
+    let mut object = object;
+    let id = object_id_text(alloc, kind, number)?;
+    object.put(Text::from_str(alloc, "id")?, Tree::Text(id))?;
+    Ok(Tree::Object(object))
+}
+
+/// These names, with `id` among them where it is bad too. Copies them then.
+pub(crate) fn with_id_if(alloc: Global, is_bad: bool, names: Texts) -> Result<Texts, AllocError>
+    ensures { IfOk result (λ t. t ≡ with_name_if is_bad (codes "id") names) }
+{
+    if !is_bad {
+        return Ok(names);
+    }
+    let mut all = copies(alloc, names.items())?;
+    put_name(&mut all, Text::from_str(alloc, "id")?)?;
+    Ok(Texts::new(all))
+}

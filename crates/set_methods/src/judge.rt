@@ -1,0 +1,172 @@
+//! What comes of one object of a set.
+ghost use Rattle.std.specs.Prelude.{◌≡◌, ◌++◌, Bool, IfOk, IfSome, Some, is_some, option_map, true};
+ghost use Rattle.cal_model.specs.CreatedIds.{object_named};
+ghost use Rattle.cal_model.specs.Operations.{created_outcome, destroyed_outcome, object_outcome, outcome_of, patched_outcome, updated_outcome};
+ghost use Rattle.model_history.specs.History.{live_object};
+ghost use Rattle.model_json.specs.Parts.{members_in};
+ghost use Rattle.model_json.specs.Patch.{patched};
+ghost use Rattle.model_json.specs.TreeData.{data_of};
+ghost use Rattle.set_methods.specs.Judging.{HasNumber, IsAllowed, ground_in, operation_in};
+
+use crate::calendar::calendar_outcome;
+use crate::given::{copy_of_object, given_at, has_other_id, into_object};
+use crate::operation::Operation;
+use crate::quota::within_quota;
+use crate::setting::{Judged, Setting};
+use cal_model::set_error::SetError;
+use cal_model::view::View;
+use model_history::entry::{Change, Kind};
+use model_json::text::Text;
+use model_json::tree::{Tree, TreeObject};
+use patch_object::{PatchError, apply};
+use std::alloc::{AllocError, Global};
+use time_text::read_object_id;
+
+/// What comes of an operation after the changes of a view.
+pub(crate) fn judge<V: View>(
+    alloc: Global,
+    view: &V,
+    setting: &Setting<'_>,
+    operation: &Operation<'_>,
+) -> Result<Judged, AllocError>
+    ensures exact { IfOk result (λ j. j.outcome
+        ≡ outcome_of (ground_in setting.now) (V.history view.now ++ V.staged view.now) setting.now.kind (operation_in operation.now)) }
+    ensures allowed { IfOk result (IsAllowed (V.history view.now ++ V.staged view.now)) }
+{
+    match operation {
+        Operation::Create(value) => create(alloc, view, setting, value),
+        Operation::Update {
+            id,
+            patch,
+            is_destroyed,
+            is_repeated,
+        } => update(alloc, view, setting, id, patch, *is_destroyed, *is_repeated),
+        Operation::Destroy(id) => destroy(alloc, view, setting, id),
+    }
+}
+
+fn create<V: View>(
+    alloc: Global,
+    view: &V,
+    setting: &Setting<'_>,
+    value: &Tree,
+) -> Result<Judged, AllocError>
+    ensures exact { IfOk result (λ j. j.outcome
+        ≡ created_outcome (ground_in setting.now) (V.history view.now ++ V.staged view.now) setting.now.kind (members_in (data_of value.now))) }
+    ensures allowed { IfOk result (IsAllowed (V.history view.now ++ V.staged view.now)) }
+{
+    let object = copy_of_object(alloc, value)?;
+    let names_id = given_at(&object, "id").is_some();
+    let number = view.created_so_far(setting.kind) + 1;
+    object_outcome(alloc, view, setting, number, names_id, object)
+}
+
+// What comes of storing an object that may be put.
+fn object_outcome<V: View>(
+    alloc: Global,
+    view: &V,
+    setting: &Setting<'_>,
+    number: u64,
+    names_id: bool,
+    object: TreeObject,
+) -> Result<Judged, AllocError>
+    requires { HasNumber (V.history view.now ++ V.staged view.now) setting.now.kind number }
+    ensures exact { IfOk result (λ j. j.outcome
+        ≡ object_outcome (ground_in setting.now) (V.history view.now ++ V.staged view.now) setting.now.kind number names_id object) }
+    ensures allowed { IfOk result (IsAllowed (V.history view.now ++ V.staged view.now)) }
+{
+    match setting.kind {
+        Kind::Calendar => calendar_outcome(alloc, view, setting, number, names_id, object),
+        Kind::Event => Ok(Judged::refused(SetError::NotBuilt)),
+    }
+}
+
+// The live object that an id names, and its number.
+fn named<'a, V: View>(view: &'a V, kind: Kind, id: &Text) -> Option<(u64, &'a Tree)>
+    ensures exact { option_map (λ q. (q.0, q.1.now)) result ≡ object_named (V.history view.now ++ V.staged view.now) kind id.now }
+    ensures live { IfSome result (λ q. is_some (live_object (V.history view.now ++ V.staged view.now) kind q.0) ≡ true) }
+{
+    let number = read_object_id(kind, id.as_str().as_bytes())?;
+    let object = view.live(kind, number)?;
+    Some((number, object))
+}
+
+fn update<V: View>(
+    alloc: Global,
+    view: &V,
+    setting: &Setting<'_>,
+    id: &Text,
+    patch: &Tree,
+    is_destroyed: bool,
+    is_repeated: bool,
+) -> Result<Judged, AllocError>
+    ensures exact { IfOk result (λ j. j.outcome
+        ≡ updated_outcome (ground_in setting.now) (V.history view.now ++ V.staged view.now) setting.now.kind (members_in (data_of patch.now)) is_destroyed is_repeated
+            (object_named (V.history view.now ++ V.staged view.now) setting.now.kind id.now)) }
+    ensures allowed { IfOk result (IsAllowed (V.history view.now ++ V.staged view.now)) }
+{
+    match named(view, setting.kind, id) {
+        None => Ok(Judged::refused(SetError::NotFound)),
+        Some((number, object)) => {
+            if is_destroyed {
+                Ok(Judged::refused(SetError::WillDestroy))
+            } else if is_repeated {
+                let key = Text::from_string(String::new(alloc));
+                Ok(Judged::refused(SetError::InvalidPatch { key }))
+            } else {
+                patch_object(alloc, view, setting, number, object, patch)
+            }
+        }
+    }
+}
+
+// What comes of patching an object that is there.
+fn patch_object<V: View>(
+    alloc: Global,
+    view: &V,
+    setting: &Setting<'_>,
+    number: u64,
+    object: &Tree,
+    patch: &Tree,
+) -> Result<Judged, AllocError>
+    requires { HasNumber (V.history view.now ++ V.staged view.now) setting.now.kind number }
+    ensures exact { IfOk result (λ j. j.outcome
+        ≡ patched_outcome (ground_in setting.now) (V.history view.now ++ V.staged view.now) setting.now.kind number (patched (data_of object.now) (members_in (data_of patch.now)))) }
+    ensures allowed { IfOk result (IsAllowed (V.history view.now ++ V.staged view.now)) }
+{
+    let empty = TreeObject::new(Vec::new(alloc));
+    let patch = patch.as_object().unwrap_or(&empty);
+    match apply(alloc, object, patch) {
+        Ok(tree) => {
+            let object = into_object(alloc, tree);
+            let names_id = has_other_id(alloc, setting.kind, number, &object)?;
+            object_outcome(alloc, view, setting, number, names_id, object)
+        }
+        Err(PatchError::InvalidPatch { key }) => Ok(Judged::refused(SetError::InvalidPatch { key })),
+        Err(PatchError::NoMemory) => Err(AllocError),
+    }
+}
+
+fn destroy<V: View>(
+    alloc: Global,
+    view: &V,
+    setting: &Setting<'_>,
+    id: &Text,
+) -> Result<Judged, AllocError>
+    ensures exact { IfOk result (λ j. j.outcome
+        ≡ destroyed_outcome (ground_in setting.now) (V.history view.now ++ V.staged view.now) setting.now.kind
+            (object_named (V.history view.now ++ V.staged view.now) setting.now.kind id.now)) }
+    ensures allowed { IfOk result (IsAllowed (V.history view.now ++ V.staged view.now)) }
+{
+    match named(view, setting.kind, id) {
+        None => Ok(Judged::refused(SetError::NotFound)),
+        Some((number, _)) => {
+            let change = Change {
+                kind: setting.kind,
+                id: number,
+                object: None,
+            };
+            within_quota(alloc, view, change)
+        }
+    }
+}

@@ -1,0 +1,103 @@
+//! What the reply to a set tells of objects that were refused (RFC 8620 section 5.3).
+ghost use Rattle.std.specs.Prelude.{◌≡◌, ◌∷◌, [], IfOk, length, map};
+ghost use Rattle.cal_model.specs.SetErrors.{set_error};
+ghost use Rattle.cal_model.specs.SetReply.{object_or_null, refused_member};
+ghost use Rattle.cal_model.specs.Sets.{of_each};
+ghost use Rattle.model_json.specs.TreeData.{data_of, pair_of};
+
+use crate::named_id::NamedId;
+use crate::parts::object_or_null;
+use crate::texts::{copies, text_list};
+use cal_model::outcome::Outcome;
+use cal_model::set_error::SetError;
+use model_json::text::Text;
+use model_json::tree::{Member, Tree};
+use std::alloc::{AllocError, Global};
+
+/// What is told of the creates or updates that were refused, under the texts of the call.
+pub(crate) fn refused(
+    alloc: Global,
+    members: &[Member],
+    outcomes: &[Outcome],
+) -> Result<Tree, AllocError>
+    requires { length members.now ≡ length outcomes.now }
+    ensures { IfOk result (λ t. data_of t ≡ object_or_null (of_each refused_member (map pair_of members.now) outcomes.now)) }
+{
+    object_or_null(alloc, refused_members(alloc, members, outcomes)?)
+}
+
+/// What is told of the destroys that were refused, under the texts of the call.
+pub(crate) fn not_destroyed(
+    alloc: Global,
+    named: &[NamedId<'_>],
+    outcomes: &[Outcome],
+) -> Result<Tree, AllocError>
+    requires { length named.now ≡ length outcomes.now }
+    ensures { IfOk result (λ t. data_of t ≡ object_or_null (of_each refused_member named.now outcomes.now)) }
+{
+    object_or_null(alloc, refused_destroys(alloc, named, outcomes)?)
+}
+
+fn refused_members(
+    alloc: Global,
+    members: &[Member],
+    outcomes: &[Outcome],
+) -> Result<Vec<Member>, AllocError>
+    requires { length members.now ≡ length outcomes.now }
+    ensures { IfOk result (λ v. map pair_of v.items ≡ of_each refused_member (map pair_of members.now) outcomes.now) }
+{
+    let mut refused = Vec::new(alloc);
+    for (i, member) in members.iter().enumerate() {
+        match &outcomes[i] {
+            Outcome::Accepted(_) => {}
+            Outcome::Refused(error) => refused.push(refused_member(alloc, &member.key, error)?)?,
+        }
+    }
+    Ok(refused)
+}
+
+fn refused_destroys(
+    alloc: Global,
+    named: &[NamedId<'_>],
+    outcomes: &[Outcome],
+) -> Result<Vec<Member>, AllocError>
+    requires { length named.now ≡ length outcomes.now }
+    ensures { IfOk result (λ v. map pair_of v.items ≡ of_each refused_member named.now outcomes.now) }
+{
+    let mut refused = Vec::new(alloc);
+    for (i, named) in named.iter().enumerate() {
+        match &outcomes[i] {
+            Outcome::Accepted(_) => {}
+            Outcome::Refused(error) => refused.push(refused_member(alloc, named.text(), error)?)?,
+        }
+    }
+    Ok(refused)
+}
+
+fn refused_member(alloc: Global, text: &Text, error: &SetError) -> Result<Member, AllocError>
+    ensures { IfOk result (λ m. pair_of m ≡ (text.now, set_error error.now)) }
+{
+    let key = text.copy()?;
+    let value = set_error_tree(alloc, error)?;
+    Ok(Member { key, value })
+}
+
+// The error as clients see it.
+fn set_error_tree(alloc: Global, error: &SetError) -> Result<Tree, AllocError>
+    ensures { IfOk result (λ t. data_of t ≡ set_error error.now) }
+{
+    let name = Tree::Text(Text::from_str(alloc, error.name())?);
+    match error {
+        SetError::InvalidPatch { key } => {
+            let key = Tree::Text(key.copy()?);
+            Tree::object(alloc, vec![in alloc; ("key", key), ("type", name)]?)
+        }
+        SetError::InvalidProperties { properties } => {
+            let properties = text_list(alloc, copies(alloc, properties.items())?)?;
+            Tree::object(alloc, vec![in alloc; ("properties", properties), ("type", name)]?)
+        }
+        SetError::NotFound | SetError::WillDestroy | SetError::OverQuota | SetError::NotBuilt => {
+            Tree::object(alloc, vec![in alloc; ("type", name)]?)
+        }
+    }
+}
