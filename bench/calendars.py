@@ -21,7 +21,7 @@ class Connection:
         self.program = subprocess.Popen([binary, "stdio", "--config", CONFIGURATION], stdin=subprocess.PIPE, stdout=subprocess.PIPE)
 
     def send(self, call, times):
-        """Sends a call so many times, a message each, and gives what it was answered last. None may be refused."""
+        """Sends a call so many times, a message each, and waits for the answers. None may be refused."""
         body = compact({"using": USING, "methodCalls": [[*call, "c"]]})
         head = f"POST /jmap HTTP/1.1\r\nHost: localhost\r\nAuthorization: Bearer {TOKEN}\r\nContent-Length: {len(body)}\r\n\r\n"
         message = head.encode() + body
@@ -73,8 +73,8 @@ CALLS = {
 def milliseconds_of(binary, call, times, entries):
     """The milliseconds of processor that a call takes on an account of so many entries."""
     connection = Connection(binary)
-    if entries:
-        connection.send(create(MOST_OBJECTS), entries // MOST_OBJECTS)
+    connection.send(["Core/echo", {}], 1)
+    connection.send(create(MOST_OBJECTS), entries // MOST_OBJECTS)
     before = connection.milliseconds()
     connection.send(call, times)
     taken = connection.milliseconds() - before
