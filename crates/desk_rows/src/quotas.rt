@@ -19,13 +19,16 @@ use std::test::Fail;
 const MOMENT: i64 = 1_704_067_200;
 
 /// What comes of a set of each operation in an account of 50,000 entries.
-const ALL_REFUSED: &str = "{\"accountId\":\"A1\",\"created\":null,\"destroyed\":null,\"newState\":\"50000\",\"notCreated\":{\"a\":{\"type\":\"overQuota\"}},\"notDestroyed\":{\"C2\":{\"type\":\"overQuota\"},\"C50001\":{\"type\":\"notFound\"}},\"notUpdated\":{\"C1\":{\"type\":\"overQuota\"},\"C3\":{\"properties\":[\"frob\"],\"type\":\"invalidProperties\"}},\"oldState\":\"50000\",\"updated\":null}";
+const ALL_REFUSED: &str =
+    "{\"accountId\":\"A1\",\"created\":null,\"destroyed\":null,\"newState\":\"50000\",\"notCreated\":{\"a\":{\"type\":\"overQuota\"}},\"notDestroyed\":{\"C2\":{\"type\":\"overQuota\"},\"C50001\":{\"type\":\"notFound\"}},\"notUpdated\":{\"C1\":{\"type\":\"overQuota\"},\"C3\":{\"properties\":[\"frob\"],\"type\":\"invalidProperties\"}},\"oldState\":\"50000\",\"updated\":null}";
 
 /// What comes of it in an account whose text is full: a removal has no text, and is made.
-const TEXT_REFUSED: &str = "{\"accountId\":\"A1\",\"created\":null,\"destroyed\":[\"C2\"],\"newState\":\"42077\",\"notCreated\":{\"a\":{\"type\":\"overQuota\"}},\"notDestroyed\":{\"C50001\":{\"type\":\"notFound\"}},\"notUpdated\":{\"C1\":{\"type\":\"overQuota\"},\"C3\":{\"properties\":[\"frob\"],\"type\":\"invalidProperties\"}},\"oldState\":\"42076\",\"updated\":null}";
+const TEXT_REFUSED: &str =
+    "{\"accountId\":\"A1\",\"created\":null,\"destroyed\":[\"C2\"],\"newState\":\"42077\",\"notCreated\":{\"a\":{\"type\":\"overQuota\"}},\"notDestroyed\":{\"C50001\":{\"type\":\"notFound\"}},\"notUpdated\":{\"C1\":{\"type\":\"overQuota\"},\"C3\":{\"properties\":[\"frob\"],\"type\":\"invalidProperties\"}},\"oldState\":\"42076\",\"updated\":null}";
 
 /// The page of one change behind state 1 of 4,097 calendars.
-const FIRST_PAGE: &str = "{\"accountId\":\"A1\",\"created\":[\"C2\"],\"destroyed\":[],\"hasMoreChanges\":true,\"newState\":\"2\",\"oldState\":\"1\",\"updated\":[]}";
+const FIRST_PAGE: &str =
+    "{\"accountId\":\"A1\",\"created\":[\"C2\"],\"destroyed\":[],\"hasMoreChanges\":true,\"newState\":\"2\",\"oldState\":\"1\",\"updated\":[]}";
 
 /// A call of calendars.
 fn call_of(alloc: Global, asks: Asks) -> Call {
@@ -61,7 +64,10 @@ fn set_of(alloc: Global, creates: &str) -> Result<Call, Fail> {
 fn set_of_each(alloc: Global) -> Result<Call, Fail> {
     let create = object_in(alloc, "{\"a\":{\"name\":\"A\"}}")?;
     let update = object_in(alloc, "{\"C1\":{\"name\":\"N\"},\"C3\":{\"frob\":1}}")?;
-    let destroy = vec![in alloc; Text::from_str(alloc, "C2")?, Text::from_str(alloc, "C50001")?]?;
+    let destroy = vec![in alloc;
+        Text::from_str(alloc, "C2")?,
+        Text::from_str(alloc, "C50001")?,
+    ]?;
     let asks = Asks::Set {
         kind: Kind::Calendar,
         if_in_state: None,
