@@ -1,11 +1,13 @@
 -- What comes of a set that is carried out in three runs.
-use Rattle.std.proofs.Common.{◌≡◌, ◌++◌, ◌∷◌, ℕ, List, [], flat_map, map, refl, sym, ap, ◌∙◌, append_assoc, append-nil}
+use Rattle.std.proofs.Common.{length, suc, ◌≡◌, ◌++◌, ◌∷◌, ℕ, List, [], flat_map, map, refl, sym, ap, ◌∙◌, append_assoc, append-nil}
+use Rattle.std.proofs.lemmas.List.{length-map}
 use Rattle.std.proofs.lemmas.List.Concat.{flat_map-append}
 use Rattle.cal_model.specs.Operations.{Ground, changes_in, create, destroy, outcomes}
 use Rattle.cal_model.specs.Sets.{NamedId, Objects, all_ids, after_creates, after_updates, create_outcomes, created_id, destroy_outcomes, ids_named, ids_to_destroy, new_ids, of_each, set_changes, update_outcomes, updates_after}
 use Rattle.cal_model.specs.declared.outcome.Outcome.{Outcome}
 use Rattle.model_history.specs.declared.entry.Change.{Change}
 use Rattle.model_history.specs.declared.entry.Kind.{Kind}
+use Rattle.model_json.specs.Data.{Pair}
 use Rattle.model_json.specs.Parts.{members_in}
 
 -- what a set came to: the outcomes of its creates, updates and destroys, the ids that it added and named, and what is staged
@@ -50,3 +52,11 @@ set_is g kind created h s a b d ids named s0 s1 s2 s3 none is_a is_s1 is_ids is_
   where
     all_changes : (xs ys zs : List Outcome) → (flat_map changes_in xs ++ flat_map changes_in ys) ++ flat_map changes_in zs ≡ flat_map changes_in (xs ++ (ys ++ zs))
     all_changes xs ys zs = append_assoc _ _ _ ∙ sym (ap (λ t. flat_map changes_in xs ++ t) (flat_map-append changes_in ys zs)) ∙ sym (flat_map-append changes_in xs (ys ++ zs))
+
+-- an operation for each update
+pub length-updates_after : (created : List (List ℕ × List ℕ)) (destroyed earlier : List NamedId) (ps : List Pair) → length (updates_after created destroyed earlier ps) ≡ length ps
+length-updates_after created destroyed earlier [] = refl
+length-updates_after created destroyed earlier (p ∷ ps) = ap suc (length-updates_after created destroyed _ ps)
+
+pub as_many : {X Y : Type 0} (f : X → Y) (xs : List X) (ys : List Y) → map f xs ≡ ys → length xs ≡ length ys
+as_many f xs ys e = sym (length-map xs f) ∙ ap length e

@@ -37,5 +37,5 @@ pub(crate) fn arguments(alloc: Global, told: &Told<'_>) -> Result<Tree, AllocErr
         ("oldState", old_state),
         ("updated", updated(alloc, told.updates, told.update_outcomes)?),
     ]?;
-    Tree::object(alloc, members)
+    Ok(Tree::object(alloc, members)?)
 }
