@@ -32,15 +32,15 @@ set_is g kind created h s a b d ids named s0 s1 s2 s3 none is_a is_s1 is_ids is_
     let gone : named ≡ ids_to_destroy g kind created h s = is_named ∙ ap (λ is. ids_named (created ++ is) s.destroys) added in
     let first : s1 ≡ flat_map changes_in (create_outcomes g kind created h s) = is_s1 ∙ ap (λ t. t ++ flat_map changes_in a) none ∙ ap (flat_map changes_in) made in
     let updated : b ≡ update_outcomes g kind created h s =
-        is_b ∙ ap (λ t. outcomes g kind (h ++ t) (updates_after (created ++ ids) named [] s.updates)) first
-        ∙ ap (λ is. outcomes g kind (after_creates g kind created h s) (updates_after (created ++ is) named [] s.updates)) added
-        ∙ ap (λ ns. outcomes g kind (after_creates g kind created h s) (updates_after (all_ids g kind created h s) ns [] s.updates)) gone in
+    is_b ∙ ap (λ t. outcomes g kind (h ++ t) (updates_after (created ++ ids) named [] s.updates)) first
+    ∙ ap (λ is. outcomes g kind (after_creates g kind created h s) (updates_after (created ++ is) named [] s.updates)) added
+    ∙ ap (λ ns. outcomes g kind (after_creates g kind created h s) (updates_after (all_ids g kind created h s) ns [] s.updates)) gone in
     let second : s2 ≡ flat_map changes_in (create_outcomes g kind created h s) ++ flat_map changes_in (update_outcomes g kind created h s) =
-        is_s2 ∙ ap (λ t. t ++ flat_map changes_in b) first ∙ ap (λ os. flat_map changes_in (create_outcomes g kind created h s) ++ flat_map changes_in os) updated in
+    is_s2 ∙ ap (λ t. t ++ flat_map changes_in b) first ∙ ap (λ os. flat_map changes_in (create_outcomes g kind created h s) ++ flat_map changes_in os) updated in
     let after : h ++ s2 ≡ after_updates g kind created h s =
-        ap (λ t. h ++ t) second ∙ sym (append_assoc h (flat_map changes_in (create_outcomes g kind created h s)) (flat_map changes_in (update_outcomes g kind created h s))) in
+    ap (λ t. h ++ t) second ∙ sym (append_assoc h (flat_map changes_in (create_outcomes g kind created h s)) (flat_map changes_in (update_outcomes g kind created h s))) in
     let destroyed : d ≡ destroy_outcomes g kind created h s =
-        is_d ∙ ap (λ cs. outcomes g kind cs (map (λ q. destroy q.1) named)) after ∙ ap (λ ns. outcomes g kind (after_updates g kind created h s) (map (λ q. destroy q.1) ns)) gone in
+    is_d ∙ ap (λ cs. outcomes g kind cs (map (λ q. destroy q.1) named)) after ∙ ap (λ ns. outcomes g kind (after_updates g kind created h s) (map (λ q. destroy q.1) ns)) gone in
     record {
       creates = made;
       added = added;

@@ -1,5 +1,5 @@
 -- The arguments of a response are those of the set that it tells of.
-use Rattle.std.proofs.Common.{◌≡◌, ◌∷◌, ◌∙◌, ℕ, List, [], codes, decimal, map, refl, sym, ap}
+use Rattle.std.proofs.Common.{◌≡◌, ◌∷◌, ℕ, List, [], codes, decimal, map, refl}
 use Rattle.cal_model.specs.Operations.{Ground}
 use Rattle.cal_model.specs.SetReply.{created_member, destroyed_item, list_or_null, object_or_null, refused_member, set_arguments, updated_member}
 use Rattle.cal_model.specs.Sets.{Objects, of_each}
@@ -31,5 +31,24 @@ pub told_is : (t : Told) (g : Ground) (kind : Kind) (made : List (List ℕ × Li
     → updated ≡ object_or_null (of_each updated_member (map pair_of t.updates.now) t.update_outcomes.now)
     → Tells t g kind made cs s → tree ≡ set_arguments g kind made cs s
 told_is t g kind made cs s tree id created destroyed new_state not_created not_destroyed not_updated old_state updated is is_id is_created is_destroyed is_new is_not_created is_not_destroyed is_not_updated is_old is_updated h =
-    rw (is, is_id, is_created, is_destroyed, is_new, is_not_created, is_not_destroyed, is_not_updated, is_old, is_updated,
-        h.account, h.new_state, h.old_state, h.creates, h.create_outcomes, h.updates, h.update_outcomes, h.destroys, h.destroy_outcomes) refl
+    rw (
+      is,
+      is_id,
+      is_created,
+      is_destroyed,
+      is_new,
+      is_not_created,
+      is_not_destroyed,
+      is_not_updated,
+      is_old,
+      is_updated,
+      h.account,
+      h.new_state,
+      h.old_state,
+      h.creates,
+      h.create_outcomes,
+      h.updates,
+      h.update_outcomes,
+      h.destroys,
+      h.destroy_outcomes,
+    ) refl
