@@ -7,7 +7,6 @@ ghost use Rattle.model_json.specs.Parts.{members_in};
 ghost use Rattle.model_json.specs.TreeData.{data_of};
 ghost use Rattle.property_table.specs.Table.{given};
 
-
 use crate::texts::copies;
 use model_history::entry::Kind;
 use model_json::lists::Texts;

@@ -102,7 +102,7 @@ fn update<V: View>(
 ) -> Result<Judged, AllocError>
     ensures exact { IfOk result (λ j. j.outcome
         ≡ updated_outcome (ground_in setting.now) (V.history view.now ++ V.staged view.now) setting.now.kind (members_in (data_of patch.now)) is_destroyed is_repeated
-            (object_named (V.history view.now ++ V.staged view.now) setting.now.kind id.now)) }
+        (object_named (V.history view.now ++ V.staged view.now) setting.now.kind id.now)) }
     ensures allowed { IfOk result (IsAllowed (V.history view.now ++ V.staged view.now)) }
 {
     match named(view, setting.kind, id) {
@@ -142,7 +142,9 @@ fn patch_object<V: View>(
             let names_id = has_other_id(alloc, setting.kind, number, &object)?;
             object_outcome(alloc, view, setting, number, names_id, object)
         }
-        Err(PatchError::InvalidPatch { key }) => Ok(Judged::refused(SetError::InvalidPatch { key })),
+        Err(PatchError::InvalidPatch { key }) => Ok(Judged::refused(SetError::InvalidPatch {
+            key,
+        })),
         Err(PatchError::NoMemory) => Err(AllocError),
     }
 }
@@ -155,7 +157,7 @@ fn destroy<V: View>(
 ) -> Result<Judged, AllocError>
     ensures exact { IfOk result (λ j. j.outcome
         ≡ destroyed_outcome (ground_in setting.now) (V.history view.now ++ V.staged view.now) setting.now.kind
-            (object_named (V.history view.now ++ V.staged view.now) setting.now.kind id.now)) }
+        (object_named (V.history view.now ++ V.staged view.now) setting.now.kind id.now)) }
     ensures allowed { IfOk result (IsAllowed (V.history view.now ++ V.staged view.now)) }
 {
     match named(view, setting.kind, id) {

@@ -11,4 +11,4 @@ returns-in-Err-BadCalendar-clause-exact g c =
     let bad = rw c.in-Err-BadCalendar.field-0-is at c.in-Err-BadCalendar.ensures.err in
     ap (λ (j : Judged). j.outcome) c.refused-in-Err-BadCalendar.ensures
     ∙ bad_outcome (ground_in c.args.setting.now) (g.V.View.history c.args.view.now ++ g.V.View.staged c.args.view.now) c.args.number c.args.names_id c.args.object _ _ _
-        other c.in_ok-tree.ensures bad.0 (λ h. bad.1 (sym bad.0 ∙ h)) c.in_ok-properties-in-Err-BadCalendar.ensures
+    other c.in_ok-tree.ensures bad.0 (λ h. bad.1 (sym bad.0 ∙ h)) c.in_ok-properties-in-Err-BadCalendar.ensures
