@@ -33,7 +33,14 @@ pub fn get(
         (get_answer (base ledger.now).account_id (ledger_entries ledger.now) created.now ids.now properties.now)) }
 {
     match kind {
-        Kind::Calendar => get_calendars(ledger.alloc, &ledger.id, &ledger.store, created, ids, properties),
+        Kind::Calendar => get_calendars(
+            ledger.alloc,
+            &ledger.id,
+            &ledger.store,
+            created,
+            ids,
+            properties,
+        ),
         Kind::Event => Ok(refusal(ledger.alloc, &ledger.store, MethodError::NotBuilt)),
     }
 }
@@ -53,7 +60,14 @@ fn get_calendars(
         return Ok(refusal(alloc, store, MethodError::InvalidArguments));
     }
     match ids {
-        Some(ids) => get_ids(alloc, account, store, created.pairs(), ids.items(), properties),
+        Some(ids) => get_ids(
+            alloc,
+            account,
+            store,
+            created.pairs(),
+            ids.items(),
+            properties,
+        ),
         None => get_all(alloc, account, store, properties),
     }
 }

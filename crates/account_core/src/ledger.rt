@@ -7,7 +7,7 @@ ghost use Rattle.model_history.specs.History.{changes_of};
 
 use crate::tally::Tally;
 use account_store::Store;
-use cal_model::view::View;
+use cal_model::view::AccountView;
 use model_history::entry::{Change, Entry, Kind};
 use model_history::stamp::Stamp;
 use model_json::text::Text;
@@ -106,7 +106,7 @@ fn push_all(store: &mut Store, stamp: &Stamp, changes: Vec<Change>)
     }
 }
 
-impl View for Ledger {
+impl AccountView for Ledger {
     ghost use Rattle.account_core.specs.Ledger.{base, history, ledger_entries, staged};
 
     ghost base = { base };

@@ -90,7 +90,15 @@ fn prepare(
 {
     let zones = ledger.zones.clone()?;
     let account = ledger.id.copy()?;
-    let plan = plan(ledger.alloc, ledger, &zones, &account, moment, request, created)?;
+    let plan = plan(
+        ledger.alloc,
+        ledger,
+        &zones,
+        &account,
+        moment,
+        request,
+        created,
+    )?;
     ledger.reserve()?;
     Ok(reply(&ledger.store, plan.arguments, plan.created))
 }

@@ -13,7 +13,7 @@ use Rattle.std.specs.Str.{bytes_eq}
 use Rattle.std.specs.String.{string_cmp}
 use Rattle.model_json.proofs.KeyOrder.{both}
 use Rattle.model_json.specs.Patch.{is_prefix}
-use Rattle.patch_object.specs.Paths.{String, parts_in}
+use Rattle.patch_object.specs.Paths.{String, string_parts}
 
 equal_then : (o p : Ordering) → is_eq (ordering_then o p) ≡ true → (is_eq o ≡ true) × (is_eq p ≡ true)
 equal_then Less p h = cc
@@ -78,18 +78,18 @@ abbrev pub front_at : List String → ℕ → Vec String → Bool
 front_at path n k = is_at (λ (v : Vec String). slice_cmp string_cmp (take n path) v.items) k
 
 -- where a look-up of first parts finds a path, it is a prefix
-pub found_prefix : (path : List String) (n : ℕ) (keys : List (Vec String)) → list_any (front_at path n) keys ≡ true → list_any (λ e. is_prefix e (map string_bytes path)) (map parts_in keys) ≡ true
+pub found_prefix : (path : List String) (n : ℕ) (keys : List (Vec String)) → list_any (front_at path n) keys ≡ true → list_any (λ e. is_prefix e (map string_bytes path)) (map string_parts keys) ≡ true
 found_prefix path n [] h = cc
 found_prefix path n (k ∷ ks) h =
-    or_either (front_at path n k) (list_any (front_at path n) ks) (is_prefix (parts_in k) (map string_bytes path)) (list_any (λ e. is_prefix e (map string_bytes path)) (map parts_in ks)) h
+    or_either (front_at path n k) (list_any (front_at path n) ks) (is_prefix (string_parts k) (map string_bytes path)) (list_any (λ e. is_prefix e (map string_bytes path)) (map string_parts ks)) h
     (λ e. subst (λ ps. is_prefix ps (map string_bytes path) ≡ true) (equal_paths (take n path) k.items e) (front_is_prefix path n))
     (found_prefix path n ks)
 
-no_prefix_at : (path : List String) (k : Vec String) → ((n : ℕ) → n < length path + 1 → front_at path n k ≡ false) → (b : Bool) → is_prefix (parts_in k) (map string_bytes path) ≡ b → b ≡ false
+no_prefix_at : (path : List String) (k : Vec String) → ((n : ℕ) → n < length path + 1 → front_at path n k ≡ false) → (b : Bool) → is_prefix (string_parts k) (map string_bytes path) ≡ b → b ≡ false
 no_prefix_at path k none true h =
-    let front = prefix_is_front (parts_in k) path h in
-    let found : front_at path (length (parts_in k)) k ≡ true = paths_equal (take (length (parts_in k)) path) k.items front.1 in
-    let not_found = none (length (parts_in k)) (omega (arith, front.0)) in
+    let front = prefix_is_front (string_parts k) path h in
+    let found : front_at path (length (string_parts k)) k ≡ true = paths_equal (take (length (string_parts k)) path) k.items front.1 in
+    let not_found = none (length (string_parts k)) (omega (arith, front.0)) in
     cc
 no_prefix_at path k none false h = refl
 
@@ -98,10 +98,10 @@ or_false true b h = cc
 or_false false b h = (refl, h)
 
 -- where none finds one, there is none
-pub no_prefix : (path : List String) (keys : List (Vec String)) → ((n : ℕ) → n < length path + 1 → list_any (front_at path n) keys ≡ false) → list_any (λ e. is_prefix e (map string_bytes path)) (map parts_in keys) ≡ false
+pub no_prefix : (path : List String) (keys : List (Vec String)) → ((n : ℕ) → n < length path + 1 → list_any (front_at path n) keys ≡ false) → list_any (λ e. is_prefix e (map string_bytes path)) (map string_parts keys) ≡ false
 no_prefix path [] none = refl
 no_prefix path (k ∷ ks) none =
-    let here : is_prefix (parts_in k) (map string_bytes path) ≡ false = no_prefix_at path k (λ n h. (or_false (front_at path n k) (list_any (front_at path n) ks) (none n h)).0) (is_prefix (parts_in k) (map string_bytes path)) refl in
+    let here : is_prefix (string_parts k) (map string_bytes path) ≡ false = no_prefix_at path k (λ n h. (or_false (front_at path n k) (list_any (front_at path n) ks) (none n h)).0) (is_prefix (string_parts k) (map string_bytes path)) refl in
     rw here (no_prefix path ks (λ n h. (or_false (front_at path n k) (list_any (front_at path n) ks) (none n h)).1))
 
 abbrev path_cmp : Vec String → Vec String → Ordering
@@ -116,15 +116,15 @@ or_twice : (a c : Bool) → (a || c) ≡ (a || (a || c))
 or_twice true c = refl
 or_twice false c = refl
 
-any_step : (f : List (List ℕ) → Bool) (k x : Vec String) (xs : List (Vec String)) (o : Ordering) → path_cmp k x ≡ o → list_any f (map parts_in (insert_key path_cmp xs k)) ≡ (f (parts_in k) || list_any f (map parts_in xs))
-    → list_any f (map parts_in (match_ordering o (k ∷ x ∷ xs) (x ∷ xs) (x ∷ insert_key path_cmp xs k))) ≡ (f (parts_in k) || list_any f (map parts_in (x ∷ xs)))
+any_step : (f : List (List ℕ) → Bool) (k x : Vec String) (xs : List (Vec String)) (o : Ordering) → path_cmp k x ≡ o → list_any f (map string_parts (insert_key path_cmp xs k)) ≡ (f (string_parts k) || list_any f (map string_parts xs))
+    → list_any f (map string_parts (match_ordering o (k ∷ x ∷ xs) (x ∷ xs) (x ∷ insert_key path_cmp xs k))) ≡ (f (string_parts k) || list_any f (map string_parts (x ∷ xs)))
 any_step f k x xs Less h rest = refl
 any_step f k x xs Equal h rest =
-    let same : parts_in k ≡ parts_in x = equal_paths k.items x.items (ap is_eq h) in
-    rw same (or_twice (f (parts_in x)) (list_any f (map parts_in xs)))
-any_step f k x xs Greater h rest = rw rest (or_swap (f (parts_in x)) (f (parts_in k)) (list_any f (map parts_in xs)))
+    let same : string_parts k ≡ string_parts x = equal_paths k.items x.items (ap is_eq h) in
+    rw same (or_twice (f (string_parts x)) (list_any f (map string_parts xs)))
+any_step f k x xs Greater h rest = rw rest (or_swap (f (string_parts x)) (f (string_parts k)) (list_any f (map string_parts xs)))
 
 -- one of the paths passes a test after one is added where it passes, or one of those before does
-pub any_inserted : (f : List (List ℕ) → Bool) (ks : List (Vec String)) (k : Vec String) → list_any f (map parts_in (insert_key path_cmp ks k)) ≡ (f (parts_in k) || list_any f (map parts_in ks))
+pub any_inserted : (f : List (List ℕ) → Bool) (ks : List (Vec String)) (k : Vec String) → list_any f (map string_parts (insert_key path_cmp ks k)) ≡ (f (string_parts k) || list_any f (map string_parts ks))
 any_inserted f [] k = refl
 any_inserted f (x ∷ xs) k = any_step f k x xs (path_cmp k x) refl (any_inserted f xs k)

@@ -5,5 +5,5 @@ use Rattle.std.specs.Global.{Global, Vec}
 abbrev pub String : Type 0
 String = AnyString Global
 
-abbrev pub parts_in : Vec String → List (List ℕ)
-parts_in v = map string_bytes v.items
+abbrev pub string_parts : Vec String → List (List ℕ)
+string_parts v = map string_bytes v.items

@@ -2,7 +2,7 @@
 ghost use Rattle.std.specs.Prelude.{◌≡◌, ◌||◌, IfOk, List, OnOk, [], map, string_bytes, ℕ};
 ghost use Rattle.std.specs.List.{list_any};
 ghost use Rattle.model_json.specs.Patch.{is_prefix};
-ghost use Rattle.patch_object.specs.Paths.{parts_in};
+ghost use Rattle.patch_object.specs.Paths.{string_parts};
 
 use model_json::text::Text;
 use std::alloc::{AllocError, Global};
@@ -17,11 +17,11 @@ pub(crate) struct PointerSet {
 
 impl Model for PointerSet {
     ghost use Rattle.std.specs.Prelude.{List, map, ℕ};
-    ghost use Rattle.patch_object.specs.Paths.{parts_in};
+    ghost use Rattle.patch_object.specs.Paths.{string_parts};
 
     ghost Value = { List (List (List ℕ)) };
 
-    ghost view = { λ a. map parts_in a.paths.keys };
+    ghost view = { λ a. map string_parts a.paths.keys };
 }
 
 impl PointerSet {
@@ -51,7 +51,7 @@ impl PointerSet {
 }
 
 fn has_prefix(paths: &BTreeSet<Vec<String>>, path: &[String]) -> bool
-    ensures { result ≡ list_any (λ e. is_prefix e (map string_bytes path.now)) (map parts_in paths.now.keys) }
+    ensures { result ≡ list_any (λ e. is_prefix e (map string_bytes path.now)) (map string_parts paths.now.keys) }
 {
     for end in 0..path.len() + 1 {
         if paths.contains(&path[..end]) {
@@ -62,7 +62,7 @@ fn has_prefix(paths: &BTreeSet<Vec<String>>, path: &[String]) -> bool
 }
 
 fn strings(alloc: Global, parts: &[Text]) -> Result<Vec<String>, AllocError>
-    ensures { IfOk result (λ v. parts_in v ≡ parts.now) }
+    ensures { IfOk result (λ v. string_parts v ≡ parts.now) }
 {
     let mut strings = Vec::with_capacity(alloc, parts.len())?;
     for part in parts {

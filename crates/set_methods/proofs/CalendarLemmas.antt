@@ -37,5 +37,5 @@ pub bad_outcome : (g : Ground) (cs : List Change) (n : ℕ) (names_id : Bool) (p
 bad_outcome g cs n names_id ps d properties names other own bad some with_id =
     let c : Change = put Calendar n (stored (calendar_in (with_own_id Calendar n ps))) in
     let all : names ≡ with_name_if names_id (codes "id") (bad_properties g.base.zones (with_own_id Calendar n ps)) =
-        with_id ∙ ap (with_name_if names_id (codes "id")) (bad ∙ ap (bad_properties g.base.zones) own) in
+    with_id ∙ ap (with_name_if names_id (codes "id")) (bad ∙ ap (bad_properties g.base.zones) own) in
     refused_for cs c names (λ h. name_some names_id (codes "id") properties some (sym with_id ∙ h)) ∙ ap (after_tests cs c) all ∙ unless (is_resource ps) (Refused NotBuilt) _ other

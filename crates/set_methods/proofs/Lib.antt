@@ -2,3 +2,4 @@ pub mod CalendarLemmas
 pub mod GivenLemmas
 pub mod PlanLemmas
 pub mod ReplyLemmas
+pub mod TellingLemmas

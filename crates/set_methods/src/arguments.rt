@@ -28,14 +28,32 @@ pub(crate) fn arguments(alloc: Global, told: &Told<'_>) -> Result<Tree, AllocErr
     let new_state = Tree::Text(state_text(alloc, told.new_state)?);
     let members = vec![in alloc;
         ("accountId", id),
-        ("created", created(alloc, told.creates, told.create_outcomes)?),
-        ("destroyed", destroyed(alloc, told.destroys, told.destroy_outcomes)?),
+        (
+            "created",
+            created(alloc, told.creates, told.create_outcomes)?
+        ),
+        (
+            "destroyed",
+            destroyed(alloc, told.destroys, told.destroy_outcomes)?
+        ),
         ("newState", new_state),
-        ("notCreated", refused(alloc, told.creates, told.create_outcomes)?),
-        ("notDestroyed", not_destroyed(alloc, told.destroys, told.destroy_outcomes)?),
-        ("notUpdated", refused(alloc, told.updates, told.update_outcomes)?),
+        (
+            "notCreated",
+            refused(alloc, told.creates, told.create_outcomes)?
+        ),
+        (
+            "notDestroyed",
+            not_destroyed(alloc, told.destroys, told.destroy_outcomes)?
+        ),
+        (
+            "notUpdated",
+            refused(alloc, told.updates, told.update_outcomes)?
+        ),
         ("oldState", old_state),
-        ("updated", updated(alloc, told.updates, told.update_outcomes)?),
+        (
+            "updated",
+            updated(alloc, told.updates, told.update_outcomes)?
+        ),
     ]?;
-    Tree::object(alloc, members)
+    Ok(Tree::object(alloc, members)?)
 }

@@ -9,20 +9,20 @@ use crate::arguments::arguments;
 use crate::created::new_ids;
 use crate::created_ids::CreatedIds;
 use crate::named_id::ids_named;
-use crate::operations::{creates, destroys, updates};
+use crate::operations::{create_operations, destroy_operations, update_operations};
 use crate::planned::Plan;
 use crate::request::SetRequest;
 use crate::run::run;
 use crate::setting::Setting;
 use crate::told::Told;
-use cal_model::view::View;
+use cal_model::view::AccountView;
 use model_json::lists::Pairs;
 use std::alloc::{AllocError, Global};
 
 /// Carries out a set that isn't refused: creates, then updates, then destroys (RFC 8620 section 5.3).
 ///
 /// After want of memory some changes may be staged.
-pub(crate) fn carry_out<V: View>(
+pub(crate) fn carry_out<V: AccountView>(
     alloc: Global,
     view: &mut V,
     setting: &Setting<'_>,
@@ -38,21 +38,25 @@ pub(crate) fn carry_out<V: View>(
     ensures base { V.base view.new ≡ V.base view.old }
 {
     let old_state = view.state(setting.kind);
-    let made = run(alloc, view, setting, &creates(alloc, request.creates())?)?;
-    let added = new_ids(alloc, request.creates(), &made)?;
+    let objects = request.creates();
+    let patches = request.updates();
+    let creates = create_operations(alloc, objects)?;
+    let made = run(alloc, view, setting, &creates)?;
+    let added = new_ids(alloc, objects, &made)?;
     let arguments = {
         let ids = CreatedIds::of(alloc, created.pairs(), &added)?;
         let named = ids_named(alloc, &ids, request.destroys())?;
-        let updates = updates(alloc, &ids, &named, request.updates())?;
+        let updates = update_operations(alloc, &ids, &named, patches)?;
         let changed = run(alloc, view, setting, &updates)?;
-        let removed = run(alloc, view, setting, &destroys(alloc, &named)?)?;
+        let destroys = destroy_operations(alloc, &named)?;
+        let removed = run(alloc, view, setting, &destroys)?;
         let told = Told {
             account: setting.account,
             old_state,
             new_state: view.state(setting.kind),
-            creates: request.creates(),
+            creates: objects,
             create_outcomes: &made,
-            updates: request.updates(),
+            updates: patches,
             update_outcomes: &changed,
             destroys: &named,
             destroy_outcomes: &removed,

@@ -3,8 +3,8 @@ ghost use Rattle.std.specs.Prelude.{◌≡◌, IfOk, length, map};
 ghost use Rattle.cal_model.specs.SetReply.{destroyed_item, list_or_null, object_or_null, updated_member};
 ghost use Rattle.cal_model.specs.Sets.{of_each};
 ghost use Rattle.model_json.specs.TreeData.{data_of, pair_of};
-use crate::named_id::NamedId;
 
+use crate::named_id::NamedId;
 use crate::parts::{list_or_null, object_or_null};
 use cal_model::outcome::Outcome;
 use model_json::tree::{Member, Tree};

@@ -8,7 +8,6 @@ ghost use Rattle.model_json.specs.ObjectKeys.{HasOrderedKeys};
 ghost use Rattle.model_json.specs.Parts.{members_in};
 ghost use Rattle.model_json.specs.TreeData.{data_of, pair_of};
 
-
 use crate::parts::object_or_null;
 use cal_model::outcome::Outcome;
 use model_history::entry::Change;
@@ -70,11 +69,7 @@ fn created_members(
 }
 
 #[tactic(auto, using(property_table::proofs::TableLemmas::rises_filter))]
-fn created_member(
-    alloc: Global,
-    create: &Member,
-    change: &Change,
-) -> Result<Member, AllocError>
+fn created_member(alloc: Global, create: &Member, change: &Change) -> Result<Member, AllocError>
     ensures { IfOk result (λ m. pair_of m ∷ [] ≡ created_member (pair_of create.now) (Accepted change.now)) }
 {
     let key = create.key.copy()?;

@@ -49,9 +49,7 @@ impl<'a> NamedId<'a> {
 pub(crate) fn names_id(named: &[NamedId<'_>], id: &Text) -> bool
     ensures { result ≡ names_id named.now id.now }
 {
-    named
-        .iter()
-        .any(|other| other.id().as_str() == id.as_str())
+    named.iter().any(|other| other.id().as_str() == id.as_str())
 }
 
 /// The ids of these texts, each once under the first text that stands for it. Takes time with the square of their number.

@@ -13,7 +13,7 @@ use model_json::tree::Member;
 use std::alloc::{AllocError, Global};
 
 /// The creates of a set.
-pub(crate) fn creates<'a>(
+pub(crate) fn create_operations<'a>(
     alloc: Global,
     members: &'a [Member],
 ) -> Result<Vec<Operation<'a>>, AllocError>
@@ -28,7 +28,7 @@ pub(crate) fn creates<'a>(
 
 /// The updates of a set, each with whether its object is among those to be destroyed, and whether one before it names the
 /// same. Takes time with the square of their number.
-pub(crate) fn updates<'a>(
+pub(crate) fn update_operations<'a>(
     alloc: Global,
     created: &CreatedIds<'a>,
     destroyed: &[NamedId<'a>],
@@ -52,7 +52,7 @@ pub(crate) fn updates<'a>(
 }
 
 /// The destroys of a set.
-pub(crate) fn destroys<'a>(
+pub(crate) fn destroy_operations<'a>(
     alloc: Global,
     named: &[NamedId<'a>],
 ) -> Result<Vec<Operation<'a>>, AllocError>

@@ -94,7 +94,10 @@ fn set_error_tree(alloc: Global, error: &SetError) -> Result<Tree, AllocError>
         }
         SetError::InvalidProperties { properties } => {
             let properties = text_list(alloc, copies(alloc, properties.items())?)?;
-            Tree::object(alloc, vec![in alloc; ("properties", properties), ("type", name)]?)
+            Tree::object(
+                alloc,
+                vec![in alloc; ("properties", properties), ("type", name)]?,
+            )
         }
         SetError::NotFound | SetError::WillDestroy | SetError::OverQuota | SetError::NotBuilt => {
             Tree::object(alloc, vec![in alloc; ("type", name)]?)

@@ -1,6 +1,6 @@
 use Rattle.std.proofs.Common.{◌≡◌, ◌++◌, drop, map}
 use Rattle.cal_model.specs.Sets.{created_id, of_each}
-use Rattle.model_json.specs.TreeData.{data_of, pair_of}
+use Rattle.model_json.specs.TreeData.{pair_of}
 use Rattle.set_methods.proofs.created.new_ids.Given as goal
 
 abbrev pub invariant-loop-i : goal.invariant-loop-i

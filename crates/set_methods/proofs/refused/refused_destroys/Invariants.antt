@@ -1,8 +1,8 @@
 use Rattle.std.proofs.Common.{◌≡◌, ◌++◌, drop, map}
 use Rattle.cal_model.specs.SetReply.{refused_member}
 use Rattle.cal_model.specs.Sets.{of_each}
-use Rattle.model_json.specs.TreeData.{data_of, pair_of}
+use Rattle.model_json.specs.TreeData.{pair_of}
 use Rattle.set_methods.proofs.refused.refused_destroys.Given as goal
 
 abbrev pub invariant-loop-i : goal.invariant-loop-i
-invariant-loop-i l = map pair_of l.refused.items ++ of_each refused_member ( (drop l.i l.fn.named)) (drop l.i l.outcomes) ≡ of_each refused_member ( l.fn.named) l.outcomes
+invariant-loop-i l = map pair_of l.refused.items ++ of_each refused_member ((drop l.i l.fn.named)) (drop l.i l.outcomes) ≡ of_each refused_member (l.fn.named) l.outcomes

@@ -2,7 +2,7 @@ use Rattle.std.proofs.Common.{◌≡◌, ◌++◌, [], drop, map}
 use Rattle.cal_model.specs.Sets.{updates_after}
 use Rattle.model_json.specs.TreeData.{pair_of}
 use Rattle.set_methods.specs.Judging.{operation_in}
-use Rattle.set_methods.proofs.operations.updates.Given as goal
+use Rattle.set_methods.proofs.operations.update_operations.Given as goal
 
 abbrev pub invariant-loop-member : goal.invariant-loop-member
 invariant-loop-member l = map operation_in l.operations.items ++ updates_after l.created l.destroyed l.earlier.items (map pair_of (drop l.member-index l.members))
