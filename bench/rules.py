@@ -26,6 +26,8 @@ RULES = {
     "yearly": ({"frequency": "yearly"}, {"freq": rrule.YEARLY}),
 }
 NEVER = {"byMonth": ["2"], "byMonthDay": [30]}
+# After 2320-02-29 the next such day lies 241,768 years on, more than half of a cycle of 400 years' days in phase.
+FAR = {"frequency": "daily", "interval": 970, "byMonth": ["2"], "byMonthDay": [29], "byDay": [{"day": "su"}]}
 
 
 def spent(rows):
@@ -58,6 +60,8 @@ def main():
         print(f"{name}: from 2024, 2500, 9000 {', '.join(here)}; dateutil {by_dateutil(words, 2000) * 1e9:.0f} ns")
     for frequency in ("daily", "weekly", "monthly", "yearly"):
         print(f"{frequency}, never again: {each(dict(NEVER, frequency=frequency), 2024, 20) * 1e3:.2f} ms")
+    row = {"start": "2320-02-29T00:00:00", "rules": [FAR]}
+    print(f"241,768 years on: {(spent([dict(row, times=20)]) - spent([dict(row, times=0)])) / 20 * 1e3:.2f} ms")
     for name, (rule, _) in RULES.items():
         row = {"start": "2024-01-15T09:00:00", "last": True, "rules": [dict(rule, count=1000)]}
         print(f"{name}, last day of 1000: {(spent([row] * 200) - spent([row] * 0)) / 200 * 1e3:.3f} ms")

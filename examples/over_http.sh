@@ -1,6 +1,6 @@
 #!/usr/bin/env bash
-# Talks to `jmapd stdio` by curl, over TCP on one kept connection: the session object, a `Calendar/set` and a `Calendar/get`. The answers are
-# compared with examples/over_http.answers. socat relays one connection of a port to the program's standard streams.
+# Talks to `jmapd stdio` by curl, over TCP on one kept connection: the session object, then a day with calendars, one that is created, read, renamed and
+# destroyed, and what changed meanwhile. The answers are compared with examples/over_http.answers. socat relays one connection of a port to the program's standard streams.
 #
 #     examples/over_http.sh [PATH_OF_THE_PROGRAM]        PORT=8080 by default
 set -u
@@ -24,9 +24,11 @@ trap 'kill "$relay" 2>/dev/null' EXIT
 
 shown='%{stderr}%{http_code} %{content_type}, %{num_connects} new connections\n%{stdout}\n'
 common=(--silent --show-error --max-time 20 --retry 20 --retry-connrefused --retry-delay 1 -H 'Authorization: Bearer t-ann' -w "$shown")
-answers=$(curl "${common[@]}" "http://127.0.0.1:$port/.well-known/jmap" \
-    --next "${common[@]}" --data-binary @examples/set.json "http://127.0.0.1:$port/jmap" \
-    --next "${common[@]}" --data-binary @examples/get.json "http://127.0.0.1:$port/jmap") || exit 1
+sent=("${common[@]}" "http://127.0.0.1:$port/.well-known/jmap")
+for request in set get rename changes destroy; do
+    sent+=(--next "${common[@]}" --data-binary "@examples/$request.json" "http://127.0.0.1:$port/jmap")
+done
+answers=$(curl "${sent[@]}") || exit 1
 if diff <(printf '%s\n' "$answers") examples/over_http.answers; then
     echo 'examples/over_http.sh: the answers are those of examples/over_http.answers'
 else

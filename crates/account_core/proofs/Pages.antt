@@ -2,7 +2,7 @@
 use Rattle.std.proofs.Common.{◌≡◌, ℕ, ℤ, [], List, Bool, true, false, Option, Some, option_map, unsigned_abs, refl}
 use Rattle.account_core.specs.PageObject.{page_object}
 use Rattle.cal_model.specs.Answer.{answered, changes_answer}
-use Rattle.cal_model.specs.Changes.{is_maximum, page_arguments}
+use Rattle.cal_model.specs.Changes.{is_maximum, page_response}
 use Rattle.model_history.specs.History.{changes_of, state_at}
 use Rattle.model_history.specs.Pages.{is_retained, mentions, page_end}
 use Rattle.model_history.specs.declared.entry.Change.{Change}
@@ -13,7 +13,7 @@ use Rattle.state_log.specs.declared.page.Page.{Page}
 use Rattle.time_text.specs.State.{state_in}
 
 page_told : (account : List ℕ) (kind : Kind) (cs : List Change) (since : List ℕ) (k : ℕ) (most : Option ℕ) (page : Page) → IsPage (mentions kind cs) k most page
-    → page_object account kind since (state_at cs kind) page ≡ page_arguments account kind cs since k (page_end (mentions kind cs) k most)
+    → page_object account kind since (state_at cs kind) page ≡ page_response account kind cs since k (page_end (mentions kind cs) k most)
 page_told account kind cs since k most page h = rw (h.created, h.updated, h.destroyed, h.until) refl
 
 not_false : (b : Bool) → (b ≡ false → ⊥) → b ≡ true

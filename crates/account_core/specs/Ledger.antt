@@ -2,7 +2,7 @@
 use Rattle.std.specs.Prelude.{ℕ, List}
 use Rattle.std.specs.Arc.{arc_value}
 use Rattle.account_core.specs.declared.ledger.Ledger.{Ledger}
-use Rattle.account_store.specs.Store as store
+use Rattle.account_store.specs.Store.{entries}
 use Rattle.model_history.specs.Base.{Base}
 use Rattle.model_history.specs.History.{changes_of}
 use Rattle.model_history.specs.declared.entry.Change.{Change}
@@ -13,11 +13,11 @@ abbrev pub base : Ledger → Base
 base l = record { account_id = l.id; zones = arc_value l.zones }
 
 -- the account's entries
-abbrev pub entries : Ledger → List Entry
-entries l = store.entries l.store
+abbrev pub ledger_entries : Ledger → List Entry
+ledger_entries l = entries l.store
 
 abbrev pub history : Ledger → List Change
-history l = changes_of (entries l)
+history l = changes_of (ledger_entries l)
 
 -- the changes that a call makes and that aren't entries yet
 abbrev pub staged : Ledger → List Change

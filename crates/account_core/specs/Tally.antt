@@ -9,12 +9,12 @@ use Rattle.model_history.specs.declared.entry.Kind.TheVariants.{Calendar, Event}
 use Rattle.account_core.specs.declared.tally.Tally.{Tally}
 
 -- how many objects of a kind were created
-abbrev pub created : Tally → Kind → ℕ
-created t Calendar = t.calendars
-created t Event = t.events
+abbrev pub count_created : Tally → Kind → ℕ
+count_created t Calendar = t.calendars
+count_created t Event = t.events
 
 -- the tally is that of these changes, whose objects got the numbers from 1 on, in order
 pub record Tallies (t : Tally) (cs : List Change) : Type 0 where
   pub entries : t.entries ≡ length cs
   pub size : t.size ≡ size_of cs
-  pub numbers : (kind : Kind) → ids_at cs kind ≡ range_with_len 1 (created t kind)
+  pub numbers : (kind : Kind) → ids_at cs kind ≡ range_with_len 1 (count_created t kind)

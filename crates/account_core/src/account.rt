@@ -1,6 +1,6 @@
 //! An account.
 ghost use Rattle.std.specs.Prelude.{◌≡◌, ◌++◌, [], IfOk, OnErr, OnOk};
-ghost use Rattle.account_core.specs.Ledger.{base, entries, staged};
+ghost use Rattle.account_core.specs.Ledger.{base, ledger_entries, staged};
 ghost use Rattle.cal_model.specs.Answer.{added, answer};
 
 use crate::changes::changes;
@@ -28,7 +28,7 @@ pub struct Account {
 impl Model for Account {
     ghost use Rattle.std.specs.Prelude.{◌≡◌, List, []};
     ghost use Rattle.std.specs.Coded.{codes};
-    ghost use Rattle.account_core.specs.Ledger.{base, entries, staged};
+    ghost use Rattle.account_core.specs.Ledger.{base, ledger_entries, staged};
     ghost use Rattle.model_history.specs.Base.{Base};
     ghost use Rattle.model_json.specs.DataCode.{data_code};
     ghost use Rattle.model_history.specs.declared.entry.Entry.{Entry};
@@ -37,7 +37,7 @@ impl Model for Account {
 
     ghost coded = { Prim.hlevel (codes, data_code) };
 
-    ghost view = { λ a. (base a.ledger, entries a.ledger) };
+    ghost view = { λ a. (base a.ledger, ledger_entries a.ledger) };
 
     ghost invariant = { λ a. staged a.ledger ≡ [] };
 }
@@ -96,9 +96,9 @@ impl Book for Account {
 // Answers a call and adds its entries.
 fn answer(ledger: &mut Ledger, stamp: &Stamp, call: &Call) -> Result<Reply, AllocError>
     requires { staged ledger.old ≡ [] }
-    ensures reply { IfOk result (λ r. r ≡ answer (base ledger.old) (entries ledger.old) call.now stamp.now.moment) }
-    ensures grown { OnOk result (entries ledger.new ≡ entries ledger.old ++ added (base ledger.old) (entries ledger.old) call.now stamp.now) }
-    ensures unchanged { OnErr result (entries ledger.new ≡ entries ledger.old) }
+    ensures reply { IfOk result (λ r. r ≡ answer (base ledger.old) (ledger_entries ledger.old) call.now stamp.now.moment) }
+    ensures grown { OnOk result (ledger_entries ledger.new ≡ ledger_entries ledger.old ++ added (base ledger.old) (ledger_entries ledger.old) call.now stamp.now) }
+    ensures unchanged { OnErr result (ledger_entries ledger.new ≡ ledger_entries ledger.old) }
     ensures staged { staged ledger.new ≡ [] }
     ensures base { base ledger.new ≡ base ledger.old }
 {

@@ -1,6 +1,6 @@
 //! What changed since a state (RFC 8620 section 5.2).
 ghost use Rattle.std.specs.Prelude.{◌≡◌, IfOk, option_map, true, unsigned_abs};
-ghost use Rattle.account_core.specs.Ledger as ledger_words;
+ghost use Rattle.account_core.specs.Ledger.{base, ledger_entries};
 ghost use Rattle.account_store.specs.Store.{entries};
 ghost use Rattle.account_core.specs.PageObject.{page_object};
 ghost use Rattle.cal_model.specs.Answer.{changes_answer, if_built};
@@ -29,8 +29,8 @@ pub fn changes(
     since: &Text,
     most: &Option<Num>,
 ) -> Result<Reply, AllocError>
-    ensures { IfOk result (λ r. r ≡ if_built (ledger_words.entries ledger.now) kind
-        (changes_answer (ledger_words.base ledger.now).account_id (ledger_words.entries ledger.now) kind since.now most.now)) }
+    ensures { IfOk result (λ r. r ≡ if_built (ledger_entries ledger.now) kind
+        (changes_answer (base ledger.now).account_id (ledger_entries ledger.now) kind since.now most.now)) }
 {
     match kind {
         Kind::Calendar => changes_since(ledger.alloc, &ledger.id, &ledger.store, kind, since, most),

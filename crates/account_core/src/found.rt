@@ -8,13 +8,13 @@ ghost use Rattle.model_json.specs.Parts.{some_of};
 ghost use Rattle.model_json.specs.TreeData.{data_of};
 ghost use Rattle.model_history.specs.declared.entry.Kind.TheVariants.{Calendar};
 
-use set_methods::asked_ids::asked_ids;
 use crate::properties::{asked_properties, select};
 use account_store::Store;
 use model_history::entry::Kind;
 use model_json::lists::Texts;
 use model_json::text::Text;
 use model_json::tree::Tree;
+use set_methods::asked_ids::asked_ids;
 use std::alloc::{AllocError, Global};
 use time_text::read_object_id;
 

@@ -1,6 +1,6 @@
 //! Gets of calendars (RFC 8620 section 5.1).
 ghost use Rattle.std.specs.Prelude.{◌≡◌, [], Some, None, true, IfOk, map};
-ghost use Rattle.account_core.specs.Ledger as ledger_words;
+ghost use Rattle.account_core.specs.Ledger.{base, ledger_entries};
 ghost use Rattle.account_store.specs.Store.{entries};
 ghost use Rattle.cal_model.specs.Answer.{answered, get_answer, if_built};
 ghost use Rattle.cal_model.specs.Gets.{are_calendar_properties, get_response};
@@ -29,11 +29,18 @@ pub fn get(
     ids: &Option<Texts>,
     properties: &Option<Texts>,
 ) -> Result<Reply, AllocError>
-    ensures { IfOk result (λ r. r ≡ if_built (ledger_words.entries ledger.now) kind
-        (get_answer (ledger_words.base ledger.now).account_id (ledger_words.entries ledger.now) created.now ids.now properties.now)) }
+    ensures { IfOk result (λ r. r ≡ if_built (ledger_entries ledger.now) kind
+        (get_answer (base ledger.now).account_id (ledger_entries ledger.now) created.now ids.now properties.now)) }
 {
     match kind {
-        Kind::Calendar => get_calendars(ledger.alloc, &ledger.id, &ledger.store, created, ids, properties),
+        Kind::Calendar => get_calendars(
+            ledger.alloc,
+            &ledger.id,
+            &ledger.store,
+            created,
+            ids,
+            properties,
+        ),
         Kind::Event => Ok(refusal(ledger.alloc, &ledger.store, MethodError::NotBuilt)),
     }
 }
@@ -53,7 +60,14 @@ fn get_calendars(
         return Ok(refusal(alloc, store, MethodError::InvalidArguments));
     }
     match ids {
-        Some(ids) => get_ids(alloc, account, store, created.pairs(), ids.items(), properties),
+        Some(ids) => get_ids(
+            alloc,
+            account,
+            store,
+            created.pairs(),
+            ids.items(),
+            properties,
+        ),
         None => get_all(alloc, account, store, properties),
     }
 }

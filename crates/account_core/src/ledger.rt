@@ -1,13 +1,13 @@
 //! The history of an account with the changes that a call is about to make.
 ghost use Rattle.std.specs.Prelude.{◌≡◌, ◌<◌, ◌≤◌, ◌^◌, ◌++◌, [], OnErr, OnOk, length};
 ghost use Rattle.account_core.specs.Tally.{Tallies};
-ghost use Rattle.account_store.specs.Store as store_words;
+ghost use Rattle.account_store.specs.Store.{entries, spare};
 ghost use Rattle.cal_model.specs.Answer.{entries_from};
 ghost use Rattle.model_history.specs.History.{changes_of};
 
 use crate::tally::Tally;
 use account_store::Store;
-use cal_model::view::View;
+use cal_model::view::AccountView;
 use model_history::entry::{Change, Entry, Kind};
 use model_history::stamp::Stamp;
 use model_json::text::Text;
@@ -31,19 +31,19 @@ pub struct Ledger {
     staged: Vec<Change>,
     /// What the history and the staged changes hold.
     tally: Tally,
-    ghost kept_told: { Tallies kept (changes_of (store_words.entries store)) },
-    ghost told: { Tallies tally (changes_of (store_words.entries store) ++ staged.items) },
+    ghost kept_told: { Tallies kept (changes_of (entries store)) },
+    ghost told: { Tallies tally (changes_of (entries store) ++ staged.items) },
 }
 
 impl Ledger {
-    ghost use Rattle.account_core.specs.Ledger.{base, entries, history, staged};
+    ghost use Rattle.account_core.specs.Ledger.{base, history, ledger_entries, staged};
     ghost use Rattle.model_history.specs.Base.{Base};
     ghost use Rattle.std.specs.Arc.{arc_value};
 
     /// A ledger of an account of this id, with these zones and no entries. Takes no memory.
     pub fn new(alloc: Global, id: Text, zones: Arc<Zones>) -> Ledger
         ensures base { base result ≡ record { account_id = id; zones = arc_value zones } }
-        ensures entries { entries result ≡ [] }
+        ensures entries { ledger_entries result ≡ [] }
         ensures staged { staged result ≡ [] }
     {
         Ledger {
@@ -59,10 +59,10 @@ impl Ledger {
 
     /// Takes memory for the entries that the staged changes become. After want of memory nothing is staged.
     pub fn reserve(&mut self) -> Result<(), AllocError>
-        ensures spare { OnOk result (length (staged self.new) ≤ store_words.spare self.new.store) }
+        ensures spare { OnOk result (length (staged self.new) ≤ spare self.new.store) }
         ensures ok { OnOk result (staged self.new ≡ staged self.old) }
         ensures err { OnErr result (staged self.new ≡ []) }
-        ensures entries { entries self.new ≡ entries self.old }
+        ensures entries { ledger_entries self.new ≡ ledger_entries self.old }
         ensures base { base self.new ≡ base self.old }
     {
         match self.store.reserve(self.staged.len() as u64) {
@@ -76,8 +76,8 @@ impl Ledger {
 
     /// Makes the staged changes entries of a call. Takes no memory, since it was reserved.
     pub fn commit(&mut self, stamp: &Stamp)
-        requires { length (staged self.old) ≤ store_words.spare self.old.store }
-        ensures entries { entries self.new ≡ entries self.old ++ entries_from stamp.now 0 (staged self.old) }
+        requires { length (staged self.old) ≤ spare self.old.store }
+        ensures entries { ledger_entries self.new ≡ ledger_entries self.old ++ entries_from stamp.now 0 (staged self.old) }
         ensures staged { staged self.new ≡ [] }
         ensures base { base self.new ≡ base self.old }
     {
@@ -89,9 +89,9 @@ impl Ledger {
 
 // Puts the entries of these changes at the end.
 fn push_all(store: &mut Store, stamp: &Stamp, changes: Vec<Change>)
-    requires spare { length changes.items ≤ store_words.spare store.old }
+    requires spare { length changes.items ≤ spare store.old }
     requires few { length changes.items < 2 ^ 32 }
-    ensures { store_words.entries store.new ≡ store_words.entries store.old ++ entries_from stamp.now 0 changes.items }
+    ensures { entries store.new ≡ entries store.old ++ entries_from stamp.now 0 changes.items }
 {
     let mut part: u32 = 0;
     for change in changes {
@@ -106,12 +106,12 @@ fn push_all(store: &mut Store, stamp: &Stamp, changes: Vec<Change>)
     }
 }
 
-impl View for Ledger {
-    ghost use Rattle.account_core.specs.Ledger.{base, entries, history, staged};
+impl AccountView for Ledger {
+    ghost use Rattle.account_core.specs.Ledger.{base, history, ledger_entries, staged};
 
     ghost base = { base };
 
-    ghost entries = { entries };
+    ghost entries = { ledger_entries };
 
     ghost history = { history };
 

@@ -6,10 +6,10 @@ ghost use Rattle.cal_model.specs.Gets.{are_calendar_properties, is_asked_for, se
 ghost use Rattle.model_json.specs.TreeData.{data_of, pair_of};
 ghost use Rattle.model_json.specs.declared.tree.Tree.{Tree as AnyTree};
 
-use set_methods::texts::{different_texts, is_among};
 use model_json::lists::Texts;
 use model_json::text::Text;
 use model_json::tree::{Member, Tree, TreeObject};
+use set_methods::texts::{different_texts, is_among};
 use std::alloc::{AllocError, Global};
 
 /// Whether this is the name of a property of calendars.

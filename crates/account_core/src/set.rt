@@ -1,6 +1,6 @@
 //! Sets (RFC 8620 section 5.3).
 ghost use Rattle.std.specs.Prelude.{◌≡◌, ◌≤◌, ◌++◌, [], None, IfErr, IfOk, OnErr, OnOk, length};
-ghost use Rattle.account_core.specs.Ledger.{base, entries, history, staged};
+ghost use Rattle.account_core.specs.Ledger.{base, ledger_entries, history, staged};
 ghost use Rattle.account_store.specs.Store.{spare};
 ghost use Rattle.cal_model.specs.Answer.{answered, changes_if_built, entries_from, if_built, set_added, set_answer};
 ghost use Rattle.cal_model.specs.SetReply.{set_arguments};
@@ -28,11 +28,11 @@ pub fn set(
     created: &Pairs,
 ) -> Result<Reply, AllocError>
     requires { staged ledger.old ≡ [] }
-    ensures reply { IfOk result (λ r. r ≡ if_built (entries ledger.old) request.now.kind (set_answer (base ledger.old) (entries ledger.old) stamp.now.moment
+    ensures reply { IfOk result (λ r. r ≡ if_built (ledger_entries ledger.old) request.now.kind (set_answer (base ledger.old) (ledger_entries ledger.old) stamp.now.moment
         request.now.kind created.now (objects_in request.now) request.now.if_in_state.now request.now.remove_events)) }
-    ensures grown { OnOk result (entries ledger.new ≡ entries ledger.old ++ entries_from stamp.now 0 (changes_if_built request.now.kind (set_added (base ledger.old)
-        (entries ledger.old) stamp.now.moment request.now.kind created.now (objects_in request.now) request.now.if_in_state.now request.now.remove_events))) }
-    ensures unchanged { OnErr result (entries ledger.new ≡ entries ledger.old) }
+    ensures grown { OnOk result (ledger_entries ledger.new ≡ ledger_entries ledger.old ++ entries_from stamp.now 0 (changes_if_built request.now.kind (set_added (base ledger.old)
+        (ledger_entries ledger.old) stamp.now.moment request.now.kind created.now (objects_in request.now) request.now.if_in_state.now request.now.remove_events))) }
+    ensures unchanged { OnErr result (ledger_entries ledger.new ≡ ledger_entries ledger.old) }
     ensures staged { staged ledger.new ≡ [] }
     ensures base { base ledger.new ≡ base ledger.old }
 {
@@ -50,11 +50,11 @@ fn carry_out(
     created: &Pairs,
 ) -> Result<Reply, AllocError>
     requires { staged ledger.old ≡ [] }
-    ensures reply { IfOk result (λ r. r ≡ set_answer (base ledger.old) (entries ledger.old) stamp.now.moment request.now.kind created.now
+    ensures reply { IfOk result (λ r. r ≡ set_answer (base ledger.old) (ledger_entries ledger.old) stamp.now.moment request.now.kind created.now
         (objects_in request.now) request.now.if_in_state.now request.now.remove_events) }
-    ensures grown { OnOk result (entries ledger.new ≡ entries ledger.old ++ entries_from stamp.now 0 (set_added (base ledger.old) (entries ledger.old)
+    ensures grown { OnOk result (ledger_entries ledger.new ≡ ledger_entries ledger.old ++ entries_from stamp.now 0 (set_added (base ledger.old) (ledger_entries ledger.old)
         stamp.now.moment request.now.kind created.now (objects_in request.now) request.now.if_in_state.now request.now.remove_events)) }
-    ensures unchanged { OnErr result (entries ledger.new ≡ entries ledger.old) }
+    ensures unchanged { OnErr result (ledger_entries ledger.new ≡ ledger_entries ledger.old) }
     ensures staged { staged ledger.new ≡ [] }
     ensures base { base ledger.new ≡ base ledger.old }
 {
@@ -77,7 +77,7 @@ fn prepare(
 ) -> Result<Reply, PlanError>
     requires { staged ledger.old ≡ [] }
     ensures carried_out { OnOk result (set_refusal request.now.kind (history ledger.old) (objects_in request.now) request.now.if_in_state.now request.now.remove_events ≡ None) }
-    ensures reply { IfOk result (λ r. r ≡ answered (entries ledger.old)
+    ensures reply { IfOk result (λ r. r ≡ answered (ledger_entries ledger.old)
         (set_arguments (ground_at (base ledger.old) moment) request.now.kind created.now (history ledger.old) (objects_in request.now))
         (new_ids (ground_at (base ledger.old) moment) request.now.kind created.now (history ledger.old) (objects_in request.now))) }
     ensures staged { OnOk result (staged ledger.new
@@ -85,12 +85,20 @@ fn prepare(
     ensures spare { OnOk result (length (staged ledger.new) ≤ spare ledger.new.store) }
     ensures refused { IfErr result (λ e. Reports e (set_refusal request.now.kind (history ledger.old) (objects_in request.now) request.now.if_in_state.now request.now.remove_events)) }
     ensures forgotten { OnErr result (staged ledger.new ≡ []) }
-    ensures entries { entries ledger.new ≡ entries ledger.old }
+    ensures entries { ledger_entries ledger.new ≡ ledger_entries ledger.old }
     ensures base { base ledger.new ≡ base ledger.old }
 {
     let zones = ledger.zones.clone()?;
     let account = ledger.id.copy()?;
-    let plan = plan(ledger.alloc, ledger, &zones, &account, moment, request, created)?;
+    let plan = plan(
+        ledger.alloc,
+        ledger,
+        &zones,
+        &account,
+        moment,
+        request,
+        created,
+    )?;
     ledger.reserve()?;
     Ok(reply(&ledger.store, plan.arguments, plan.created))
 }

@@ -25,7 +25,7 @@ pub struct Tally {
 }
 
 impl Tally {
-    ghost use Rattle.account_core.specs.Tally.{Tallies, created};
+    ghost use Rattle.account_core.specs.Tally.{Tallies, count_created};
     ghost use Rattle.std.specs.Prelude.{[]};
 
     /// The tally of no entries. Takes no memory.
@@ -42,7 +42,7 @@ impl Tally {
 
     /// How many objects of a kind were created. Takes no memory.
     pub fn created(&self, kind: Kind) -> u64
-        ensures exact { result ≡ created self.now kind }
+        ensures exact { result ≡ count_created self.now kind }
         ensures most { result ≤ self.now.entries }
     {
         match kind {
@@ -55,10 +55,10 @@ impl Tally {
     pub fn count(&mut self, kind: Kind, id: u64, size: usize)
         requires few { self.old.entries < MAX_ENTRIES }
         requires small { self.old.size + size ≤ MAX_OBJECT_BYTES }
-        requires next { id ≤ created self.old kind + 1 }
+        requires next { id ≤ count_created self.old kind + 1 }
         ensures entries { self.new.entries ≡ self.old.entries + 1 }
         ensures size { self.new.size ≡ self.old.size + size }
-        ensures created { (k : AnyKind) → created self.new k ≡ if is_kind k kind then max (created self.old k) id else created self.old k }
+        ensures created { (k : AnyKind) → count_created self.new k ≡ if is_kind k kind then max (count_created self.old k) id else count_created self.old k }
     {
         self.entries += 1;
         self.size += size;

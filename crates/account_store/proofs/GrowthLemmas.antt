@@ -58,7 +58,7 @@ puts_still es more (p ∷ ps) (q ∷ qs) h =
 -- ---- one more
 
 -- the put or removal of one more change of its kind
-abbrev pub next_put : List Change → Change → Put Tree
+abbrev next_put : List Change → Change → Put Tree
 next_put cs c = record { id = c.id; state = suc (state_at cs c.kind); object = c.object }
 
 puts_after_more : (cs : List Change) (c : Change) (n k : ℕ) → k ≡ n + length cs → puts_after n (cs ++ c ∷ []) ≡ puts_after n cs ++ record { id = c.id; state = suc k; object = c.object } ∷ []

@@ -1,2 +1,3 @@
 pub mod PlaceLemmas
 pub mod GrowthLemmas
+pub mod EarlierLemmas

@@ -12,5 +12,5 @@ told t Calendar = puts t.calendars
 told t Event = puts t.events
 
 -- how many more they take without memory, of whatever kinds, at least
-abbrev pub room : Tables → ℕ
-room t = min (spare_puts t.calendars) (spare_puts t.events)
+abbrev pub spare_places : Tables → ℕ
+spare_places t = min (spare_puts t.calendars) (spare_puts t.events)

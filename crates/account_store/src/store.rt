@@ -6,9 +6,9 @@ ghost use Rattle.model_history.specs.History.{changes_of, ids_at, live_at, live_
 ghost use Rattle.model_history.specs.Pages.{is_retained, mentions};
 ghost use Rattle.model_history.specs.declared.entry.Kind.{Kind};
 ghost use Rattle.state_log.specs.IsPage.{IsPage};
-ghost use Rattle.state_log.specs.Journal as journal_words;
+ghost use Rattle.state_log.specs.Journal.{logged};
 ghost use Rattle.state_log.specs.declared.journal.ChangesError;
-ghost use Rattle.version_table.specs.Histories.{of_kind};
+ghost use Rattle.account_store.specs.Earlier.{changes_up_to, live_ids};
 ghost use Rattle.account_store.specs.Places.{ArePlaces, object_in};
 ghost use Rattle.account_store.specs.Tables.{told};
 
@@ -28,7 +28,7 @@ use version_table::Table;
 pub struct Store {
     journal: Journal,
     tables: Tables,
-    ghost placed: { (kind : Kind) → ArePlaces (journal_words.entries journal) kind (told tables kind) } by { Prim.hlevel (codes, data_code) },
+    ghost placed: { (kind : Kind) → ArePlaces (logged journal) kind (told tables kind) } by { Prim.hlevel (codes, data_code) },
 }
 
 impl Store {
@@ -84,7 +84,7 @@ impl Store {
 
     /// The object of a kind and number at state `k` of the kind, where it was live. Takes no memory.
     pub fn object_at(&self, kind: Kind, id: u64, k: u64) -> Option<&Tree>
-        ensures { option_copied result ≡ live_object (take k (of_kind kind (changes_of (entries self.now)))) kind id }
+        ensures { option_copied result ≡ live_object (changes_up_to (entries self.now) kind k) kind id }
     {
         self.object_of(self.tables.of(kind).get_at(id, k).copied())
     }
@@ -113,7 +113,7 @@ impl Store {
 
     /// The numbers of the objects of a kind that were live at state `k` of the kind, in order of creation. Takes memory for them.
     pub fn live_ids_at(&self, alloc: Global, kind: Kind, k: u64) -> Result<Ids, AllocError>
-        ensures { IfOk result (λ ids. ids ≡ filter (λ id. is_some (live_object (take k (of_kind kind (changes_of (entries self.now)))) kind id)) (ids_at (changes_of (entries self.now)) kind)) }
+        ensures { IfOk result (λ ids. ids ≡ live_ids (changes_up_to (entries self.now) kind k) kind) }
     {
         self.tables.of(kind).live_at(alloc, k)
     }

@@ -16,7 +16,7 @@ pub(crate) struct Tables {
 }
 
 impl Tables {
-    ghost use Rattle.account_store.specs.Tables.{room, told};
+    ghost use Rattle.account_store.specs.Tables.{spare_places, told};
 
     /// Tables without objects. Takes no memory.
     pub(crate) fn new(alloc: Global) -> Tables
@@ -30,7 +30,7 @@ impl Tables {
 
     /// Takes memory for `more` further puts and removals, of whatever kinds.
     pub(crate) fn reserve(&mut self, more: u64) -> Result<(), AllocError>
-        ensures room { OnOk result (more ≤ room self.new) }
+        ensures spare { OnOk result (more ≤ spare_places self.new) }
         ensures told { (kind : Kind) → told self.new kind ≡ told self.old kind }
     {
         self.calendars.reserve(more)?;
@@ -39,9 +39,9 @@ impl Tables {
 
     /// Puts the place of an object of a kind from state `state` on, or removes the object. Takes no memory, since it was reserved.
     pub(crate) fn note(&mut self, kind: Kind, id: u64, state: u64, place: Option<usize>)
-        requires { 0 < room self.old }
+        requires { 0 < spare_places self.old }
         ensures told { (q : Kind) → told self.new q ≡ if is_kind q kind then told self.old q ++ record { id = id; state = state; object = place } ∷ [] else told self.old q }
-        ensures room { room self.old ≤ room self.new + 1 }
+        ensures spare { spare_places self.old ≤ spare_places self.new + 1 }
     {
         match kind {
             Kind::Calendar => note(&mut self.calendars, id, state, place),

@@ -1,11 +1,10 @@
 -- A call on an account is one more call of a chain.
-use Rattle.std.proofs.Common.{◌≡◌, ℕ, ℤ, List, [], ◌∷◌, ◌++◌, Ok, Err, inl, inr, refl, sym, ◌∙◌, append-nil}
+use Rattle.std.proofs.Common.{◌≡◌, ℕ, ℤ, List, [], ◌∷◌, ◌++◌, Ok, Err, inr, refl, sym, ◌∙◌, append-nil}
 use Rattle.model_batch.proofs.Chains.{made_of}
 use Rattle.model_batch.specs.Chain.{Called, Shown}
 use Rattle.model_call.specs.declared.call.Call.{Call}
 use Rattle.model_call.specs.declared.call.Reply.{Reply}
 use Rattle.model_batch.specs.declared.desk.DeskError.{DeskError}
-use Rattle.model_batch.specs.declared.desk.DeskError.TheVariants.{NoMemory, PassSpent}
 use Rattle.model_batch.specs.declared.desk.Front.{Front}
 use Rattle.batch_exec.specs.Stepping.{IsDeskReply, HasNoAnswer, Makes}
 
@@ -24,8 +23,7 @@ asking_ok {fronts} {fronts'} {s} {t} {account} {call} {reply} moment called fron
 
 pub asking_err : {fronts fronts' : List Front} (s t : Shown) (account : ℕ) (call : Call) (moment : ℤ) (e : DeskError) → Called s t account call moment (Err e)
     → fronts' ≡ fronts → IsDeskReply fronts fronts' s t account call moment (Err e)
-asking_err s t account call moment NoMemory called same = (same, inr (account, called.0, called.1))
-asking_err s t account call moment PassSpent called same = (same, called)
+asking_err s t account call moment e called same = (same, inr (account, call, (refl, refl), called))
 
 -- no desk was asked
 pub unasked : {fronts fronts' : List Front} {s t : Shown} → t ≡ s → fronts' ≡ fronts → Makes fronts fronts' s t []

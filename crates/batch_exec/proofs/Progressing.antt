@@ -2,9 +2,9 @@
 use Rattle.std.proofs.Common.{◌≡◌, ℕ, ℤ, inl, inr, List, [], ◌∷◌, ◌++◌, map, flat_map, Result, Ok, Err, refl, sym, ap, ◌∙◌, subst, append-nil, append_assoc}
 use Rattle.std.proofs.lemmas.Grind.{flat_map-append}
 use Rattle.std.proofs.lemmas.List.{map-append}
-use Rattle.model_batch.proofs.Chains.{join, still}
-use Rattle.model_batch.specs.Batch.{Step, Fit, FollowsFrom, Progress, created_after, created_by, given_ids, made_in, meaning_after, responses_in}
-use Rattle.model_batch.specs.Meaning.{meaning_of_method}
+use Rattle.model_batch.proofs.Chains.{join, still, stop_of}
+use Rattle.model_batch.specs.Batch.{Step, Fit, FollowsFrom, Progress, NextMeans, created_after, created_by, given_ids, made_in, meaning_after, responses_in}
+use Rattle.model_batch.specs.Meaning.{Meaning, calls, meaning_of_method}
 use Rattle.model_call.specs.Methods.{method_used}
 use Rattle.model_json.specs.Parts.{some_of}
 use Rattle.model_batch.specs.Chain.{Made, Chain, Shown, front_of}
@@ -16,7 +16,7 @@ use Rattle.model_batch.specs.declared.request.Request.{Request}
 use Rattle.model_batch.specs.declared.method_response.MethodResponse.{MethodResponse}
 use Rattle.model_core.specs.declared.user.User.{User}
 use Rattle.batch_exec.specs.Answering.{Going, HasStopped, HasAnswered}
-use Rattle.batch_exec.specs.Stepping.{IsResponse, HasNoAnswer, Makes, Takes}
+use Rattle.batch_exec.specs.Stepping.{IsResponse, HasNoStep, Makes, Takes, meant}
 
 module _ (user : User) (request : Request) (moment : ℤ) where
   abbrev follows_after : List Step → Step → Type 0
@@ -35,6 +35,10 @@ module _ (user : User) (request : Request) (moment : ℤ) where
       ∙ flat_map-append (λ (m : Made). m.reply.created) (made_in steps) (made_in (s ∷ []))
 
   module _ (fronts fronts1 fronts2 : List Front) (s t u : Shown) (steps : List Step) (c : Invocation) (rest : List Invocation) where
+    means_after : (responses : List MethodResponse) (created : List (List ℕ × List ℕ)) → Going user request moment fronts fronts1 s t steps (c ∷ rest) responses created
+        → meant user.grants request.using responses created c ≡ meaning_after user request moment steps c
+    means_after responses created g = λ i. meaning_of_method user.grants (g.created_are i) (g.responses_are i) c.arguments (method_used request.using c.name)
+
     -- the first of the invocations that are left led to one more step
     progress_more : (responses : List MethodResponse) (created created' : List (List ℕ × List ℕ)) (step : Step)
         → Going user request moment fronts fronts1 s t steps (c ∷ rest) responses created
@@ -44,8 +48,8 @@ module _ (user : User) (request : Request) (moment : ℤ) where
         let p = g.progress in
         let made = made_more steps step in
         let follows : follows_after steps step =
-        subst (λ (d : Invocation). FollowsFrom moment (meaning_of_method user.grants (created_after request steps) (responses_in steps) d.arguments (method_used request.using d.name)) step) (sym k.invocation)
-        (subst (λ (y : List MethodResponse × List (List ℕ × List ℕ)). FollowsFrom moment (meaning_of_method user.grants y.1 y.0 c.arguments (method_used request.using c.name)) step) (λ i. (g.responses_are i, g.created_are i)) k.follows) in
+        subst (λ (d : Invocation). FollowsFrom moment (meaning_after user request moment steps d) step) (sym k.invocation)
+        (subst (λ (n : Meaning). FollowsFrom moment n step) (means_after responses created g) k.follows) in
         record {
           invoked = p.invoked ∙ (ap (λ (d : Invocation). map (λ (x : Step). x.invocation) steps ++ d ∷ rest) (sym k.invocation)
               ∙ (sym (append_assoc (map (λ (x : Step). x.invocation) steps) (step.invocation ∷ []) rest) ∙ ap (λ (is : List Invocation). is ++ rest) (sym (map-append (λ (x : Step). x.invocation) steps (step ∷ [])))));
@@ -70,16 +74,17 @@ module _ (user : User) (request : Request) (moment : ℤ) where
         }
 
     -- nothing came of the first of the invocations that are left
-    stopped_same : (responses : List MethodResponse) (created : List (List ℕ × List ℕ)) (e : DeskError) → Going user request moment fronts fronts1 s t steps (c ∷ rest) responses created
-        → HasNoAnswer fronts1 fronts2 t u e → HasStopped user request moment fronts fronts2 s u e
-    stopped_same responses created e g k =
+    stopped_same : (responses : List MethodResponse) (created created' : List (List ℕ × List ℕ)) (e : DeskError) → Going user request moment fronts fronts1 s t steps (c ∷ rest) responses created
+        → HasNoStep fronts1 fronts2 t u user.grants request.using moment responses created created' c e → HasStopped user request moment fronts fronts2 s u e
+    stopped_same responses created created' e g k =
         let p = g.progress in
-        (steps, c ∷ rest, t, record { invoked = p.invoked; fit = p.fit; chain = p.chain; fronts_grew = k.0 ∙ p.fronts_grew }, k.1)
+        let next = stop_of (λ account call. meant user.grants request.using responses created c ≡ calls account call) (NextMeans user request moment steps (c ∷ rest)) moment e t u (λ account call is. sym (means_after responses created g) ∙ is) k.1 in
+        (steps, c ∷ rest, t, record { invoked = p.invoked; fit = p.fit; chain = p.chain; fronts_grew = k.0 ∙ p.fronts_grew }, next)
 
     stopped_more : (responses : List MethodResponse) (created created' : List (List ℕ × List ℕ)) (step : Step)
         → Going user request moment fronts fronts1 s t steps (c ∷ rest) responses created
         → Takes fronts1 fronts2 t u user.grants request.using moment responses created created' c step → HasStopped user request moment fronts fronts2 s u NoMemory
-    stopped_more responses created created' step g k = (steps ++ step ∷ [], rest, u, progress_more responses created created' step g k, inl refl)
+    stopped_more responses created created' step g k = (steps ++ step ∷ [], rest, u, progress_more responses created created' step g k, inl (refl, refl))
 
     -- what comes of the first of the invocations that are left
     abbrev pub GoesOn : List MethodResponse → List (List ℕ × List ℕ) → Result MethodResponse DeskError → Type 0
@@ -90,9 +95,9 @@ module _ (user : User) (request : Request) (moment : ℤ) where
         → Going user request moment fronts fronts1 s t steps (c ∷ rest) responses created
         → IsResponse fronts1 fronts2 t u user.grants request.using moment responses created created' c r → GoesOn responses created' r
     goes_on_with responses created created' (Ok response) g x = (steps ++ x.0 ∷ [], going_more responses created created' response g x)
-    goes_on_with responses created created' (Err NoMemory) g (inl k) = stopped_same responses created NoMemory g k
+    goes_on_with responses created created' (Err NoMemory) g (inl k) = stopped_same responses created created' NoMemory g k
     goes_on_with responses created created' (Err NoMemory) g (inr k) = stopped_more responses created created' k.0 g k.1
-    goes_on_with responses created created' (Err PassSpent) g k = stopped_same responses created PassSpent g k
+    goes_on_with responses created created' (Err PassSpent) g k = stopped_same responses created created' PassSpent g k
 
     pub goes_on : (using : List (List ℕ)) (responses responses' : List MethodResponse) (created created' : List (List ℕ × List ℕ)) (r : Result MethodResponse DeskError)
         → using ≡ request.using → responses' ≡ responses → Going user request moment fronts fronts1 s t steps (c ∷ rest) responses created
@@ -102,9 +107,9 @@ module _ (user : User) (request : Request) (moment : ℤ) where
         (subst (λ (y : List (List ℕ) × List MethodResponse). IsResponse fronts1 fronts2 t u user.grants y.0 moment y.1 created created' c r) (λ i. (same_using i, same_responses i)) x)
 
   -- before the first invocation
-  pub going_first : (fronts : List Front) (s : Shown) (calls : List Invocation) (responses : List MethodResponse) (created : List (List ℕ × List ℕ))
-      → calls ≡ request.calls → responses ≡ [] → created ≡ given_ids request → Going user request moment fronts fronts s s [] calls responses created
-  going_first fronts s calls responses created all none given = record {
+  pub going_first : (fronts : List Front) (s : Shown) (left : List Invocation) (responses : List MethodResponse) (created : List (List ℕ × List ℕ))
+      → left ≡ request.calls → responses ≡ [] → created ≡ given_ids request → Going user request moment fronts fronts s s [] left responses created
+  going_first fronts s left responses created all none given = record {
     progress = record { invoked = sym all; fit = tt; chain = still s; fronts_grew = sym (append-nil fronts) };
     responses_are = none;
     created_are = given ∙ sym (append-nil (given_ids request));
@@ -112,4 +117,4 @@ module _ (user : User) (request : Request) (moment : ℤ) where
 
   -- no step was taken
   pub stopped_first : (fronts : List Front) (s : Shown) → HasStopped user request moment fronts fronts s s NoMemory
-  stopped_first fronts s = ([], request.calls, s, record { invoked = refl; fit = tt; chain = still s; fronts_grew = sym (append-nil fronts) }, inl refl)
+  stopped_first fronts s = ([], request.calls, s, record { invoked = refl; fit = tt; chain = still s; fronts_grew = sym (append-nil fronts) }, inl (refl, refl))

@@ -1,8 +1,8 @@
 -- What an invocation means, and what came of it, are a step.
 use Rattle.std.proofs.Common.{◌≡◌, ℕ, ℤ, inl, inr, List, ◌++◌, Some, None, Result, Ok, Err, refl, sym, ◌∙◌, subst, append-nil}
 use Rattle.model_batch.specs.Batch.{Step, FollowsFrom, reply_response}
-use Rattle.model_batch.specs.Meaning.{Meaning, calls, meaning_of_method}
-use Rattle.model_call.specs.Methods.{method_used}
+use Rattle.model_batch.proofs.Chains.{stop_of}
+use Rattle.model_batch.specs.Meaning.{Meaning, calls}
 use Rattle.model_batch.specs.Chain.{Made, Shown}
 use Rattle.model_call.specs.declared.call.Call.{Call}
 use Rattle.model_batch.specs.declared.desk.DeskError.{DeskError}
@@ -11,15 +11,15 @@ use Rattle.model_batch.specs.declared.desk.Front.{Front}
 use Rattle.model_batch.specs.declared.request.Invocation.{Invocation}
 use Rattle.model_batch.specs.declared.method_response.MethodResponse.{MethodResponse}
 use Rattle.model_core.specs.declared.user.Grant.{Grant}
-use Rattle.batch_exec.specs.Stepping.{AnswersCall, IsCallResponse, IsResponse, Takes}
+use Rattle.batch_exec.specs.Stepping.{AnswersCall, HasNoStep, IsCallResponse, IsNotAnswered, IsResponse, Takes, meant}
 use Rattle.batch_exec.proofs.Asking.{unasked}
 
 module _ (grants : List Grant) (using : List (List ℕ)) (moment : ℤ) (responses : List MethodResponse) (created created' : List (List ℕ × List ℕ)) (c : Invocation) where
-  abbrev meant : Meaning
-  meant = meaning_of_method grants created responses c.arguments (method_used using c.name)
+  abbrev meaning : Meaning
+  meaning = meant grants using responses created c
 
   -- no account was asked
-  pub responds_itself : (fronts : List Front) (s : Shown) (m : Meaning) (response : MethodResponse) → m ≡ meant → created' ≡ created
+  pub responds_itself : (fronts : List Front) (s : Shown) (m : Meaning) (response : MethodResponse) → m ≡ meaning → created' ≡ created
       → FollowsFrom moment m (record { invocation = c; made = None; response = response })
       → IsResponse fronts fronts s s grants using moment responses created created' c (Ok response)
   responds_itself fronts s m response is same follows =
@@ -31,7 +31,7 @@ module _ (grants : List Grant) (using : List (List ℕ)) (moment : ℤ) (respons
       )
 
   module _ (fronts fronts' : List Front) (s t : Shown) (account : ℕ) (call : Call) where
-    takes_call : (m : Made) (response : MethodResponse) → calls account call ≡ meant → AnswersCall fronts fronts' s t account call moment m → response ≡ reply_response c.name c.call_id m.reply.arguments m.reply.error
+    takes_call : (m : Made) (response : MethodResponse) → calls account call ≡ meaning → AnswersCall fronts fronts' s t account call moment m → response ≡ reply_response c.name c.call_id m.reply.arguments m.reply.error
         → Takes fronts fronts' s t grants using moment responses created created' c (record { invocation = c; made = Some m; response = response })
     takes_call m response is answers shows =
         let step : Step = record { invocation = c; made = Some m; response = response } in
@@ -41,8 +41,11 @@ module _ (grants : List Grant) (using : List (List ℕ)) (moment : ℤ) (respons
           makes = answers.makes;
         }
 
+    takes_none : (e : DeskError) → calls account call ≡ meaning → IsNotAnswered fronts fronts' s t account call moment e → HasNoStep fronts fronts' s t grants using moment responses created created' c e
+    takes_none e is none = (none.0, stop_of (λ k x. (k ≡ account) × (x ≡ call)) (λ k x. meaning ≡ calls k x) moment e s t (λ k x same. sym is ∙ (λ i. calls (sym same.0 i) (sym same.1 i))) none.1)
+
     -- an account was asked
-    pub responds_from_account : (r : Result MethodResponse DeskError) → calls account call ≡ meant → call.created ≡ created
+    pub responds_from_account : (r : Result MethodResponse DeskError) → calls account call ≡ meaning → call.created ≡ created
         → IsCallResponse fronts fronts' s t account call moment c.name c.call_id created' r → IsResponse fronts fronts' s t grants using moment responses created created' c r
     responds_from_account (Ok response) is same x =
         let m = x.0 in (
@@ -51,9 +54,9 @@ module _ (grants : List Grant) (using : List (List ℕ)) (moment : ℤ) (respons
           x.2 ∙ (λ k. same k ++ sym (append-nil m.reply.created) k),
           refl,
         )
-    responds_from_account (Err NoMemory) is same (inl none) = inl none
+    responds_from_account (Err NoMemory) is same (inl none) = inl (takes_none NoMemory is none)
     responds_from_account (Err NoMemory) is same (inr x) =
         let m = x.0 in
         let response = reply_response c.name c.call_id m.reply.arguments m.reply.error in
         inr (record { invocation = c; made = Some m; response = response }, takes_call m response is x.1 refl)
-    responds_from_account (Err PassSpent) is same x = x
+    responds_from_account (Err PassSpent) is same x = takes_none PassSpent is x

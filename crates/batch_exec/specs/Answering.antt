@@ -1,6 +1,6 @@
 -- What the invocations of a request lead to, one after the other.
 use Rattle.std.specs.Prelude.{◌≡◌, ℕ, ℤ, List, [], Result, Ok, Err}
-use Rattle.model_batch.specs.Batch.{Step, Progress, created_after, response_object, responses_in}
+use Rattle.model_batch.specs.Batch.{Step, NextMeans, Progress, created_after, response_object, responses_in}
 use Rattle.model_batch.specs.Chain.{Shown, Stops}
 use Rattle.model_json.specs.TreeData.{data_of}
 use Rattle.model_batch.specs.declared.desk.DeskError.{DeskError}
@@ -24,7 +24,9 @@ module _ (user : User) (request : Request) (moment : ℤ) (fronts fronts' : List
 
   -- the first invocations were answered, and in the state that they left the desk answered no more
   abbrev pub HasStopped : DeskError → Type 0
-  HasStopped e = (steps : List Step) × (rest : List Invocation) × (u : Shown) × Progress user request moment fronts fronts' s u steps rest × Stops e u t
+  HasStopped e =
+      (steps : List Step) × (rest : List Invocation) × (u : Shown) × Progress user request moment fronts fronts' s u steps rest
+      × Stops (NextMeans user request moment steps rest) moment e u t
 
   -- the request was answered, or the first of its invocations were
   abbrev pub IsRequestAnswered : Result Tree BatchError → Type 0

@@ -1,6 +1,6 @@
 -- What a call is answered at a history, and what it adds.
 use Rattle.std.specs.Prelude.{ℕ, ℤ, suc, List, [], ◌∷◌, Bool, Option, Some, None, length, map, unwrap_or}
-use Rattle.cal_model.specs.Changes.{changes_arguments, changes_refusal}
+use Rattle.cal_model.specs.Changes.{changes_response, changes_refusal}
 use Rattle.cal_model.specs.Gets.{get_response, get_error, ids_not_found, objects_asked, selected}
 use Rattle.cal_model.specs.Operations.{Ground}
 use Rattle.cal_model.specs.SetReply.{set_arguments}
@@ -52,7 +52,7 @@ get_answer account h created ids properties = unless_error h (get_error (changes
 
 abbrev pub changes_answer : List ℕ → List Entry → Kind → List ℕ → Option ℤ → Reply
 changes_answer account h kind since most = unless_error h (changes_refusal kind (changes_of h) since most)
-    (answered h (changes_arguments account kind (changes_of h) since most (unwrap_or (state_in since) 0)) [])
+    (answered h (changes_response account kind (changes_of h) since most (unwrap_or (state_in since) 0)) [])
 
 module _ (base : Base) (h : List Entry) (moment : ℤ) (kind : Kind) (created : List (List ℕ × List ℕ)) where
   abbrev pub ground : Ground

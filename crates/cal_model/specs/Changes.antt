@@ -33,13 +33,13 @@ abbrev pub id_list : Kind → List ℕ → Data
 id_list kind ids = list (items_of (map (λ id. text (id_text kind id)) ids))
 
 -- the page from state k to state j
-abbrev pub page_arguments : List ℕ → Kind → List Change → List ℕ → ℕ → ℕ → Tree
-page_arguments account kind cs since k j = Object (
+abbrev pub page_response : List ℕ → Kind → List Change → List ℕ → ℕ → ℕ → Tree
+page_response account kind cs since k j = Object (
     (codes "accountId", text account) ∷ (codes "created", id_list kind (created (mentions kind cs) k j))
     ∷ (codes "destroyed", id_list kind (destroyed (mentions kind cs) k j)) ∷ (codes "hasMoreChanges", truth (not (j == state_at cs kind)))
     ∷ (codes "newState", text (decimal j)) ∷ (codes "oldState", text since)
     ∷ (codes "updated", id_list kind (updated (mentions kind cs) k j)) ∷ [])
 
 -- the arguments of the response, whose page ends as far as the maximum allows
-abbrev pub changes_arguments : List ℕ → Kind → List Change → List ℕ → Option ℤ → ℕ → Tree
-changes_arguments account kind cs since most k = page_arguments account kind cs since k (page_end (mentions kind cs) k (option_map unsigned_abs most))
+abbrev pub changes_response : List ℕ → Kind → List Change → List ℕ → Option ℤ → ℕ → Tree
+changes_response account kind cs since most k = page_response account kind cs since k (page_end (mentions kind cs) k (option_map unsigned_abs most))

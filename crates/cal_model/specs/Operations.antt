@@ -61,12 +61,12 @@ with_name_if b name names = if b then put_name name names else names
 abbrev pub is_resource : List Pair → Bool
 is_resource ps = is_some (lookup (codes "resourceZone") (given ps))
 
-abbrev pub is_text : Data → List ℕ → Bool
-is_text d s = option_map_or (λ t. bytes_eq t s) (as_text d) false
+abbrev pub is_this_text : Data → List ℕ → Bool
+is_this_text d s = option_map_or (λ t. bytes_eq t s) (as_text d) false
 
 -- an object keeps its id
 abbrev pub has_other_id : Kind → ℕ → List Pair → Bool
-has_other_id kind n ps = option_map_or (λ d. not (is_text d (id_text kind n))) (lookup (codes "id") (given ps)) false
+has_other_id kind n ps = option_map_or (λ d. not (is_this_text d (id_text kind n))) (lookup (codes "id") (given ps)) false
 
 module _ (g : Ground) (cs : List Change) where
   -- what comes of storing calendar n with these members; `names_id` says whether the client gives an id that it may not give

@@ -15,7 +15,7 @@ use std::alloc::AllocError;
 ///
 /// Contracts see the account's base, its entries and the changes of its history, which no call changes, and the staged changes.
 /// Each call answers at the history followed by these.
-pub trait View {
+pub trait AccountView {
     ghost base: { Self → Base };
 
     ghost entries: { Self → List Entry };

@@ -4,6 +4,8 @@ use Rattle.std.proofs.KnownBytes.{Consumes-whole}
 use Rattle.std.proofs.lemmas.List.{length-map}
 use Rattle.std.specs.Io.KnownBytes.{Consumes, IsAtEnd}
 use Rattle.std.specs.Prelude.{◌⊎◌, IfSome}
+use Rattle.model_batch.proofs.Chains.{spent_stop}
+use Rattle.model_batch.specs.Batch.{NextMeans}
 use Rattle.model_batch.specs.Chain.{Shown}
 use Rattle.model_http.specs.Messages.{Message}
 use Rattle.model_http.specs.Pipeline.{Ending, EndsAs, Reads, undecided, bad_head, close_asked, quota_spent}
@@ -11,7 +13,8 @@ use Rattle.model_connection.specs.Serving.{EndHow, IsUnanswered, Rests, Serves, 
 use Rattle.model_connection.specs.Exchanges.{Begun, Told, Exchange, all_bytes, called, messages_of, uncalled}
 use Rattle.model_history.specs.MostTurns.{most_turns}
 use Rattle.io_edge.specs.Outside.{Grows}
-use Rattle.model_site.specs.Configuration.{Site}
+use Rattle.model_site.specs.Configuration.{Site, user_at}
+use Rattle.model_time.specs.Moments.{clamped}
 use Rattle.model_batch.specs.declared.desk.DeskError.TheVariants as reason
 use Rattle.model_connection.specs.declared.served.ConnEnd.{ConnEnd}
 use Rattle.model_connection.specs.declared.served.ConnEnd.TheVariants as end
@@ -83,13 +86,15 @@ module _ {site : Site} {most : ℕ} {x x' : Setting} {served : Served} (s : Serv
   of_quota : Whole site most s.exchanges s.unwritten s.tail s.behind quota_spent [] → OfAll quota_spent
   of_quota w = of_told (λ (l : List ℕ). HoldsFurther most l (messages_of s.exchanges) quota_spent) x.source.left x'.source.left s.taken s.consumed (λ more. spent_further most s.taken more (messages_of s.exchanges) s.behind (holds w))
 
+spent_call : {site : Site} {close : Bool} {t : Exchange} {u v : Shown} → Begun site close t reason.PassSpent u v → (u.turns ≡ most_turns) × (v ≡ u)
+spent_call (uncalled is moments none same) = absurd (cc)
+spent_call {site} {close} {t} {u} {v} (called b) = (let r = b.begins in spent_stop (NextMeans (user_at site b.user) r.request (clamped b.moment) r.steps r.rest) (clamped b.moment) u v r.stops)
+
 pub spent_turns : {site : Site} {close : Bool} {t : Exchange} {u v : Shown} → Begun site close t reason.PassSpent u v → v.turns ≡ most_turns
-spent_turns (uncalled is moments none same) = absurd (cc)
-spent_turns (called begun stops) = ap (λ (d : Shown). d.turns) stops.1 ∙ stops.0
+spent_turns b = (let spent = spent_call b in ap (λ (d : Shown). d.turns) spent.1 ∙ spent.0)
 
 pub spent_behind : {site : Site} {close : Bool} {t : Exchange} {u v : Shown} → Begun site close t reason.PassSpent u v → u.turns ≡ most_turns
-spent_behind (uncalled is moments none same) = absurd (cc)
-spent_behind (called begun stops) = stops.0
+spent_behind b = (spent_call b).0
 
 pub never_spent : {site : Site} {most : ℕ} {exchanges unwritten : List Exchange} {tail behind : List ℕ} {x x' : Setting} {u : Shown} → IsUnharmed x x' → IsUnanswered site most exchanges unwritten tail behind reason.PassSpent u x'.desk → ⊥
 never_spent unharmed left = let spent = spent_turns left.begun in let may = unharmed.may_call in let bad : ⊥ = omega (arith, spent, may) in bad

@@ -69,9 +69,10 @@ told_one {c0} {c1} {f0} {f1} {d0} {d1} message told made bytes ticks fronts chai
   few = (let e = ap length (append-nil made) in omega (arith, few, e));
 }
 
-begins_whole : (user : User) (moment : ℤ) (what : Asked) (made : List Made) (d : Data) → Replies user moment what made d → (made ≡ []) ⊎ BeginsReply user moment what made
-begins_whole user moment (asked r) made d h = inr (record { request = r; is_request = refl; steps = h.0; rest = []; invoked = h.1 ∙ sym (append-nil _); fit = h.2; made_is = h.3 })
-begins_whole user moment (refused e) made d h = inl h.0
+begins_whole : (user : User) (moment : ℤ) (what : Asked) (made : List Made) (d : Data) (u v : Shown) → Replies user moment what made d → v ≡ u → (made ≡ []) ⊎ BeginsReply user moment what made NoMemory u v
+begins_whole user moment (asked r) made d u v h same =
+    inr (record { request = r; is_request = refl; steps = h.0; rest = []; invoked = h.1 ∙ sym (append-nil _); fit = h.2; made_is = h.3; stops = inl (refl, same) })
+begins_whole user moment (refused e) made d u v h same = inl h.0
 
 shown_reply : (close : Bool) (what : Asked) (reply : RequestOutcome) → is_refused what ≡ reply.is_refusal → outcome_response close reply ≡ api_response close what (data_of reply.tree)
 shown_reply close (asked r) reply is = rw (sym is) refl
@@ -83,12 +84,12 @@ module _ (site : Site) (close : Bool) (message : Message) (user : ℕ) (told : �
 
   stop_how : (u v : Shown) (made : List Made) (e : DeskError) → OutcomeHow (user_at site user) (clamped told) (asked_in message.body) made u v (Err e) → AnswerHow site close u v (exchange_at message told made []) (Err e)
   stop_how u v made e (inl h) = uncalled h.0 one_moment h.1 h.2
-  stop_how u v made e (inr h) = called (record { user = user; routed = routed; moment = told; read = refl; begins = h.0 }) h.1
+  stop_how u v made e (inr h) = called (record { user = user; routed = routed; moment = told; read = refl; begins = h })
 
   -- there was no memory for the bytes of the response
-  cut_how : (u v : Shown) (made : List Made) → (made ≡ []) ⊎ BeginsReply (user_at site user) (clamped told) (asked_in message.body) made → v ≡ u → AnswerHow site close u v (exchange_at message told made []) (Err NoMemory)
+  cut_how : (u v : Shown) (made : List Made) → (made ≡ []) ⊎ BeginsReply (user_at site user) (clamped told) (asked_in message.body) made NoMemory u v → v ≡ u → AnswerHow site close u v (exchange_at message told made []) (Err NoMemory)
   cut_how u v made (inl none) same = uncalled refl one_moment none same
-  cut_how u v made (inr b) same = called (record { user = user; routed = routed; moment = told; read = refl; begins = b }) (inl same)
+  cut_how u v made (inr b) same = called (record { user = user; routed = routed; moment = told; read = refl; begins = b })
 
   module _ {f0 f1 : List Front} {d0 d1 : Shown} {u : User} {w : ℤ} {bytes : List ℕ} (user_is : u ≡ user_at site user) (clamps : w ≡ clamped told) (body : bytes ≡ message.body) where
     of_message : (r : Result RequestOutcome DeskError) → IsOutcome u w (asked_in bytes) f0 f1 d0 d1 r → IsOutcome (user_at site user) (clamped told) (asked_in message.body) f0 f1 d0 d1 r
@@ -110,7 +111,7 @@ module _ (site : Site) (close : Bool) (message : Message) (user : ℕ) (told : �
           is = refl;
           desk = r.desk;
           told = told_one message told r.made [] ticks r.added r.chain r.few;
-          how = cut_how r.desk d1 r.made (begins_whole (user_at site user) (clamped told) (asked_in message.body) r.made (data_of reply.tree) r.how.0) r.how.2;
+          how = cut_how r.desk d1 r.made (begins_whole (user_at site user) (clamped told) (asked_in message.body) r.made (data_of reply.tree) r.desk d1 r.how.0 r.how.2) r.how.2;
         }
 
     pub answered : (reply : RequestOutcome) (v : Vec ℕ Global) → IsOutcome u w (asked_in bytes) f0 f1 d0 d1 (Ok reply) → v.items ≡ response_text (outcome_response close reply) → AnswersMessage site close message c0 c1 f0 f1 d0 d1 (Ok v)

@@ -7,7 +7,7 @@ use Rattle.model_batch.proofs.Chains.{still}
 use Rattle.model_batch.specs.Asked.{Asked, asked, asked_by, checked, is_refused, refused}
 use Rattle.model_core.specs.Capabilities.{is_capability}
 use Rattle.std.specs.List.{list_all}
-use Rattle.model_batch.specs.Batch.{IsBatch, IsBegun, IsStopped, IsUntouched, Step, made_in}
+use Rattle.model_batch.specs.Batch.{IsBatch, IsBegun, IsStopped, IsUntouched, NextMeans, Step, made_in}
 use Rattle.model_core.specs.declared.limits.TheConstants.{MAX_CALLS_IN_REQUEST, MAX_SIZE_REQUEST}
 use Rattle.model_batch.specs.Reply.{BeginsReply, Replies, asked_by_reading, asked_in}
 use Rattle.model_batch.specs.Requests.{request_of}
@@ -15,7 +15,7 @@ use Rattle.model_json.specs.Json.{reading}
 use Rattle.model_json.specs.Parts.{some_of}
 use Rattle.model_batch.specs.declared.request.Limit.TheVariants.{CallsInRequest, SizeRequest}
 use Rattle.model_batch.specs.declared.request.RequestError.TheVariants.{Limit, UnknownCapability}
-use Rattle.model_batch.specs.Chain.{Made, Shown}
+use Rattle.model_batch.specs.Chain.{Made, Shown, Stops}
 use Rattle.model_json.specs.Data.{Data}
 use Rattle.model_json.specs.TreeData.{data_of}
 use Rattle.model_batch.specs.declared.desk.DeskError.{DeskError}
@@ -79,8 +79,10 @@ module _ {user : User} {moment : ℤ} where
   -- ---- the desk was asked
 
   module _ (d : Data) {f0 f1 : List Front} {d0 : Shown} where
-    begins_of : (u : Shown) (steps : List Step) (rest : List Invocation) → IsBegun user moment d f0 f1 d0 u steps rest → BeginsReply user moment (asked_by d) (made_in steps)
-    begins_of u steps rest b = record { request = b.request; is_request = b.is_asked; steps = steps; rest = rest; invoked = b.progress.invoked; fit = b.progress.fit; made_is = refl }
+    begins_of : (e : DeskError) (u v : Shown) (steps : List Step) (rest : List Invocation) (b : IsBegun user moment d f0 f1 d0 u steps rest) → Stops (NextMeans user b.request moment steps rest) moment e u v
+        → BeginsReply user moment (asked_by d) (made_in steps) e u v
+    begins_of e u v steps rest b stops =
+        record { request = b.request; is_request = b.is_asked; steps = steps; rest = rest; invoked = b.progress.invoked; fit = b.progress.fit; made_is = refl; stops = stops }
 
     few_made : (u : Shown) (steps : List Step) (rest : List Invocation) → IsBegun user moment d f0 f1 d0 u steps rest → length (made_in steps) ≤ 16
     few_made u steps rest b =
@@ -111,7 +113,7 @@ module _ {user : User} {moment : ℤ} where
       chain = b.3.progress.chain;
       added = b.3.progress.fronts_grew;
       few = few_made d b.2 b.0 b.1 b.3;
-      how = inr (begins_of d b.2 b.0 b.1 b.3, b.4);
+      how = inr (begins_of d e b.2 d1 b.0 b.1 b.3 b.4);
     }
 
     untouched_reply : (r : Result RequestOutcome DeskError) → IsUntouched user moment d f0 f1 d0 d1 → IsOutcome user moment (asked_by d) f0 f0 d0 d0 r → IsOutcome user moment (asked_by d) f0 f1 d0 d1 r

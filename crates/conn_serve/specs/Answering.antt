@@ -4,7 +4,7 @@ use Rattle.std.specs.declared.alloc.Global.{Global}
 use Rattle.model_batch.specs.Asked.{Asked, is_refused}
 use Rattle.model_batch.specs.Reply.{BeginsReply, Replies}
 use Rattle.model_batch.specs.Problem.{problem}
-use Rattle.model_batch.specs.Chain.{Made, Chain, Shown, Stops, front_of}
+use Rattle.model_batch.specs.Chain.{Made, Chain, Shown, front_of}
 use Rattle.model_http.specs.Messages.{Message}
 use Rattle.model_http.specs.Responses.{IsStatus, Response}
 use Rattle.model_connection.specs.Routes as http
@@ -44,7 +44,7 @@ IsProblem error (Err e) = e ≡ NoMemory
 -- what the calls and the answer say of what was asked, for a user at a moment, where the desk was in the state u behind these calls and was left in the state v
 abbrev pub OutcomeHow : User → ℤ → Asked → List Made → Shown → Shown → Result RequestOutcome DeskError → Type 0
 OutcomeHow user moment what made u v (Ok reply) = Replies user moment what made (data_of reply.tree) × (is_refused what ≡ reply.is_refusal) × (v ≡ u)
-OutcomeHow user moment what made u v (Err e) = ((e ≡ NoMemory) × (made ≡ []) × (v ≡ u)) ⊎ (BeginsReply user moment what made × Stops e u v)
+OutcomeHow user moment what made u v (Err e) = ((e ≡ NoMemory) × (made ≡ []) × (v ≡ u)) ⊎ BeginsReply user moment what made e u v
 
 -- the calls that a desk answered for what was asked are a chain, each with its front
 pub record IsOutcome (user : User) (moment : ℤ) (what : Asked) (fronts fronts' : List Front) (d d' : Shown) (r : Result RequestOutcome DeskError) : Type 0 where

@@ -2,10 +2,12 @@
 ghost use Rattle.std.specs.Prelude.{◌<◌};
 
 use crate::case::Case;
+use io_edge::fault::Failed;
 use io_edge::memory_clock::StillClock;
 use io_edge::memory_opener::MemOpener;
 use io_edge::memory_sink::MemSink;
 use io_edge::memory_source::MemSource;
+use io_edge::source::Source;
 use jmapd_run::run::run;
 use jmapd_run::status::Status;
 use std::alloc::{AllocError, Global};
@@ -49,21 +51,39 @@ impl Way {
         })
     }
 
-    /// This give fails.
+    /// One byte at a time, and this give fails.
     pub fn with_failing_give(alloc: Global, call: u64) -> Result<Way, AllocError> {
         Ok(Way {
-            most: usize::MAX,
+            most: 1,
             failing_takes: Vec::new(alloc),
             failing_gives: vec![in alloc; call]?,
         })
     }
 }
 
-/// How the program ended, and what it wrote to.
+/// How the program ended, what it wrote to, and how many bytes of the input it was given.
 #[derive(Drop)]
 pub struct RunOutcome {
     pub status: String,
     pub output: MemSink,
+    pub given: usize,
+}
+
+/// A source that counts the bytes that it gave.
+#[derive(Drop)]
+struct CountingSource {
+    inner: MemSource,
+    given: usize,
+}
+
+impl Source for CountingSource {
+    ghost shown = { λ source. ⟦<MemSource as Source>⟧.shown source.inner };
+
+    fn take(&mut self, buf: &mut [u8]) -> Result<usize, Failed> {
+        let count = self.inner.take(buf)?;
+        self.given = self.given.saturating_add(count);
+        Ok(count)
+    }
 }
 
 /// What comes of a run of these words over these bytes.
@@ -84,7 +104,10 @@ pub fn outcome_of(
         copied(alloc, files)?,
         case.failing_loads.as_slice().to_vec(alloc)?,
     );
-    let mut source = MemSource::new(input.to_vec(alloc)?, most, failing_takes);
+    let mut source = CountingSource {
+        inner: MemSource::new(input.to_vec(alloc)?, most, failing_takes),
+        given: 0,
+    };
     let mut output = MemSink::new(alloc, failing_gives);
     let mut clock = CLOCK;
     let status = run(
@@ -98,6 +121,7 @@ pub fn outcome_of(
     Ok(RunOutcome {
         status: status_name(alloc, status)?,
         output,
+        given: source.given,
     })
 }
 

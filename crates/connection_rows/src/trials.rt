@@ -112,13 +112,15 @@ fn other_at_takes(
     Ok(None)
 }
 
-/// Each give fails in turn: the responses before it are written, and nothing else.
+/// Each give fails in turn, and the input is given in pieces of one byte: the responses before it are written, and nothing else, and the source gave no
+/// byte beyond the message that is answered. So a client that waits for a response before it goes on gets it.
 fn other_at_gives(
     alloc: Global,
     case: &Case,
     files: &Files,
     input: &[u8],
 ) -> Result<Option<String>, AllocError> {
+    let ends = ends_of(alloc, &case.messages)?;
     for given in 0..case.responses.len() {
         let way = Way::with_failing_give(alloc, given as u64)?;
         let outcome = outcome_of(alloc, case, files, input, way)?;
@@ -128,6 +130,10 @@ fn other_at_gives(
         };
         if let Some(other) = other_than(alloc, case, &outcome, &wanted)? {
             return Ok(Some(format!(in alloc; "with give {given} failing, {other}")?));
+        }
+        let taken = outcome.given;
+        if is_beyond(&ends, given, taken) {
+            return Ok(Some(format!(in alloc; "at give {given} the source gave {taken} bytes")?));
         }
     }
     Ok(None)
@@ -142,6 +148,14 @@ fn ends_of(alloc: Global, messages: &[Vec<u8>]) -> Result<Vec<usize>, AllocError
         ends.push(end)?;
     }
     Ok(ends)
+}
+
+/// Whether so many bytes go beyond the message of this place.
+fn is_beyond(ends: &[usize], message: usize, taken: usize) -> bool {
+    match ends.get(message) {
+        Some(end) => taken > *end,
+        None => false,
+    }
 }
 
 /// How many messages end within the first so many bytes.

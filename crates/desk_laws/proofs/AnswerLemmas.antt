@@ -2,10 +2,10 @@
 use Rattle.std.proofs.Common.{◌≡◌, ℕ, ℤ, suc, List, [], ◌∷◌, Bool, Option, Some, None, length, map, unwrap_or, refl, sym, ap, ◌∙◌}
 use Rattle.std.proofs.lemmas.List.{length-map}
 use Rattle.cal_model.specs.Answer.{answer, answer_to, answered, added, changes_answer, changes_by, changes_if_built, entries_from, get_answer, ground, if_built, refused, set_added, set_answer, unless_error, unless_refused}
-use Rattle.cal_model.specs.Changes.{changes_arguments, changes_refusal}
+use Rattle.cal_model.specs.Changes.{changes_response, changes_refusal}
 use Rattle.cal_model.specs.Gets.{get_response, get_error, ids_not_found, objects_asked, selected}
 use Rattle.cal_model.specs.SetReply.{set_arguments}
-use Rattle.cal_model.specs.Sets.{Objects, new_ids, set_changes, set_refusal}
+use Rattle.cal_model.specs.Sets.{Objects, new_ids, objects, set_changes, set_refusal}
 use Rattle.model_history.specs.Base.{Base}
 use Rattle.model_history.specs.History.{changes_of}
 use Rattle.model_call.specs.declared.call.Asks.{Asks}
@@ -56,7 +56,7 @@ module _ (b : Base) (h h' : List Entry) (same : changes_of h ≡ changes_of h') 
 
     same_page : (kind : Kind) (since : List ℕ) (most : Option ℤ) → changes_answer b.account_id h kind since most ≡ changes_answer b.account_id h' kind since most
     same_page kind since most = same_by (λ cs. changes_refusal kind cs since most) _ _ (λ i. record {
-      arguments = changes_arguments b.account_id kind (same i) since most (unwrap_or (state_in since) 0);
+      arguments = changes_response b.account_id kind (same i) since most (unwrap_or (state_in since) 0);
       error = None;
       created = [];
       place = same_length i;
@@ -73,7 +73,7 @@ module _ (b : Base) (h h' : List Entry) (same : changes_of h ≡ changes_of h') 
     same_to : (asks : Asks) → answer_to b h m created asks ≡ answer_to b h' m created asks
     same_to (Get kind ids properties) = same_built kind _ _ (same_get ids properties)
     same_to (Changes kind since most) = same_built kind _ _ (same_page kind since most)
-    same_to (Set kind if_in_state create update destroy remove_events) = same_built kind _ _ (same_set kind _ if_in_state remove_events)
+    same_to (Set kind if_in_state create update destroy remove_events) = same_built kind _ _ (same_set kind (objects create update destroy) if_in_state remove_events)
     same_to (Query filter sort position anchor anchor_offset limit calculate_total expand time_zone) = same_refused _
     same_to (QueryChanges filter sort since most up_to calculate_total expand time_zone) = same_refused _
     same_to (Availability id utc_start utc_end time_zone) = same_refused _
@@ -82,7 +82,7 @@ module _ (b : Base) (h h' : List Entry) (same : changes_of h ≡ changes_of h') 
     same_changes (Get kind ids properties) = refl
     same_changes (Changes kind since most) = refl
     same_changes (Set kind if_in_state create update destroy remove_events) =
-        ap (λ (cs : List Change). changes_if_built kind (unless_refused (set_refusal kind cs _ if_in_state remove_events) (set_changes (ground b h m kind created) kind created cs _))) same
+        ap (λ (cs : List Change). changes_if_built kind (unless_refused (set_refusal kind cs (objects create update destroy) if_in_state remove_events) (set_changes (ground b h m kind created) kind created cs (objects create update destroy)))) same
     same_changes (Query filter sort position anchor anchor_offset limit calculate_total expand time_zone) = refl
     same_changes (QueryChanges filter sort since most up_to calculate_total expand time_zone) = refl
     same_changes (Availability id utc_start utc_end time_zone) = refl

@@ -1,6 +1,14 @@
-//! What follows where all entries on the accounts of a desk are its own. Laws; they do nothing.
+//! What follows of the calls that a desk answers, and where all entries on its accounts are its own. Laws; they do nothing.
 ghost use Rattle.desk_laws.specs.Determined.{ConnectionsAreDetermined, RepliesAreDetermined};
+ghost use Rattle.desk_laws.specs.Histories.{ChainsStandInHistories};
 ghost use Rattle.desk_laws.specs.InTurn.{AnsweredInTurn};
+
+/// The calls of a chain stand in the histories of the accounts, whatever others add to these. Each history grew; each call is answered at a prefix that
+/// is never shorter than that of the call before it on its account; what it adds comes next; and of the desk's author no other entry came.
+/// Each call is one of those that the desk has made.
+pub fn chains_stand_in_histories()
+    ensures { ChainsStandInHistories }
+{}
 
 /// Calls on a desk whose accounts have no entries but its own are answered one after the other: each at just the entries
 /// that were there before the first, and those that the calls between added to its account.

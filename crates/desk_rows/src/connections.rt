@@ -2,8 +2,8 @@
 use crate::pair_desk::PairDesk;
 use conn_serve::serve::serve_connection;
 use io_edge::memory_clock::StillClock;
-use io_edge::memory_sink::SureSink;
 use io_edge::memory_source::SureSource;
+use io_edge::room_sink::RoomSink;
 use model_connection::served::{ConnEnd, Served};
 use model_json::text::Text;
 use session_doc::Site;
@@ -29,7 +29,7 @@ fn served(
     alloc: Global,
     gets: usize,
     calls: u32,
-    sink: &mut SureSink,
+    sink: &mut RoomSink,
 ) -> Result<Served, Fail> {
     let site = Site::read(alloc, CONFIGURATION.as_bytes())?;
     assert_eq!(rt; site.accounts(), 2);
@@ -49,13 +49,13 @@ fn a_call_beyond_the_last_of_a_desk_ends_the_connection(rt: HostRuntime) -> Resu
         (1, 1, 1, ConnEnd::Closed),
         (3, 2, 2, ConnEnd::PassSpent),
     ] {
-        let mut sink = SureSink::new(alloc);
+        let mut sink = RoomSink::new(alloc, 1_000, Vec::new(alloc))?;
         let served = served(&rt, alloc, gets, calls, &mut sink)?;
         let written = GOT.repeat(alloc, answered)?;
         assert_eq!(rt; served.end, end, "{gets} gets on a desk with {calls} calls");
         assert_eq!(rt; served.requests, answered as u64);
         assert_eq!(rt; served.fronts.len(), answered);
-        assert_eq!(rt; sink.bytes(), Some(written.as_str().as_bytes()));
+        assert_eq!(rt; sink.bytes(), written.as_str().as_bytes());
     }
     Ok(())
 }

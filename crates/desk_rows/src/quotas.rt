@@ -3,12 +3,13 @@ use crate::zones::no_zones;
 use account_core::account::Account;
 use json_edge::read::read_tree;
 use json_edge::write::tree_text;
-use model_call::call::{Asks, Call};
+use model_call::call::{Asks, Call, MethodError};
 use model_history::book::Book;
 use model_history::entry::Kind;
-use model_json::lists::Pairs;
+use model_json::lists::{Pairs, Texts};
+use model_json::num::Num;
 use model_json::text::Text;
-use model_json::tree::Tree;
+use model_json::tree::{Tree, TreeObject};
 use model_time::moment::Moment;
 use std::alloc::{AllocError, Global};
 use std::process::Abort;
@@ -17,23 +18,69 @@ use std::test::Fail;
 /// 2024-01-01T00:00:00Z.
 const MOMENT: i64 = 1_704_067_200;
 
+/// What comes of a set of each operation in an account of 50,000 entries.
+const ALL_REFUSED: &str = "{\"accountId\":\"A1\",\"created\":null,\"destroyed\":null,\"newState\":\"50000\",\"notCreated\":{\"a\":{\"type\":\"overQuota\"}},\"notDestroyed\":{\"C2\":{\"type\":\"overQuota\"},\"C50001\":{\"type\":\"notFound\"}},\"notUpdated\":{\"C1\":{\"type\":\"overQuota\"},\"C3\":{\"properties\":[\"frob\"],\"type\":\"invalidProperties\"}},\"oldState\":\"50000\",\"updated\":null}";
+
+/// What comes of it in an account whose text is full: a removal has no text, and is made.
+const TEXT_REFUSED: &str = "{\"accountId\":\"A1\",\"created\":null,\"destroyed\":[\"C2\"],\"newState\":\"42077\",\"notCreated\":{\"a\":{\"type\":\"overQuota\"}},\"notDestroyed\":{\"C50001\":{\"type\":\"notFound\"}},\"notUpdated\":{\"C1\":{\"type\":\"overQuota\"},\"C3\":{\"properties\":[\"frob\"],\"type\":\"invalidProperties\"}},\"oldState\":\"42076\",\"updated\":null}";
+
+/// The page of one change behind state 1 of 4,097 calendars.
+const FIRST_PAGE: &str = "{\"accountId\":\"A1\",\"created\":[\"C2\"],\"destroyed\":[],\"hasMoreChanges\":true,\"newState\":\"2\",\"oldState\":\"1\",\"updated\":[]}";
+
+/// A call of calendars.
+fn call_of(alloc: Global, asks: Asks) -> Call {
+    Call {
+        created: Pairs::new(Vec::new(alloc)),
+        asks,
+    }
+}
+
+/// The object that a JSON text is, if it is one.
+fn object_in(alloc: Global, text: &str) -> Result<Option<TreeObject>, Fail> {
+    match read_tree(alloc, text.as_bytes())? {
+        Tree::Object(object) => Ok(Some(object)),
+        _ => Ok(None),
+    }
+}
+
 /// A set that creates the calendars of a JSON object.
 fn set_of(alloc: Global, creates: &str) -> Result<Call, Fail> {
-    let create = match read_tree(alloc, creates.as_bytes())? {
-        Tree::Object(create) => Some(create),
-        _ => None,
+    let create = object_in(alloc, creates)?;
+    let asks = Asks::Set {
+        kind: Kind::Calendar,
+        if_in_state: None,
+        create,
+        update: None,
+        destroy: None,
+        remove_events: None,
     };
-    Ok(Call {
-        created: Pairs::new(Vec::new(alloc)),
-        asks: Asks::Set {
-            kind: Kind::Calendar,
-            if_in_state: None,
-            create,
-            update: None,
-            destroy: None,
-            remove_events: None,
-        },
-    })
+    Ok(call_of(alloc, asks))
+}
+
+/// A set that creates calendar `a`, names calendar 1 anew, gives calendar 3 a property that there is none of, and destroys calendars 2 and 50,001.
+fn set_of_each(alloc: Global) -> Result<Call, Fail> {
+    let create = object_in(alloc, "{\"a\":{\"name\":\"A\"}}")?;
+    let update = object_in(alloc, "{\"C1\":{\"name\":\"N\"},\"C3\":{\"frob\":1}}")?;
+    let destroy = vec![in alloc; Text::from_str(alloc, "C2")?, Text::from_str(alloc, "C50001")?]?;
+    let asks = Asks::Set {
+        kind: Kind::Calendar,
+        if_in_state: None,
+        create,
+        update,
+        destroy: Some(Texts::new(destroy)),
+        remove_events: None,
+    };
+    Ok(call_of(alloc, asks))
+}
+
+/// What changed of calendars since a state, at most one of them.
+fn changes_since(alloc: Global, since: &str) -> Result<Call, Fail> {
+    let asks = Asks::Changes {
+        kind: Kind::Calendar,
+        since: Text::from_str(alloc, since)?,
+        max: Some(Num::new(1)),
+    };
+    Ok(call_of(alloc, asks))
 }
 
 /// A JSON object of so many calendars of one name.
@@ -165,7 +212,22 @@ fn fifty_thousand_entries_are_the_most(rt: HostRuntime) -> Result<(), Fail> {
     };
     let creates = "{\"a\":{\"name\":\"A\"},\"b\":{\"name\":\"B\"}}";
     assert_set(&rt, alloc, &mut account, creates, &outcome)?;
-    assert_full(&rt, alloc, &mut account, 50_000)
+    assert_full(&rt, alloc, &mut account, 50_000)?;
+    let each = set_of_each(alloc)?;
+    assert_reply(&rt, alloc, &mut account, &each, ALL_REFUSED)
+}
+
+// The state behind 4,097 changes tells of those behind state 1, and no longer of those behind state 0.
+#[test]
+fn changes_are_told_of_the_last_4096_states(rt: HostRuntime) -> Result<(), Fail> {
+    let alloc = rt.alloc();
+    let mut account = filled(alloc, 4097, "n")?;
+    let last = changes_since(alloc, "1")?;
+    assert_reply(&rt, alloc, &mut account, &last, FIRST_PAGE)?;
+    let beyond = changes_since(alloc, "0")?;
+    let replied = account.act(0, 50_001, &beyond, Moment::clamped(MOMENT))?;
+    assert_eq!(rt; replied.error, Some(MethodError::CannotCalculateChanges));
+    Ok(())
 }
 
 // The compact text of calendar 1 with an empty name is 140 bytes long. 42,075 calendars with names of 255 bytes have
@@ -186,5 +248,7 @@ fn a_create_that_fits_is_taken_where_a_longer_one_is_refused(rt: HostRuntime) ->
         refused: beyond.as_str(),
     };
     assert_set(&rt, alloc, &mut account, creates.as_str(), &outcome)?;
-    assert_full(&rt, alloc, &mut account, 42_076)
+    assert_full(&rt, alloc, &mut account, 42_076)?;
+    let each = set_of_each(alloc)?;
+    assert_reply(&rt, alloc, &mut account, &each, TEXT_REFUSED)
 }

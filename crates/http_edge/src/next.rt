@@ -38,7 +38,8 @@ pub fn next_message<S: Source>(alloc: Global, source: &mut S, kept: &mut Kept) -
     ensures { GivesNext (S.shown source.old) (S.shown source.new) kept.old kept.new result }
 {
     let mut piece = [0; PIECE];
-    let size = match find_head(source, kept, &mut piece) {
+    let mut looked = 0;
+    let size = match find_head(source, kept, &mut piece, &mut looked) {
         Ok(HeadEnd::At(size)) => size,
         Ok(HeadEnd::TooLong) => return Next::BadHead(431),
         Err(Stop::Ended) => return ended(kept),
@@ -71,20 +72,28 @@ enum HeadEnd {
     TooLong,
 }
 
-// Takes bytes until it is known where the head that they begin with ends. Each byte is looked at once.
+// Takes bytes until it is known where the head that they begin with ends. `looked` counts the bytes that are looked at: none twice,
+// however few come at once.
 #[tactic(auto, using(crate::proofs::Taking::took_none, crate::proofs::Taking::took_more, crate::proofs::Taking::stop_earlier, crate::proofs::Taking::asked_for))]
-fn find_head<S: Source>(source: &mut S, kept: &mut Kept, piece: &mut [u8]) -> Result<HeadEnd, Stop>
-    requires { length piece.old ≡ PIECE }
+fn find_head<S: Source>(
+    source: &mut S,
+    kept: &mut Kept,
+    piece: &mut [u8],
+    looked: &mut usize,
+) -> Result<HeadEnd, Stop>
+    requires piece { length piece.old ≡ PIECE }
+    requires countable { looked.old + MOST_HEAD ≤ usize.MAX }
     ensures took { Took (S.shown source.old) (S.shown source.new) kept.old kept.new }
     ensures asked { AskedWhile (λ bytes. head_end bytes ≡ unended) PIECE (S.shown source.old) (S.shown source.new) kept.old kept.new }
     ensures end { IfOk result (λ end. head_end kept.new ≡ end_shown end) }
+    ensures once { (looked.old ≤ looked.new) × (looked.new ≤ looked.old + length kept.new) }
     ensures stop { IfErr result (λ stop. (head_end kept.new ≡ unended) × StopCause (S.shown source.old) (S.shown source.new) stop) }
 {
     let mut searched = 0;
     let mut state = State::Within;
     loop {
         let prefix = kept.as_slice().len().min(MOST_HEAD);
-        match go_on(&kept.as_slice()[..prefix], searched, state) {
+        match go_on(&kept.as_slice()[..prefix], searched, state, looked) {
             Search::Ended(size) => return Ok(HeadEnd::At(size)),
             Search::Open(next) => state = next,
         }

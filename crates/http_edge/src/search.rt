@@ -1,5 +1,5 @@
 //! Where a head ends, found piece by piece.
-ghost use Rattle.std.specs.Prelude.{◌≤◌, ◌≡◌, length, take, true, false, IfSome, IfNone};
+ghost use Rattle.std.specs.Prelude.{◌≤◌, ◌<◌, ◌≡◌, ◌+◌, ◌-◌, length, take, true, false, IfSome, IfNone};
 ghost use Rattle.http_edge.specs.Searches.{IsSearched, Finds, is_last, next_state};
 
 /// Where a search stands between two bytes.
@@ -19,15 +19,17 @@ pub enum Search {
     Open(State),
 }
 
-/// Goes on with a search behind the first `from` bytes.
-pub fn go_on(bytes: &[u8], from: usize, state: State) -> Search
+/// Goes on with a search behind the first `from` bytes. `looked` counts the bytes that are looked at: of those behind them none twice.
+pub fn go_on(bytes: &[u8], from: usize, state: State, looked: &mut usize) -> Search
     requires within { from ≤ length bytes.now }
     requires searched { IsSearched (take from bytes.now) state }
-    ensures { Finds bytes.now result }
+    requires countable { looked.old + (length bytes.now - from) ≤ usize.MAX }
+    ensures finds { Finds bytes.now result }
+    ensures once { (looked.old ≤ looked.new) × (looked.new + from ≤ looked.old + length bytes.now) }
 {
     let mut state = state;
     for i in from..bytes.len() {
-        match step(state, bytes[i]) {
+        match step(state, bytes[i], looked) {
             Some(next) => state = next,
             None => return Search::Ended(i + 1),
         }
@@ -35,11 +37,14 @@ pub fn go_on(bytes: &[u8], from: usize, state: State) -> Search
     Search::Open(state)
 }
 
-// The state behind one more byte, or `None` where the byte is the last of a head.
-fn step(state: State, byte: u8) -> Option<State>
+// The state behind one more byte, which is counted, or `None` where the byte is the last of a head.
+fn step(state: State, byte: u8, looked: &mut usize) -> Option<State>
+    requires { looked.old < usize.MAX }
+    ensures counted { looked.new ≡ looked.old + 1 }
     ensures last { IfNone result (is_last state byte ≡ true) }
     ensures next { IfSome result (λ s. (is_last state byte ≡ false) × (s ≡ next_state state byte)) }
 {
+    *looked += 1;
     match state {
         State::Within => {
             if byte == b'\n' {

@@ -13,12 +13,17 @@ pub record SinkShown : Type 0 where
   pub holds : Option (List ℕ)
   pub faults : ℕ
 
--- of an opener: its files by name, where it tells them, and its count of faults
+-- of an opener: its files by name, where it tells them, how often it was asked, and its count of faults
 pub record OpenerShown : Type 0 where
   pub files : Option (List (List ℕ × List ℕ))
+  pub loads : ℕ
   pub faults : ℕ
 
 -- Of a clock: the moments still to come, by the number of the call from 0, where it tells them.
+
+-- a count of calls rose by one, or stands at its last value
+abbrev pub CountsOne : ℕ → ℕ → Type 0
+CountsOne before now = now ≡ min (before + 1) (2 ^ 64 - 1)
 
 -- a count of faults rose, or stands at its last value
 abbrev pub Rose : ℕ → ℕ → Type 0

@@ -1,8 +1,7 @@
 //! The calls of a memory form that are to fail.
 
-ghost use Rattle.std.specs.Prelude.{◌≡◌, ◌==◌, ◌+◌, ◌<◌, if◌then◌else◌};
-ghost use Rattle.std.specs.List.{list_any};
-ghost use Rattle.io_edge.specs.FailingCalls.{faults_of};
+ghost use Rattle.std.specs.Prelude.{◌≡◌, ◌+◌, IsTrue, if◌then◌else◌};
+ghost use Rattle.io_edge.specs.FailingCalls.{CountsCall, faults_of};
 
 /// Counts calls from 0, and knows the numbers of those that are to fail.
 #[derive(Drop)]
@@ -23,9 +22,7 @@ impl FailingCalls {
     /// Counts a call, and says whether it fails. At the last value of the count none does. Takes no memory.
     pub fn next_fails(&mut self) -> bool
         ensures faults { faults_of self.new ≡ faults_of self.old + (if result then 1 else 0) }
-        ensures listed { self.old.calls < u64.MAX → result ≡ list_any (λ n. n == self.old.calls) self.old.numbers.items }
-        ensures counts { self.old.calls < u64.MAX → self.new.calls ≡ self.old.calls + 1 }
-        ensures numbers { self.new.numbers.items ≡ self.old.numbers.items }
+        ensures counts { CountsCall self.old self.new (IsTrue result) }
     {
         let number = self.calls;
         if number == u64::MAX {

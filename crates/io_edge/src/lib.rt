@@ -9,6 +9,7 @@ pub mod memory_opener;
 pub mod memory_sink;
 pub mod memory_source;
 pub mod opener;
+pub mod room_sink;
 pub mod sink;
 pub mod source;
 pub mod streams;

@@ -1,7 +1,9 @@
 //! Sinks in memory.
 
-ghost use Rattle.std.specs.Prelude.{◌≡◌, [], Some, option_map};
-ghost use Rattle.io_edge.specs.FailingCalls.{faults_of};
+ghost use Rattle.std.specs.Prelude.{◌≡◌, ◌<◌, [], Ok, Some, IfOk, IsErr, OnErr, length, option_map, take};
+ghost use Rattle.std.specs.Io.{WritesAtMost};
+ghost use Rattle.io_edge.specs.FailingCalls.{CountsCall, faults_of};
+ghost use Rattle.io_edge.specs.Outside.{Grows, HasCause};
 
 use crate::failing_calls::FailingCalls;
 use crate::fault::Failed;
@@ -41,7 +43,16 @@ impl Sink for SureSink {
 
     ghost shown = { λ sink. record { holds = held_by sink; faults = 0 } };
 
-    fn give(&mut self, bytes: &[u8]) -> Result<usize, Failed> {
+    fn give(&mut self, bytes: &[u8]) -> Result<usize, Failed>
+        ensures bound { WritesAtMost result bytes.now }
+        ensures some { IfOk result (λ n. 0 < length bytes.now → 0 < n) }
+        ensures ok { IfOk result (λ n. Grows (⟦<SureSink as Sink>⟧.shown self.old).holds (⟦<SureSink as Sink>⟧.shown self.new).holds (take n bytes.now)) }
+        ensures err { OnErr result ((⟦<SureSink as Sink>⟧.shown self.new).holds ≡ (⟦<SureSink as Sink>⟧.shown self.old).holds) }
+        ensures cause { HasCause (⟦<SureSink as Sink>⟧.shown self.old).faults (⟦<SureSink as Sink>⟧.shown self.new).faults result }
+
+        // It takes each piece whole.
+        ensures whole { result ≡ Ok (length bytes.now) }
+    {
         if self.bytes.extend_from_slice(bytes).is_err() {
             self.tells = false;
         }
@@ -88,7 +99,17 @@ impl Sink for MemSink {
 
     ghost shown = { λ sink. record { holds = held_by sink.inner; faults = faults_of sink.failing } };
 
-    fn give(&mut self, bytes: &[u8]) -> Result<usize, Failed> {
+    fn give(&mut self, bytes: &[u8]) -> Result<usize, Failed>
+        ensures bound { WritesAtMost result bytes.now }
+        ensures some { IfOk result (λ n. 0 < length bytes.now → 0 < n) }
+        ensures ok { IfOk result (λ n. Grows (⟦<MemSink as Sink>⟧.shown self.old).holds (⟦<MemSink as Sink>⟧.shown self.new).holds (take n bytes.now)) }
+        ensures err { OnErr result ((⟦<MemSink as Sink>⟧.shown self.new).holds ≡ (⟦<MemSink as Sink>⟧.shown self.old).holds) }
+        ensures cause { HasCause (⟦<MemSink as Sink>⟧.shown self.old).faults (⟦<MemSink as Sink>⟧.shown self.new).faults result }
+
+        // The listed calls fail and no other does, and each other takes the whole piece.
+        ensures listed { CountsCall self.old.failing self.new.failing (IsErr result) }
+        ensures whole { IfOk result (λ n. n ≡ length bytes.now) }
+    {
         if self.failing.next_fails() {
             return Err(Failed);
         }

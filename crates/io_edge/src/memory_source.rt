@@ -1,7 +1,10 @@
 //! Sources in memory.
 
-ghost use Rattle.std.specs.Prelude.{◌≡◌, ◌+◌, ◌<◌, ◌≤◌, ◌++◌, [], Some, drop, length, take};
-ghost use Rattle.io_edge.specs.FailingCalls.{faults_of};
+ghost use Rattle.std.specs.Prelude.{◌≡◌, ◌+◌, ◌<◌, ◌≤◌, ◌++◌, [], Ok, Some, IfOk, IsErr, drop, length, min, take};
+ghost use Rattle.std.specs.Io.{ReadsAtMost};
+ghost use Rattle.std.specs.Io.KnownBytes.{ReadConsumes};
+ghost use Rattle.io_edge.specs.FailingCalls.{CountsCall, faults_of};
+ghost use Rattle.io_edge.specs.Outside.{HasCause};
 
 use crate::failing_calls::FailingCalls;
 use crate::fault::Failed;
@@ -26,6 +29,7 @@ impl SureSource {
     // Puts at most `most` of the bytes that are left at the front of `buf`.
     fn take_up_to(&mut self, buf: &mut [u8], most: usize) -> usize
         requires { 0 < most }
+        ensures count { result ≡ min (min (length (drop self.old.at self.old.bytes.items)) (length buf.old)) most }
         ensures bound { result ≤ length buf.old }
         ensures bytes { drop self.old.at self.old.bytes.items ≡ take result buf.new ++ drop self.new.at self.new.bytes.items }
         ensures end { result ≡ 0 → 0 < length buf.old → drop self.new.at self.new.bytes.items ≡ [] }
@@ -40,7 +44,14 @@ impl SureSource {
 impl Source for SureSource {
     ghost shown = { λ source. record { left = Some (drop source.at source.bytes.items); faults = 0 } };
 
-    fn take(&mut self, buf: &mut [u8]) -> Result<usize, Failed> {
+    fn take(&mut self, buf: &mut [u8]) -> Result<usize, Failed>
+        ensures bound { ReadsAtMost result buf.new }
+        ensures bytes { ReadConsumes (⟦<SureSource as Source>⟧.shown self.old).left (⟦<SureSource as Source>⟧.shown self.new).left result buf.new }
+        ensures cause { HasCause (⟦<SureSource as Source>⟧.shown self.old).faults (⟦<SureSource as Source>⟧.shown self.new).faults result }
+
+        // It gives as many bytes as are left and have room.
+        ensures count { result ≡ Ok (min (length (drop self.old.at self.old.bytes.items)) (length buf.old)) }
+    {
         Ok(self.take_up_to(buf, usize::MAX))
     }
 }
@@ -77,7 +88,16 @@ impl MemSource {
 impl Source for MemSource {
     ghost shown = { λ source. record { left = Some (drop source.inner.at source.inner.bytes.items); faults = faults_of source.failing } };
 
-    fn take(&mut self, buf: &mut [u8]) -> Result<usize, Failed> {
+    fn take(&mut self, buf: &mut [u8]) -> Result<usize, Failed>
+        ensures bound { ReadsAtMost result buf.new }
+        ensures bytes { ReadConsumes (⟦<MemSource as Source>⟧.shown self.old).left (⟦<MemSource as Source>⟧.shown self.new).left result buf.new }
+        ensures cause { HasCause (⟦<MemSource as Source>⟧.shown self.old).faults (⟦<MemSource as Source>⟧.shown self.new).faults result }
+
+        // The listed calls fail and no other does, and each other gives as many bytes as are left, have room and may come at once.
+        ensures listed { CountsCall self.old.failing self.new.failing (IsErr result) }
+        ensures count { IfOk result (λ n. n ≡ min (min (length (drop self.old.inner.at self.old.inner.bytes.items)) (length buf.old)) self.old.most) }
+        ensures most { self.new.most ≡ self.old.most }
+    {
         if self.failing.next_fails() {
             return Err(Failed);
         }

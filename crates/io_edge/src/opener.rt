@@ -1,7 +1,7 @@
 //! Openers: where files are loaded from, by name.
 
 ghost use Rattle.std.specs.Prelude.{◌≡◌, ℕ, ◌≤◌, List, Option, IfOk};
-ghost use Rattle.io_edge.specs.Outside.{IsMissing, IsThere, Loads, OpenerShown, Rose};
+ghost use Rattle.io_edge.specs.Outside.{CountsOne, IsMissing, IsThere, Loads, OpenerShown, Rose};
 
 use std::alloc::AllocError;
 
@@ -36,6 +36,7 @@ pub trait Opener {
     /// A missing file is `Missing` also where memory is short. Takes memory for the bytes.
     fn load(&mut self, name: &str, most: u64) -> Result<Vec<u8>, LoadError>
         ensures files { (shown self.new).files ≡ (shown self.old).files }
+        ensures counted { CountsOne (shown self.old).loads (shown self.new).loads }
         ensures ok { IfOk result (λ bytes. Loads (shown self.old).files name.now most bytes.items) }
         ensures missing { result ≡ Err LoadError.Missing → IsMissing (shown self.old).files name.now }
         ensures no_memory { result ≡ Err LoadError.NoMemory → IsThere (shown self.old).files name.now }

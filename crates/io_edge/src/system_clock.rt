@@ -1,9 +1,11 @@
 //! The system's clock.
 
-ghost use Rattle.std.specs.Prelude.{None};
+ghost use Rattle.std.specs.Prelude.{◌≡◌, ◌/◌, None, pos};
+ghost use Rattle.std.specs.Duration.{as_nanos};
+ghost use Rattle.std.specs.Time.{FitsClock};
 
 use crate::clock::Clock;
-use std::time::{self, SystemTime, UNIX_EPOCH};
+use std::time::{self, Duration, SystemTime, UNIX_EPOCH};
 
 /// The system's clock, over the runtime. It tells none of its moments.
 #[derive(Clone, Copy)]
@@ -27,8 +29,16 @@ impl<R: time::Clock + Copy> Clock for SystemClock<R> {
             return 0;
         };
         match time.duration_since(UNIX_EPOCH) {
-            Ok(since) => i64::try_from(since.as_secs()).unwrap_or(0),
+            Ok(since) => whole_seconds(since),
             Err(_) => 0,
         }
     }
+}
+
+// How many whole seconds passed.
+fn whole_seconds(since: Duration) -> i64
+    requires { FitsClock (as_nanos since) }
+    ensures { result ≡ pos (as_nanos since / 1_000_000_000) }
+{
+    since.as_secs() as i64
 }

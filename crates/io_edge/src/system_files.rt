@@ -14,6 +14,7 @@ use std::rt::Files;
 pub struct SystemFiles<R: Copy> {
     alloc: Global,
     runtime: R,
+    loads: u64,
     faults: u64,
 }
 
@@ -25,6 +26,7 @@ impl<R: Files + Copy> SystemFiles<R> {
         SystemFiles {
             alloc,
             runtime,
+            loads: 0,
             faults: 0,
         }
     }
@@ -36,6 +38,7 @@ impl<R: Files + Copy> SystemFiles<R> {
         ensures later { self.old.faults ≤ self.new.faults }
         ensures failed { result ≡ LoadError.Failed → Rose self.old.faults self.new.faults }
         ensures missing_is_no_fault { result ≡ LoadError.Missing → self.new.faults ≡ self.old.faults }
+        ensures loads { self.new.loads ≡ self.old.loads }
     {
         match kind {
             ErrorKind::NotFound => LoadError::Missing,
@@ -49,9 +52,10 @@ impl<R: Files + Copy> SystemFiles<R> {
 }
 
 impl<R: Files + Copy> Opener for SystemFiles<R> {
-    ghost shown = { λ opener. record { files = None; faults = opener.faults } };
+    ghost shown = { λ opener. record { files = None; loads = opener.loads; faults = opener.faults } };
 
     fn load(&mut self, name: &str, most: u64) -> Result<Vec<u8>, LoadError> {
+        self.loads = self.loads.saturating_add(1);
         match file_front(self.alloc, &self.runtime, name, most) {
             Ok(bytes) => Ok(bytes),
             Err(error) => Err(self.refuse(error.kind())),

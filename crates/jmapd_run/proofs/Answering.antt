@@ -2,10 +2,11 @@
 use Rattle.std.proofs.Common.{◌≡◌, ◌≤◌, ◌+◌, ◌++◌, ◌∷◌, [], ℕ, ℤ, List, Option, Bool, true, false, Result, Ok, Err, IfOk, inl, inr, length, ap, arith, subst, sym, ◌∙◌}
 use Rattle.std.specs.Io.KnownBytes.{Consumes, IsAtEnd}
 use Rattle.std.specs.Prelude.{if◌then◌else◌}
-use Rattle.model_batch.proofs.Chains.{turns_counted}
+use Rattle.model_batch.proofs.Chains.{spent_stop, turns_counted}
 use Rattle.model_time.specs.Moments.{clamped}
 use Rattle.model_batch.specs.Reply.{Replies, asked_in}
 use Rattle.model_core.specs.declared.limits.TheConstants.{MAX_SIZE_REQUEST}
+use Rattle.model_batch.specs.Batch.{NextMeans}
 use Rattle.model_batch.specs.Chain.{Chain, Shown}
 use Rattle.account_desk.specs.FreshDesk.{IsSole, fresh_desk}
 use Rattle.jmapd_run.specs.Headline.{AnswersInput, IsAnswer, Surroundings}
@@ -49,7 +50,7 @@ module _ (site : Site) (user : ℕ) (bytes : List ℕ) {u : User} {moment : ℤ}
     where
       by_how : OutcomeHow u moment (asked_in bytes) r.made r.desk d1 (Err PassSpent) → r.desk.turns ≡ most_turns
       by_how (inl h) = absurd (let e : PassSpent ≡ NoMemory = h.0 in cc)
-      by_how (inr h) = h.1.0
+      by_how (inr h) = (spent_stop (NextMeans u h.request moment h.steps h.rest) moment r.desk d1 h.stops).0
 
   -- a fresh desk has turns left for a request
   pub never_spent : d0 ≡ fresh_desk site → IsOutcome u moment (asked_in bytes) f0 f1 d0 d1 (Err PassSpent) → ⊥

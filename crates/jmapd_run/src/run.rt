@@ -1,5 +1,5 @@
 //! The commands, over any opener, input, output and clock.
-ghost use Rattle.std.specs.Prelude.{◌≡◌, map, string_bytes};
+ghost use Rattle.std.specs.Prelude.{◌≡◌, ◌≤◌, ◌+◌, map, string_bytes};
 ghost use Rattle.jmapd_run.specs.Runs.{Runs};
 
 use crate::batch::run_batch;
@@ -16,7 +16,7 @@ use std::alloc::Global;
 ///
 /// `batch` reads one request, answers it on fresh accounts, and writes the response or the problem with a line feed (RFC 8620
 /// section 3). `stdio` serves one HTTP connection over fresh accounts. Every other first word is `Usage`. The words are looked at first, then the
-/// configuration, then the name of the user; the input and the output aren't touched before.
+/// configuration, which is loaded once at most, then the name of the user; the input and the output aren't touched before.
 pub fn run<O: Opener, S: Source, K: Sink, C: Clock>(
     alloc: Global,
     words: &[String],
@@ -29,6 +29,7 @@ pub fn run<O: Opener, S: Source, K: Sink, C: Clock>(
         (record { input = S.shown input.new; output = K.shown output.new; clock = C.moments clock.new })
         (O.shown opener.old) (O.shown opener.new) (map string_bytes words.now) result }
     ensures files { (O.shown opener.new).files ≡ (O.shown opener.old).files }
+    ensures once { (O.shown opener.new).loads ≤ (O.shown opener.old).loads + 1 }
 {
     match start_from(alloc, words, opener) {
         Ok(Start::Batch(site, user)) => run_batch(alloc, &site, user, input, output, clock),

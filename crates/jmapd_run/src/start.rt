@@ -1,5 +1,5 @@
 //! What the words of the command line and the configuration come to.
-ghost use Rattle.std.specs.Prelude.{◌≡◌, IfOk, map, option_map, string_bytes};
+ghost use Rattle.std.specs.Prelude.{◌≡◌, ◌≤◌, ◌+◌, IfOk, map, option_map, string_bytes};
 ghost use Rattle.model_site.specs.Configuration.{configured};
 ghost use Rattle.jmapd_run.specs.Shown.{BatchHow, HasItsUser, LoadHow, NamedHow, ReadHow, SiteHow, StartHow};
 
@@ -30,6 +30,7 @@ pub(crate) fn start_from<O: Opener>(
 ) -> Result<Start, Status>
     ensures how { StartHow (O.shown opener.old) (O.shown opener.new) (map string_bytes words.now) result }
     ensures files { (O.shown opener.new).files ≡ (O.shown opener.old).files }
+    ensures once { (O.shown opener.new).loads ≤ (O.shown opener.old).loads + 1 }
     ensures user { IfOk result HasItsUser }
 {
     match read_command(alloc, words) {
@@ -48,6 +49,7 @@ fn start_batch<O: Opener>(
 ) -> Result<Start, Status>
     ensures how { BatchHow (O.shown opener.old) (O.shown opener.new) (option_map (λ name. name.now) config.entry) (option_map (λ name. name.now) user.entry) result }
     ensures files { (O.shown opener.new).files ≡ (O.shown opener.old).files }
+    ensures once { (O.shown opener.new).loads ≤ (O.shown opener.old).loads + 1 }
     ensures user { IfOk result HasItsUser }
 {
     let site = site_of(alloc, opener, config)?;
@@ -71,6 +73,7 @@ fn start_named(site: Site, name: &str) -> Result<Start, Status>
 // The site of a configuration, or the one without.
 fn site_of<O: Opener>(alloc: Global, opener: &mut O, config: Option<&str>) -> Result<Site, Status>
     ensures files { (O.shown opener.new).files ≡ (O.shown opener.old).files }
+    ensures once { (O.shown opener.new).loads ≤ (O.shown opener.old).loads + 1 }
     ensures how { SiteHow (O.shown opener.old) (O.shown opener.new) (option_map (λ name. name.now) config.entry) result }
 {
     match config {
@@ -84,6 +87,7 @@ fn site_of<O: Opener>(alloc: Global, opener: &mut O, config: Option<&str>) -> Re
 
 fn load_site<O: Opener>(alloc: Global, opener: &mut O, name: &str) -> Result<Site, Status>
     ensures files { (O.shown opener.new).files ≡ (O.shown opener.old).files }
+    ensures once { (O.shown opener.new).loads ≤ (O.shown opener.old).loads + 1 }
     ensures how { LoadHow (O.shown opener.old) (O.shown opener.new) name.now result }
 {
     match opener.load(name, MAX_CONFIGURATION_BYTES as u64 + 1) {

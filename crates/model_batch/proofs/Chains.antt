@@ -7,6 +7,7 @@ use mathlib.Core.Logic.{dite}
 use native.Mathlib.Decide.{ℕ_discrete}
 use Rattle.model_history.specs.Base.{Base}
 use Rattle.model_batch.specs.Chain.{Rules, Shown, Made, on, stamp_of, added_by, Stands, Stand, SummaryOn, Summary, IsStep, Chain, Answered, Stops}
+use Rattle.model_history.specs.MostTurns.{most_turns}
 use Rattle.model_history.specs.Signed.{AreSigned, written_by}
 use Rattle.model_call.specs.declared.call.Call.{Call}
 use Rattle.model_batch.specs.declared.desk.DeskError.{DeskError}
@@ -150,10 +151,15 @@ pub turns_counted : (s t : Shown) (ms : List Made) → Chain s t ms → t.turns 
 turns_counted s t [] p = (let e = ap (λ (x : Shown). x.turns) p in omega arith)
 turns_counted s t (m ∷ ms) p = (let e = turns_counted p.0 t ms p.2 in let one = p.1.0.1.beside.turns in omega arith)
 
-pub stop_counted : (e : DeskError) (s t : Shown) → Stops e s t → t.turns ≤ s.turns + 1
-stop_counted PassSpent s t p = (let e = ap (λ (x : Shown). x.turns) p.1 in omega arith)
-stop_counted NoMemory s t (inl p) = (let e = ap (λ (x : Shown). x.turns) p in omega arith)
-stop_counted NoMemory s t (inr p) = (let one = p.2.beside.turns in omega arith)
+-- a desk that makes no more calls was asked for one
+pub spent_stop : (these : ℕ → Call → Type 0) (moment : ℤ) (s t : Shown) → Stops these moment PassSpent s t → (s.turns ≡ most_turns) × (t ≡ s)
+spent_stop these moment s t (inl p) = absurd (let e : PassSpent ≡ NoMemory = p.0 in cc)
+spent_stop these moment s t (inr p) = p.3
+
+-- what was asked for one of these calls was asked for one of those
+pub stop_of : (these those : ℕ → Call → Type 0) (moment : ℤ) (e : DeskError) (s t : Shown) → ((account : ℕ) (call : Call) → these account call → those account call) → Stops these moment e s t → Stops those moment e s t
+stop_of these those moment e s t also (inl p) = inl p
+stop_of these those moment e s t also (inr p) = inr (p.0, p.1, also p.0 p.1 p.2, p.3)
 
 -- the call that was answered
 abbrev pub made_of : Shown → ℕ → Call → ℤ → Reply → Made

@@ -9,6 +9,7 @@ use Rattle.model_json.specs.Parts.{some_of}
 use Rattle.model_batch.specs.Requests.{id_pair_of}
 use Rattle.model_batch.specs.Chain.{Made, Shown, Chain, Stops, front_of}
 use Rattle.model_json.specs.TreeData.{data_of}
+use Rattle.model_call.specs.declared.call.Call.{Call}
 use Rattle.model_call.specs.declared.call.MethodError.{MethodError}
 use Rattle.model_call.specs.declared.call.MethodError.TheVariants.{UnknownMethod, InvalidArguments, InvalidResultReference, AccountNotFound, AccountReadOnly, RequestTooLarge, StateMismatch, UnsupportedFilter, UnsupportedSort, AnchorNotFound, CannotCalculateChanges, TooManyChanges, NotBuilt}
 use Rattle.model_batch.specs.declared.desk.DeskError.{DeskError}
@@ -94,6 +95,11 @@ module _ (user : User) (request : Request) (moment : ℤ) where
   Fit before [] = Unit {0}
   Fit before (s ∷ ss) = FollowsFrom moment (meaning_after before s.invocation) s × Fit (before ++ s ∷ []) ss
 
+  -- the first of the invocations that are left means this call, behind these steps
+  abbrev pub NextMeans : List Step → List Invocation → ℕ → Call → Type 0
+  NextMeans before [] account call = ⊥
+  NextMeans before (c ∷ cs) account call = meaning_after before c ≡ calls account call
+
   -- The first invocations led to these steps, which are in a chain from one state of the desk to another.
   pub record Progress (fronts fronts' : List Front) (s t : Shown) (steps : List Step) (rest : List Invocation) : Type 0 where
     pub invoked : request.calls ≡ map (λ st. st.invocation) steps ++ rest
@@ -131,9 +137,11 @@ module _ (user : User) (moment : ℤ) (d : Data) (fronts fronts' : List Front) (
   abbrev pub IsUntouched : Type 0
   IsUntouched = (t ≡ s) × (fronts' ≡ fronts)
 
-  -- the first invocations were answered, and in the state that they left the desk answered no more
+  -- The first invocations were answered, and in the state that they left the desk answered no more: it wasn't asked, or for the call that the next invocation means.
   abbrev pub IsStopped : DeskError → Type 0
-  IsStopped e = (steps : List Step) × (rest : List Invocation) × (u : Shown) × IsBegun user moment d fronts fronts' s u steps rest × Stops e u t
+  IsStopped e =
+      (steps : List Step) × (rest : List Invocation) × (u : Shown) × (begun : IsBegun user moment d fronts fronts' s u steps rest)
+      × Stops (NextMeans user begun.request moment steps rest) moment e u t
 
   -- What answering d does. All invocations are answered, or none since the whole is refused, or the first ones since the desk makes no more calls or memory is wanted.
   abbrev pub IsBatch : Result Tree BatchError → Type 0

@@ -2,11 +2,12 @@
 use Rattle.std.specs.Prelude.{◌≡◌, ℕ, ℤ, List, [], ◌++◌, length, map, nat_lt, if◌then◌else◌}
 use Rattle.model_core.specs.declared.limits.TheConstants.{MAX_SIZE_REQUEST}
 use Rattle.model_batch.specs.Asked.{Asked, asked, refused, asked_by}
-use Rattle.model_batch.specs.Batch.{Step, Fit, made_in, response_object}
+use Rattle.model_batch.specs.Batch.{Step, Fit, NextMeans, made_in, response_object}
 use Rattle.model_batch.specs.Problem.{problem}
-use Rattle.model_batch.specs.Chain.{Made}
+use Rattle.model_batch.specs.Chain.{Made, Shown, Stops}
 use Rattle.model_json.specs.Data.{Data}
 use Rattle.model_json.specs.Json.{Reading, not_json, not_whole, value, reading}
+use Rattle.model_batch.specs.declared.desk.DeskError.{DeskError}
 use Rattle.model_batch.specs.declared.request.Invocation.{Invocation}
 use Rattle.model_batch.specs.declared.request.Limit.TheVariants.{SizeRequest}
 use Rattle.model_batch.specs.declared.request.Request.{Request}
@@ -29,8 +30,9 @@ Replies user moment (asked r) made reply =
     (steps : List Step) × (r.calls ≡ map (λ s. s.invocation) steps) × Fit user r moment [] steps × (made ≡ made_in steps) × (reply ≡ response_object r steps)
 Replies user moment (refused e) made reply = (made ≡ []) × (reply ≡ problem e)
 
--- The first invocations of a request were answered, with these calls; it has no reply.
-pub record BeginsReply (user : User) (moment : ℤ) (what : Asked) (made : List Made) : Type 0 where
+-- The first invocations of a request were answered, with these calls; it has no reply. In the state u behind them the desk answered no more, for this reason, and it was left
+-- in the state v: it wasn't asked, or for the call that the next invocation means.
+pub record BeginsReply (user : User) (moment : ℤ) (what : Asked) (made : List Made) (e : DeskError) (u v : Shown) : Type 0 where
   pub request : Request
   pub is_request : what ≡ asked request
   pub steps : List Step
@@ -38,3 +40,4 @@ pub record BeginsReply (user : User) (moment : ℤ) (what : Asked) (made : List 
   pub invoked : request.calls ≡ map (λ s. s.invocation) steps ++ rest
   pub fit : Fit user request moment [] steps
   pub made_is : made ≡ made_in steps
+  pub stops : Stops (NextMeans user request moment steps rest) moment e u v

@@ -1,7 +1,7 @@
 -- A message of a connection and what came of it.
 use Rattle.std.specs.Prelude.{◌≡◌, ℕ, ℤ, zero, suc, ◌+◌, ◌*◌, ◌≤◌, ◌==◌, ◌||◌, List, [], ◌∷◌, ◌++◌, Bool, Option, Some, None, flat_map, length, map, ⊤}
 use Rattle.model_batch.specs.Asked.{Asked, asked, refused}
-use Rattle.model_batch.specs.Chain.{Made, Chain, Shown, Stops, front_of}
+use Rattle.model_batch.specs.Chain.{Made, Chain, Shown, front_of}
 use Rattle.model_json.specs.Data.{Data}
 use Rattle.model_time.specs.Moments.{clamped}
 use Rattle.model_batch.specs.Reply.{BeginsReply, Replies, asked_in}
@@ -70,20 +70,21 @@ module _ (site : Site) (close : Bool) (t : Exchange) where
     at_once : FitsDirect → Fits
     by_calls : FitsApi → Fits
 
-  -- the first calls of the message were answered, at the clock's moment
-  pub record BegunApi : Type 0 where
-    pub user : ℕ
-    pub routed : route site close t.message ≡ api user
-    pub moment : ℤ
-    pub read : t.moments ≡ moment ∷ []
-    pub begins : BeginsReply (user_at site user) (clamped moment) (asked_in t.message.body) t.made
-
   -- No response was written, and the desk answered no more calls for this reason. In the state u it had answered the first of the message's calls,
-  -- and it was left in the state v. A message that needs no moment reads no clock.
+  -- and it was left in the state v.
   module _ (e : DeskError) (u v : Shown) where
+    -- the first calls of the message were answered, at the clock's moment; the desk wasn't asked for more, or for the call that the next invocation means
+    pub record BegunApi : Type 0 where
+      pub user : ℕ
+      pub routed : route site close t.message ≡ api user
+      pub moment : ℤ
+      pub read : t.moments ≡ moment ∷ []
+      pub begins : BeginsReply (user_at site user) (clamped moment) (asked_in t.message.body) t.made e u v
+
+    -- For a message that needs no moment the clock wasn't read.
     pub data Begun : Type 0 where
       uncalled : e ≡ NoMemory → length t.moments ≤ moments_for (route site close t.message) → t.made ≡ [] → v ≡ u → Begun
-      called : BegunApi → Stops e u v → Begun
+      called : BegunApi → Begun
 
 -- each response is what its message asks for, where so many messages went before
 abbrev pub AllFit : Site → ℕ → ℕ → List Exchange → Type 0

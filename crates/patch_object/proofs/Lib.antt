@@ -1,1 +1,5 @@
 pub mod Paths
+pub mod ChangeLemmas
+pub mod CursorLemmas
+pub mod PatchLemmas
+pub mod PointerLemmas

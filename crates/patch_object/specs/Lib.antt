@@ -1,2 +1,5 @@
+pub mod Cursor
+pub mod Edits
+pub mod Paths
 pub mod Reading
 pub mod Reports

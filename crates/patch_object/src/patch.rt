@@ -1,14 +1,15 @@
 //! Patches of a tree.
-ghost use Rattle.std.specs.Prelude.{◌≡◌, ◌<◌, IfErr, IfOk, Ok, Some, false, length};
-ghost use Rattle.std.specs.List.{list_any};
-ghost use Rattle.model_json.specs.Patch.{fails, has_parent, is_prefix, patched};
+ghost use Rattle.std.specs.Prelude.{◌≡◌, ◌<◌, IfErr, IfOk, Ok, Some, false, length, map};
+ghost use Rattle.model_json.specs.Patch.{fails, has_parent, on_members, patched};
 ghost use Rattle.model_json.specs.Pointer.{parts};
 ghost use Rattle.model_json.specs.TreeData.{data_of};
+ghost use Rattle.patch_object.specs.Edits.{change_of, placed_each};
 ghost use Rattle.patch_object.specs.Reports.{Reports, ReportsKey};
 ghost use Rattle.patch_object.specs.declared.patch.PatchError.TheVariants.{InvalidPatch, NoMemory};
 
-use crate::place::place;
+use crate::place::{Edit, place};
 use crate::pointer::{Pointer, PointerError, value_at_parts};
+use crate::pointer_set::PointerSet;
 use model_json::text::Text;
 use model_json::tree::{Tree, TreeObject};
 use std::alloc::{AllocError, AllocFailed, Global};
@@ -50,21 +51,37 @@ pub fn apply(alloc: Global, tree: &Tree, patch: &TreeObject) -> Result<Tree, Pat
     ensures ok { IfOk result (λ t. patched (data_of tree.now) patch.now ≡ Ok (data_of t)) }
     ensures err { IfErr result (λ error. Reports error (patched (data_of tree.now) patch.now)) }
 {
-    let mut patched = tree.copy()?;
-    let mut earlier = Vec::new(alloc);
+    let edits = tested_edits(alloc, tree, patch)?;
+    Ok(place(tree.copy()?, &edits, 0)?)
+}
+
+// The edits that a patch asks for, in its order, where none of its keys fails.
+fn tested_edits<'a>(
+    alloc: Global,
+    tree: &Tree,
+    patch: &'a TreeObject,
+) -> Result<Vec<Edit<'a>>, PatchError>
+    ensures ok { IfOk result (λ edits. patched (data_of tree.now) patch.now ≡ Ok (on_members (placed_each (map change_of edits.items)) (data_of tree.now))) }
+    ensures err { IfErr result (λ error. Reports error (patched (data_of tree.now) patch.now)) }
+{
+    let mut earlier = PointerSet::new(alloc);
+    let mut edits = Vec::new(alloc);
     for member in patch.members() {
         let pointer = tested_pointer(alloc, tree, &earlier, &member.key)?;
-        patched = place(patched, pointer.parts(), 0, &member.value)?;
-        earlier.push(pointer)?;
+        earlier.add(alloc, pointer.parts())?;
+        edits.push(Edit {
+            pointer,
+            value: &member.value,
+        })?;
     }
-    Ok(patched)
+    Ok(edits)
 }
 
 // The pointer that a key of a patch is, where the key doesn't fail.
 fn tested_pointer(
     alloc: Global,
     tree: &Tree,
-    earlier: &[Pointer],
+    earlier: &PointerSet,
     key: &Text,
 ) -> Result<Pointer, PatchError>
     ensures pointer { IfOk result (λ pointer. parts key.now ≡ Some pointer) }
@@ -76,29 +93,10 @@ fn tested_pointer(
         Err(PointerError::NoMemory) => return Err(PatchError::NoMemory),
         Err(PointerError::BadEscape) => return Err(PatchError::InvalidPatch { key: key.copy()? }),
     };
-    if is_covered(earlier, pointer.parts()) || !has_parent_object(tree, pointer.parts()) {
+    if !has_parent_object(tree, pointer.parts()) || earlier.has_prefix_of(alloc, pointer.parts())? {
         return Err(PatchError::InvalidPatch { key: key.copy()? });
     }
     Ok(pointer)
-}
-
-// Whether one of the earlier pointers is a prefix of these parts.
-fn is_covered(earlier: &[Pointer], parts: &[Text]) -> bool
-    ensures { result ≡ list_any (λ e. is_prefix e parts.now) earlier.now }
-{
-    earlier.iter().any(|pointer| begins(parts, pointer.parts()))
-}
-
-// Whether these parts begin with those.
-fn begins(parts: &[Text], prefix: &[Text]) -> bool
-    ensures { result ≡ is_prefix prefix.now parts.now }
-{
-    for (i, part) in prefix.iter().enumerate() {
-        if i >= parts.len() || part.as_str() != parts[i].as_str() {
-            return false;
-        }
-    }
-    true
 }
 
 // Whether the value in which the last part stands is an object that is there.

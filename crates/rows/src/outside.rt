@@ -6,7 +6,8 @@ use io_edge::memory_opener::{MemOpener, SureOpener};
 use io_edge::memory_sink::{MemSink, SureSink};
 use io_edge::memory_source::{MemSource, SureSource};
 use io_edge::opener::{LoadError, Opener};
-use io_edge::sink::put_all;
+use io_edge::room_sink::RoomSink;
+use io_edge::sink::{Sink, put_all};
 use io_edge::source::{InputError, Source, read_up_to};
 use io_edge::streams::{ReaderSource, WriterSink};
 use io_edge::system_clock::SystemClock;
@@ -136,6 +137,24 @@ fn a_sink_holds_the_pieces_that_did_not_fail(rt: HostRuntime) -> Result<(), Fail
 }
 
 #[test]
+fn a_sink_with_room_holds_the_pieces_that_fit(rt: HostRuntime) -> Result<(), Fail> {
+    let alloc = rt.alloc();
+    let mut sink = RoomSink::new(alloc, 8, [1].to_vec(alloc)?)?;
+    for (piece, answer) in [
+        (b"one ".as_slice(), Ok(4)),
+        (b"two ".as_slice(), Err(Failed)),
+        (b"seven".as_slice(), Err(Failed)),
+        (b"six ".as_slice(), Ok(4)),
+        (b"x".as_slice(), Err(Failed)),
+        (b"".as_slice(), Ok(0)),
+    ] {
+        assert_eq!(rt; sink.give(piece), answer);
+    }
+    assert_eq!(rt; sink.bytes(), b"one six ".as_slice());
+    Ok(())
+}
+
+#[test]
 fn a_fault_within_a_piece_leaves_a_front(rt: HostRuntime) -> Result<(), Fail> {
     let alloc = rt.alloc();
     for (room, wanted) in [(0, ""), (5, "01234"), (9, "012345678")] {
@@ -193,10 +212,11 @@ fn a_clock_repeats_its_last_moment(rt: HostRuntime) -> Result<(), Fail> {
 }
 
 #[test]
-fn the_system_tells_a_moment_after_2020(rt: HostRuntime) {
+fn the_system_tells_seconds_of_this_century(rt: HostRuntime) {
     let mut clock = SystemClock::new(rt);
     let moment = moment_of(&mut clock);
-    assert!(rt; moment > 1577836800);
+    // from 2020-01-01T00:00:00Z to 2100-01-01T00:00:00Z
+    assert!(rt; moment > 1577836800 && moment < 4102444800);
 }
 
 /// Two files of one name, and an empty one.

@@ -9,7 +9,7 @@ use crate::given::{given_at, with_id_if, with_own_id};
 use crate::quota::within_quota;
 use crate::setting::{Judged, Setting};
 use cal_model::set_error::SetError;
-use cal_model::view::View;
+use cal_model::view::AccountView;
 use calendar_model::calendar::Calendar;
 use calendar_model::read::{CalendarError, read_calendar};
 use model_history::entry::{Change, Kind};
@@ -18,7 +18,7 @@ use model_json::tree::TreeObject;
 use std::alloc::{AllocError, Global};
 
 /// What comes of storing a calendar of this number. `names_id` says whether the client gives an id that it may not give.
-pub(crate) fn calendar_outcome<V: View>(
+pub(crate) fn calendar_outcome<V: AccountView>(
     alloc: Global,
     view: &V,
     setting: &Setting<'_>,
@@ -51,7 +51,7 @@ pub(crate) fn calendar_outcome<V: View>(
 }
 
 // What comes of storing a calendar that is valid.
-fn store<V: View>(
+fn store<V: AccountView>(
     alloc: Global,
     view: &V,
     number: u64,

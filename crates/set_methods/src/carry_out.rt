@@ -15,14 +15,14 @@ use crate::request::SetRequest;
 use crate::run::run;
 use crate::setting::Setting;
 use crate::told::Told;
-use cal_model::view::View;
+use cal_model::view::AccountView;
 use model_json::lists::Pairs;
 use std::alloc::{AllocError, Global};
 
 /// Carries out a set that isn't refused: creates, then updates, then destroys (RFC 8620 section 5.3).
 ///
 /// After want of memory some changes may be staged.
-pub(crate) fn carry_out<V: View>(
+pub(crate) fn carry_out<V: AccountView>(
     alloc: Global,
     view: &mut V,
     setting: &Setting<'_>,

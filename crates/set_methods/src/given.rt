@@ -1,7 +1,7 @@
 //! The members that a client gives.
 ghost use Rattle.std.specs.Prelude.{◌≡◌, ◌∷◌, [], Bool, IfOk, codes, false, not, option_map};
 ghost use Rattle.std.specs.Option.{option_map_or};
-ghost use Rattle.cal_model.specs.Operations.{has_other_id, is_text, with_name_if, with_own_id};
+ghost use Rattle.cal_model.specs.Operations.{has_other_id, is_this_text, with_name_if, with_own_id};
 ghost use Rattle.model_json.specs.Data.{lookup};
 ghost use Rattle.model_json.specs.Parts.{members_in};
 ghost use Rattle.model_json.specs.TreeData.{data_of};
@@ -58,13 +58,13 @@ pub(crate) fn has_other_id(
     ensures { IfOk result (λ b. b ≡ has_other_id kind number object.now) }
 {
     match given_at(object, "id") {
-        Some(id) => Ok(!is_text(id, &object_id_text(alloc, kind, number)?)),
+        Some(id) => Ok(!is_this_text(id, &object_id_text(alloc, kind, number)?)),
         None => Ok(false),
     }
 }
 
-fn is_text(value: &Tree, text: &Text) -> bool
-    ensures { result ≡ is_text (data_of value.now) text.now }
+fn is_this_text(value: &Tree, text: &Text) -> bool
+    ensures { result ≡ is_this_text (data_of value.now) text.now }
 {
     match value {
         Tree::Text(other) => other.as_str() == text.as_str(),

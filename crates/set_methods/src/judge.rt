@@ -14,7 +14,7 @@ use crate::operation::Operation;
 use crate::quota::within_quota;
 use crate::setting::{Judged, Setting};
 use cal_model::set_error::SetError;
-use cal_model::view::View;
+use cal_model::view::AccountView;
 use model_history::entry::{Change, Kind};
 use model_json::text::Text;
 use model_json::tree::{Tree, TreeObject};
@@ -23,7 +23,7 @@ use std::alloc::{AllocError, Global};
 use time_text::read_object_id;
 
 /// What comes of an operation after the changes of a view.
-pub(crate) fn judge<V: View>(
+pub(crate) fn judge<V: AccountView>(
     alloc: Global,
     view: &V,
     setting: &Setting<'_>,
@@ -45,7 +45,7 @@ pub(crate) fn judge<V: View>(
     }
 }
 
-fn create<V: View>(
+fn create<V: AccountView>(
     alloc: Global,
     view: &V,
     setting: &Setting<'_>,
@@ -62,7 +62,7 @@ fn create<V: View>(
 }
 
 // What comes of storing an object that may be put.
-fn object_outcome<V: View>(
+fn object_outcome<V: AccountView>(
     alloc: Global,
     view: &V,
     setting: &Setting<'_>,
@@ -82,7 +82,7 @@ fn object_outcome<V: View>(
 }
 
 // The live object that an id names, and its number.
-fn named<'a, V: View>(view: &'a V, kind: Kind, id: &Text) -> Option<(u64, &'a Tree)>
+fn named<'a, V: AccountView>(view: &'a V, kind: Kind, id: &Text) -> Option<(u64, &'a Tree)>
     ensures exact { option_map (λ q. (q.0, q.1.now)) result ≡ object_named (V.history view.now ++ V.staged view.now) kind id.now }
     ensures live { IfSome result (λ q. is_some (live_object (V.history view.now ++ V.staged view.now) kind q.0) ≡ true) }
 {
@@ -91,7 +91,7 @@ fn named<'a, V: View>(view: &'a V, kind: Kind, id: &Text) -> Option<(u64, &'a Tr
     Some((number, object))
 }
 
-fn update<V: View>(
+fn update<V: AccountView>(
     alloc: Global,
     view: &V,
     setting: &Setting<'_>,
@@ -121,7 +121,7 @@ fn update<V: View>(
 }
 
 // What comes of patching an object that is there.
-fn patch_object<V: View>(
+fn patch_object<V: AccountView>(
     alloc: Global,
     view: &V,
     setting: &Setting<'_>,
@@ -149,7 +149,7 @@ fn patch_object<V: View>(
     }
 }
 
-fn destroy<V: View>(
+fn destroy<V: AccountView>(
     alloc: Global,
     view: &V,
     setting: &Setting<'_>,

@@ -10,7 +10,7 @@ use crate::planned::{Plan, PlanError};
 use crate::refusal::refusal;
 use crate::request::SetRequest;
 use crate::setting::Setting;
-use cal_model::view::View;
+use cal_model::view::AccountView;
 use model_json::lists::Pairs;
 use model_json::text::Text;
 use model_time::moment::Moment;
@@ -22,7 +22,7 @@ use zone_table::Zones;
 ///
 /// The accepted changes are then staged. `Method` tells why the call is refused as a whole. Takes memory for the changes and
 /// the response.
-pub fn plan<V: View>(
+pub fn plan<V: AccountView>(
     alloc: Global,
     view: &mut V,
     zones: &Zones,

@@ -8,13 +8,13 @@ use crate::setting::Judged;
 use cal_model::limits::{MAX_ENTRIES, MAX_OBJECT_BYTES};
 use cal_model::outcome::Outcome;
 use cal_model::set_error::SetError;
-use cal_model::view::View;
+use cal_model::view::AccountView;
 use json_edge::write::tree_text;
 use model_history::entry::Change;
 use std::alloc::{AllocError, Global};
 
 /// The change of an object that may be put, where the account has room for it.
-pub(crate) fn within_quota<V: View>(
+pub(crate) fn within_quota<V: AccountView>(
     alloc: Global,
     view: &V,
     change: Change,
@@ -45,7 +45,7 @@ fn size_of_change(alloc: Global, change: &Change) -> Result<usize, AllocError>
     }
 }
 
-fn has_room<V: View>(view: &V, size: usize) -> bool
+fn has_room<V: AccountView>(view: &V, size: usize) -> bool
     ensures { result ≡ not (exceeds_quota (V.history view.now ++ V.staged view.now) size) }
 {
     view.count() < MAX_ENTRIES && size <= MAX_OBJECT_BYTES - view.text()

@@ -10,7 +10,7 @@ ghost use Rattle.set_methods.specs.Requests.{objects_in};
 
 use crate::request::SetRequest;
 use crate::state::state_text;
-use cal_model::view::View;
+use cal_model::view::AccountView;
 use model_call::call::MethodError;
 use model_core::limits::MAX_OBJECTS_IN_SET;
 use model_history::entry::Kind;
@@ -21,7 +21,7 @@ use time_text::read_id;
 
 /// Why a set is refused as a whole: a value that isn't one of the argument's, then too many objects, then another state than the
 /// client's (RFC 8620 section 5.3).
-pub(crate) fn refusal<V: View>(
+pub(crate) fn refusal<V: AccountView>(
     alloc: Global,
     view: &V,
     request: &SetRequest<'_>,
@@ -87,7 +87,7 @@ fn has_too_many(request: &SetRequest<'_>) -> bool
     creates > most || updates > most - creates || destroys > most - creates - updates
 }
 
-fn is_in_state<V: View>(
+fn is_in_state<V: AccountView>(
     alloc: Global,
     view: &V,
     kind: Kind,

@@ -7,12 +7,12 @@ use crate::judge::judge;
 use crate::operation::Operation;
 use crate::setting::{Judged, Setting};
 use cal_model::outcome::Outcome;
-use cal_model::view::View;
+use cal_model::view::AccountView;
 use model_history::entry::Change;
 use std::alloc::{AllocError, Global};
 
 /// What comes of operations, each after those before it, whose accepted changes are staged (RFC 8620 section 5.3).
-pub(crate) fn run<V: View>(
+pub(crate) fn run<V: AccountView>(
     alloc: Global,
     view: &mut V,
     setting: &Setting<'_>,
@@ -36,7 +36,7 @@ pub(crate) fn run<V: View>(
 }
 
 // The outcome, whose change is staged where it is accepted.
-fn staged<V: View>(view: &mut V, judged: Judged) -> Result<Outcome, AllocError>
+fn staged<V: AccountView>(view: &mut V, judged: Judged) -> Result<Outcome, AllocError>
     requires { IsAllowed (V.history view.old ++ V.staged view.old) judged }
     ensures outcome { IfOk result (λ o. o ≡ judged.outcome) }
     ensures staged { IfOk result (λ o. V.staged view.new ≡ V.staged view.old ++ changes_in o) }

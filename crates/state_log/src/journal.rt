@@ -43,12 +43,12 @@ impl From<AllocError> for ChangesError {
 
 impl Journal {
     ghost use Rattle.state_log.specs.IsPage.{IsPage};
-    ghost use Rattle.state_log.specs.Journal.{entries, spare};
+    ghost use Rattle.state_log.specs.Journal.{logged, spare_entries};
     ghost use Rattle.state_log.specs.ChangeIndex.{mentioned};
 
     /// A journal without entries. Takes no memory.
     pub fn new(alloc: Global) -> Journal
-        ensures { entries result ≡ [] }
+        ensures { logged result ≡ [] }
     {
         Journal {
             entries: Vec::new(alloc),
@@ -59,15 +59,15 @@ impl Journal {
 
     /// The entries, in order. Takes no memory.
     pub fn entries(&self) -> &[Entry]
-        ensures { result.now ≡ entries self.now }
+        ensures { result.now ≡ logged self.now }
     {
         &self.entries
     }
 
     /// Takes memory for `more` further entries.
     pub fn reserve(&mut self, more: u64) -> Result<(), AllocError>
-        ensures spare { OnOk result (more ≤ spare self.new) }
-        ensures entries { entries self.new ≡ entries self.old }
+        ensures spare { OnOk result (more ≤ spare_entries self.new) }
+        ensures entries { logged self.new ≡ logged self.old }
     {
         self.calendars.reserve(more as usize)?;
         self.events.reserve(more as usize)?;
@@ -76,9 +76,9 @@ impl Journal {
 
     /// Puts an entry at the end. Takes no memory, since it was reserved.
     pub fn push_reserved(&mut self, entry: Entry)
-        requires { 0 < spare self.old }
-        ensures entries { entries self.new ≡ entries self.old ++ entry ∷ [] }
-        ensures spare { spare self.old ≤ spare self.new + 1 }
+        requires { 0 < spare_entries self.old }
+        ensures entries { logged self.new ≡ logged self.old ++ entry ∷ [] }
+        ensures spare { spare_entries self.old ≤ spare_entries self.new + 1 }
     {
         let id = entry.change.id;
         let puts = entry.change.object.is_some();
@@ -91,14 +91,14 @@ impl Journal {
 
     /// The state of a kind: how many entries are of it (RFC 8620 section 5.1). Takes no memory.
     pub fn count(&self, kind: Kind) -> u64
-        ensures { result ≡ state_at (changes_of (entries self.now)) kind }
+        ensures { result ≡ state_at (changes_of (logged self.now)) kind }
     {
         self.index_of(kind).notes.len() as u64
     }
 
     /// Whether pages are made from state `k` of a kind: it was reached, and at most [`WINDOW`] changes ago. Takes no memory.
     pub fn retained(&self, kind: Kind, k: u64) -> bool
-        ensures { result ≡ is_retained (state_at (changes_of (entries self.now)) kind) k }
+        ensures { result ≡ is_retained (state_at (changes_of (logged self.now)) kind) k }
     {
         let count = self.count(kind);
         k <= count && count - k <= WINDOW
@@ -110,8 +110,8 @@ impl Journal {
     /// where there is no maximum. Time and memory grow with the changes of the kind after `since` and the ids that they name, and
     /// not with the changes before.
     pub fn changes(&self, kind: Kind, since: u64, max: Option<u64>) -> Result<Page, ChangesError>
-        ensures ok { IfOk result (IsPage (mentions kind (changes_of (entries self.now))) since max) }
-        ensures not_retained { IsErrOf result ChangesError.NotRetained ↔ (is_retained (state_at (changes_of (entries self.now)) kind) since ≡ false) }
+        ensures ok { IfOk result (IsPage (mentions kind (changes_of (logged self.now))) since max) }
+        ensures not_retained { IsErrOf result ChangesError.NotRetained ↔ (is_retained (state_at (changes_of (logged self.now)) kind) since ≡ false) }
     {
         if !self.retained(kind, since) {
             return Err(ChangesError::NotRetained);
@@ -121,7 +121,7 @@ impl Journal {
     }
 
     fn index_of(&self, kind: Kind) -> &ChangeIndex
-        ensures { mentioned result.now ≡ mentions kind (changes_of (entries self.now)) }
+        ensures { mentioned result.now ≡ mentions kind (changes_of (logged self.now)) }
     {
         match kind {
             Kind::Calendar => &self.calendars,

@@ -68,7 +68,7 @@ fn fill_table(table: &mut Table<u64>, load: Load)
 }
 
 fn fill_journal(journal: &mut Journal, load: Load)
-    requires { load.entries ≤ journal_words.spare journal.old }
+    requires { load.entries ≤ journal_words.spare_entries journal.old }
 {
     for entry in 0..load.entries {
         journal.push_reserved(entry_of(Kind::Event, load.id(entry), true));

@@ -3,3 +3,4 @@ pub mod PlaceLemmas
 pub mod WalkLemmas
 pub mod HistoryLemmas
 pub mod ReadingLemmas
+pub mod SkipLemmas

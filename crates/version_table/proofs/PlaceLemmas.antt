@@ -16,7 +16,7 @@ use Rattle.version_table.specs.Versions.{AreIndexed, AreLinked, is_of, last_plac
 use Rattle.version_table.specs.declared.table.Version.{Version}
 
 module _ {T : Type 0} where
-  version_before : (vs : List (Version T)) (v : Version T) (n : ℕ) → n < length vs → slice_get (vs ++ v ∷ []) n ≡ slice_get vs n
+  pub version_before : (vs : List (Version T)) (v : Version T) (n : ℕ) → n < length vs → slice_get (vs ++ v ∷ []) n ≡ slice_get vs n
   version_before vs v n h =
       let within : n < length (vs ++ v ∷ []) = omega (arith, h, length-append vs (v ∷ [])) in
       slice_get-get_or (vs ++ v ∷ []) n v within ∙ ap Some (get_or_append_left vs (v ∷ []) v n h) ∙ sym (slice_get-get_or vs n v h)
@@ -36,7 +36,7 @@ module _ {T : Type 0} where
       ap (λ o. if option_map_or (λ w. w.id == id) o false then Some n else last_place (vs ++ v ∷ []) id n) (version_before vs v n (omega (arith, h)))
       ∙ ap (λ o. if is_of vs id n then Some n else o) (last_place-more vs v id n (omega (arith, h)))
 
-  at_seam : (vs : List (Version T)) (v w : Version T) (n : ℕ) → n ≡ length vs → slice_get (vs ++ v ∷ []) n ≡ Some w → v ≡ w
+  pub at_seam : (vs : List (Version T)) (v w : Version T) (n : ℕ) → n ≡ length vs → slice_get (vs ++ v ∷ []) n ≡ Some w → v ≡ w
   at_seam vs v w n e h = same_Some v w (sym (last_version vs v) ∙ ap (λ m. slice_get (vs ++ v ∷ []) m) (sym e) ∙ h)
 
   pub linked_more : (vs : List (Version T)) (v : Version T) → AreLinked vs → v.older ≡ last_place vs v.id (length vs) → AreLinked (vs ++ v ∷ [])

@@ -36,14 +36,14 @@ module _ {T : Type 0} (counts : Put T → Bool) where
   take_past (v ∷ vs) zero h = absurd (none-some v (sym h))
   take_past (v ∷ vs) (suc n) h = ap (λ l. v ∷ l) (take_past vs n h)
 
-  chosen_more : (vs : List (Version T)) (id n : ℕ) (v : Version T) → slice_get vs n ≡ Some v → chosen vs id (suc n) ≡ (if (v.id == id) && counts (put_of v) then v.object else chosen vs id n)
+  pub chosen_more : (vs : List (Version T)) (id n : ℕ) (v : Version T) → slice_get vs n ≡ Some v → chosen vs id (suc n) ≡ (if (v.id == id) && counts (put_of v) then v.object else chosen vs id n)
   chosen_more vs id n v h =
       ap (λ l. latest (filter counts l) id) (ap (λ l. map put_of l) (take_at vs n v h) ∙ map_push put_of (take n vs) v)
       ∙ ap (λ l. latest l id) (filter-append counts (map put_of (take n vs)) (put_of v ∷ []))
       ∙ latest_more (counts (put_of v)) (filter counts (map put_of (take n vs))) (put_of v) id
 
   -- a version of another id is passed over
-  passed : (vs : List (Version T)) (id n : ℕ) → is_of vs id n ≡ false → chosen vs id (suc n) ≡ chosen vs id n
+  pub passed : (vs : List (Version T)) (id n : ℕ) → is_of vs id n ≡ false → chosen vs id (suc n) ≡ chosen vs id n
   passed vs id n miss = by (slice_get vs n) refl miss
     where
       by : (o : Option (Version T)) → slice_get vs n ≡ o → option_map_or (λ v. v.id == id) o false ≡ false → chosen vs id (suc n) ≡ chosen vs id n
@@ -88,7 +88,7 @@ module _ {T : Type 0} (counts : Put T → Bool) where
   pub walk-begins : (vs : List (Version T)) (id : ℕ) (place : Option ℕ) → place ≡ last_place vs id (length vs) → Walks vs id place (length vs)
   walk-begins vs id place h = record { within = omega arith; at = h; rest = refl }
 
-  walk-found : (vs : List (Version T)) (id n i : ℕ) → Walks vs id (Some i) n → Found vs id n i
+  pub walk-found : (vs : List (Version T)) (id n i : ℕ) → Walks vs id (Some i) n → Found vs id n i
   walk-found vs id n i w = found vs id n i (sym w.at)
 
   pub walk-within : (vs : List (Version T)) (id n i : ℕ) → Walks vs id (Some i) n → i < length vs

@@ -1,5 +1,5 @@
 -- How versions are kept: each names the one before it of its id, and an index the newest of each id.
-use Rattle.std.specs.Prelude.{◌≡◌, ℕ, zero, suc, ◌==◌, Bool, false, List, length, Option, None, Some, slice_get, if◌then◌else◌}
+use Rattle.std.specs.Prelude.{◌≡◌, ℕ, zero, suc, ◌<◌, ◌≤◌, ◌==◌, Bool, false, List, length, Option, None, Some, slice_get, if◌then◌else◌}
 use Rattle.std.specs.Option.{option_map_or}
 use Rattle.version_table.specs.Puts.{Put}
 use Rattle.version_table.specs.declared.table.Version.{Version}
@@ -25,3 +25,12 @@ module _ {T : Type 0} where
   -- the index names the newest version of each id
   abbrev pub AreIndexed : (ℕ → Option ℕ) → List (Version T) → Type 0
   AreIndexed newest vs = (id : ℕ) → newest id ≡ last_place vs id (length vs)
+
+  -- From a version of the id with this state at place n a walk may skip to place j: there stands a version of the id, and none of the id from there on has an earlier state than it.
+  -- A skip to n itself leads nowhere.
+  abbrev pub IsSkip : List (Version T) → ℕ → ℕ → ℕ → ℕ → Type 0
+  IsSkip vs id state n j = (j ≤ n) × ((x : Version T) → j < n → slice_get vs j ≡ Some x → (x.id ≡ id) × (x.state ≤ state) × ((i : ℕ) (w : Version T) → j ≤ i → i < n → slice_get vs i ≡ Some w → w.id ≡ id → x.state ≤ w.state))
+
+  -- each version may skip where it says
+  abbrev pub AreSkips : List (Version T) → Type 0
+  AreSkips vs = (n : ℕ) (v : Version T) → slice_get vs n ≡ Some v → IsSkip vs v.id v.state n v.skip

@@ -1,8 +1,9 @@
 //! The versions of objects, and the places of the newest among them.
-ghost use Rattle.std.specs.Prelude.{◌≡◌, ◌<◌, ◌≤◌, ◌+◌, ◌++◌, ◌∷◌, [], nat_eq, map, None, Some, option_copied, OnOk, IfOk};
+ghost use Rattle.std.specs.Prelude.{◌≡◌, ◌<◌, ◌≤◌, ◌+◌, ◌++◌, ◌∷◌, [], length, nat_eq, map, None, Some, option_copied, slice_get, OnOk, IfOk};
 ghost use Rattle.indexmap.specs.IndexMap.{get, keys};
 ghost use Rattle.version_table.specs.Puts.{ids_put, latest, live_ids_at, version_at};
-ghost use Rattle.version_table.specs.Versions.{AreIndexed, AreLinked, put_of};
+ghost use Rattle.version_table.specs.Versions.{AreIndexed, AreLinked, AreSkips, IsSkip, last_place, put_of};
+ghost use Rattle.version_table.specs.declared.table.Version.{Version};
 
 use indexmap::IndexMap;
 use model_history::ids::Ids;
@@ -19,6 +20,10 @@ pub(crate) struct Version<T> {
     pub object: Option<T>,
     /// The place of the version of the id before this one.
     pub older: Option<usize>,
+    /// The place of a version of the id from which on none has an earlier state than that one, up to this one; its own place where there is none.
+    pub skip: usize,
+    /// How many versions of the id stand before it in a row whose states don't fall.
+    pub nth: u64,
 }
 
 /// Objects by their ids, each with all that it was before.
@@ -30,6 +35,7 @@ pub struct Table<T> {
     newest: IndexMap<u64, usize>,
     versions: Vec<Version<T>>,
     ghost linked: { AreLinked versions.items },
+    ghost skips: { AreSkips versions.items },
     ghost indexed: { AreIndexed (get nat_eq newest) versions.items },
     ghost ordered: { keys newest ≡ ids_put (map put_of versions.items) },
 }
@@ -79,14 +85,9 @@ impl<T: Drop> Table<T> {
         ensures puts { puts self.new ≡ puts self.old ++ record { id = id; state = state; object = object } ∷ [] }
         ensures spare { spare_puts self.old ≤ spare_puts self.new + 1 }
     {
-        let place = self.versions.len();
-        let older = self.newest.insert(id, place).unwrap();
-        self.versions.push_reserved(Version {
-            id,
-            state,
-            object,
-            older,
-        });
+        let older = self.newest.insert(id, self.versions.len()).unwrap();
+        let version = next_version(&self.versions, id, state, object, older);
+        self.versions.push_reserved(version);
     }
 
     /// The object of an id, where it has one. Takes no memory.
@@ -99,7 +100,7 @@ impl<T: Drop> Table<T> {
 
     /// The object that an id had at state `k`, where it had one. Takes no memory.
     ///
-    /// Time grows with the number of versions of the id that are newer than `k`, and with nothing else.
+    /// Time grows with the logarithm of the number of versions of the id that are newer than `k`, where each was put at a state that isn't below that of the one before it.
     pub fn get_at(&self, id: u64, k: u64) -> Option<&T>
         ensures { option_copied result ≡ version_at (puts self.now) id k }
     {
@@ -108,6 +109,11 @@ impl<T: Drop> Table<T> {
             let version = &self.versions[at];
             if version.state <= k {
                 return version.object.as_ref();
+            }
+            let skip = version.skip;
+            if skip < at && self.versions[skip].state > k {
+                place = Some(skip);
+                continue;
             }
             place = version.older;
         }
@@ -132,5 +138,52 @@ impl<T: Drop> Table<T> {
             }
         }
         Ok(Ids::new(ids))
+    }
+}
+
+// The version that comes behind these, where the last of its id among them stands at `older`.
+fn next_version<T>(
+    versions: &[Version<T>],
+    id: u64,
+    state: u64,
+    object: Option<T>,
+    older: Option<usize>,
+) -> Version<T>
+    requires last { older ≡ last_place versions.now id (length versions.now) }
+    requires skips { AreSkips versions.now }
+    ensures put { put_of result ≡ record { id = id; state = state; object = object } }
+    ensures older { result.older ≡ older }
+    ensures skip { IsSkip versions.now id state (length versions.now) result.skip }
+{
+    let (skip, nth) = match older {
+        Some(at) if versions[at].state <= state => skip_behind(versions, at),
+        _ => (versions.len(), 0),
+    };
+    Version {
+        id,
+        state,
+        object,
+        older,
+        skip,
+        nth,
+    }
+}
+
+// Where a version behind the one at this place skips to, and how many stand before it.
+//
+// Where the last two skips went equally far, it takes both in one, and else it goes to the version at this place. So any older version of n is found in some log n steps.
+fn skip_behind<T>(versions: &[Version<T>], at: usize) -> (usize, u64)
+    requires within { at < length versions.now }
+    requires skips { AreSkips versions.now }
+    ensures { (v : Version T) → slice_get versions.now at ≡ Some v → IsSkip versions.now v.id v.state at result.0 }
+{
+    let last = &versions[at];
+    let nth = last.nth.wrapping_add(1);
+    let first = &versions[last.skip];
+    let second = &versions[first.skip];
+    if last.nth.wrapping_sub(first.nth) == first.nth.wrapping_sub(second.nth) {
+        (first.skip, nth)
+    } else {
+        (at, nth)
     }
 }

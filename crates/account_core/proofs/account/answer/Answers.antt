@@ -1,12 +1,12 @@
 use Rattle.std.proofs.Common.{◌≡◌, IfOk, subst, sym}
-use Rattle.account_core.specs.Ledger.{base, entries}
+use Rattle.account_core.specs.Ledger.{base, ledger_entries}
 use Rattle.cal_model.specs.Answer.{answer_to}
 use Rattle.account_core.proofs.account.answer.Goals as goal
 
 pub returns-in-Changes-clause-reply : goal.returns-in-Changes-clause-reply
 returns-in-Changes-clause-reply c =
-    subst (λ asks. IfOk c.changes.result (λ r. r ≡ answer_to (base c.args.ledger.now) (entries c.args.ledger.now) c.args.stamp.now.moment c.args.call.now.created asks)) (sym c.in-Changes.is) c.changes.ensures
+    subst (λ asks. IfOk c.changes.result (λ r. r ≡ answer_to (base c.args.ledger.now) (ledger_entries c.args.ledger.now) c.args.stamp.now.moment c.args.call.now.created asks)) (sym c.in-Changes.is) c.changes.ensures
 
 pub returns-in-Set-clause-reply : goal.returns-in-Set-clause-reply
 returns-in-Set-clause-reply c =
-    subst (λ asks. IfOk c.set.result (λ r. r ≡ answer_to (base c.args.ledger.now) (entries c.args.ledger.now) c.args.stamp.now.moment c.args.call.now.created asks)) (sym c.in-Set.is) c.set.ensures.reply
+    subst (λ asks. IfOk c.set.result (λ r. r ≡ answer_to (base c.args.ledger.now) (ledger_entries c.args.ledger.now) c.args.stamp.now.moment c.args.call.now.created asks)) (sym c.in-Set.is) c.set.ensures.reply

@@ -42,7 +42,7 @@ returns-then-is_err g c =
     let more = goes_on a.user.now r a.moment a.fronts.now.items l.fronts.items c.respond.new.fronts.items (g.D.Desk.shown a.desk.now) (g.D.Desk.shown l.desk) (g.D.Desk.shown c.respond.new.desk)
     l.invariant.0 c.in-Some.invocation (into_iter_items c.next.new.self) c.deref.result.now l.responses.items c.deref-in-loop-invocation.result.now l.created c.respond.new.created (Ok c.in-Ok-respond.response)
     (search rules) (search rules) going c.in-Ok-respond.ensures in
-    (more.0, into_iter_items c.next.new.self, g.D.Desk.shown c.respond.new.desk, more.1.progress, inl refl)
+    (more.0, into_iter_items c.next.new.self, g.D.Desk.shown c.respond.new.desk, more.1.progress, inl (refl, refl))
 
 pub loop-invocation-preserved : goal.loop-invocation-preserved
 loop-invocation-preserved g c =

@@ -13,4 +13,4 @@ returns-in-Err-NoMemory g c =
     c.in-Err-NoMemory.field-0-is c.in-Err-NoMemory.ensures
 
 pub returns : goal.returns
-returns g c = (c.in-Ok.ensures.0, [], g.D.Desk.shown c.answer_all.new.desk, c.in-Ok.ensures.1, inl refl)
+returns g c = (c.in-Ok.ensures.0, [], g.D.Desk.shown c.answer_all.new.desk, c.in-Ok.ensures.1, inl (refl, refl))

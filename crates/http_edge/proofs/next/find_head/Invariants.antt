@@ -1,4 +1,4 @@
-use Rattle.std.proofs.Common.{◌≡◌, ◌-◌, ◌≤◌, length, take}
+use Rattle.std.proofs.Common.{◌≡◌, ◌+◌, ◌-◌, ◌≤◌, length, take}
 use Rattle.model_http.specs.Heads.{head_end, unended}
 use Rattle.http_edge.specs.Reading.{AskedWhile, Took}
 use Rattle.http_edge.specs.Searches.{IsSearched}
@@ -12,6 +12,8 @@ invariant-loop-size g l = record {
   within : l.searched ≤ length l.kept;
   few : l.searched ≤ 16384;
   searched : IsSearched (take l.searched l.kept) l.state;
+  later : l.initial.looked ≤ l.looked;
+  once : l.looked ≤ l.initial.looked + l.searched;
 }
 
 abbrev pub decreases-loop-size : goal.decreases-loop-size

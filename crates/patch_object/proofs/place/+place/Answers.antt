@@ -1,15 +1,25 @@
-use Rattle.std.proofs.Common.{arith}
-use Rattle.std.proofs.lemmas.Grind.{common_steps}
-use Rattle.model_json.specs.TreeData.{data_of}
-use Rattle.patch_object.proofs.Paths.{placed_nowhere, placed_within}
+use Rattle.std.proofs.Common.{◌≡◌, ◌+◌, ◌-◌, ◌≤◌, ℕ, map, true, take, drop, arith, sym, ◌∙◌, subst}
+use Rattle.std.proofs.lemmas.List.{take_rest}
+use Rattle.patch_object.proofs.ChangeLemmas.{longest_drop, longest_take, groups_on}
+use Rattle.patch_object.specs.Edits.{change_from, is_group, longest}
 use Rattle.patch_object.proofs.place.+place.Goals as goal
 
-pub place_in-returns-in-None : goal.place_in-returns-in-None
-place_in-returns-in-None t c =
-    let same = placed_nowhere c.args.parts.now c.args.i c.as_str.result.now c.index-parts-i-2.result (data_of c.args.value.now) c.args.object (grind (arith, common_steps)) (grind (arith, common_steps)) (grind (arith, common_steps, c.take.ensures.value, c.in-None.is)) in
-    grind (arith, common_steps, same)
+pub place_in-place_group-requires : goal.place_in-place_group-requires
+place_in-place_group-requires t c =
+    let i = c.args.i in
+    let left = drop c.loop-done.done c.args.edits.now in
+    let n : c.loop-done.done + c.group_len-n.result - c.loop-done.done ≡ c.group_len-n.result = omega arith in
+    let shorter : longest (take (c.loop-done.done + c.group_len-n.result - c.loop-done.done) left) ≤ longest c.args.edits.now = omega (arith, longest_take left (c.loop-done.done + c.group_len-n.result - c.loop-done.done), longest_drop c.args.edits.now c.loop-done.done) in
+    let group : is_group (map (change_from i) (take c.group_len-n.result left)) ≡ true = rw take_rest at c.group_len-n.ensures.group in
+    (omega arith, subst (λ (m : ℕ). is_group (map (change_from i) (take m left)) ≡ true) (sym n) group)
 
-pub place_in-returns-in_ok-put-in-Some : goal.place_in-returns-in_ok-put-in-Some
-place_in-returns-in_ok-put-in-Some t c =
-    let within = placed_within c.args.parts.now c.args.i c.as_str.result.now c.index-parts-i-2.result (data_of c.args.value.now) (data_of c.in-Some.child) c.args.object (grind (arith, common_steps)) (grind (arith, common_steps)) (grind (arith, common_steps, c.take.ensures.value, c.in-Some.is)) (c.take.ensures.was_ordered) in
-    grind (arith, common_steps, within)
+pub place_in-loop-done-preserved : goal.place_in-loop-done-preserved
+place_in-loop-done-preserved t c =
+    let i = c.args.i in
+    let left = drop c.loop-done.done c.args.edits.now in
+    let n : c.loop-done.done + c.group_len-n.result - c.loop-done.done ≡ c.group_len-n.result = omega arith in
+    let made = c.in_ok-cursor.ensures in
+    record {
+      placed = rw made (rw n (groups_on c.args.edits.now i c.loop-done.done c.group_len-n.result c.loop-done.cursor)) ∙ c.loop-done.invariant.placed;
+      bound = omega arith;
+    }

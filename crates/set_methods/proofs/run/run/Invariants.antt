@@ -6,10 +6,10 @@ use Rattle.set_methods.proofs.run.run.Given as goal
 abbrev pub invariant-loop-operation : goal.invariant-loop-operation
 invariant-loop-operation g l = record {
   count : vec_len l.outcomes ≡ l.operation-index;
-  history : g.V.View.history l.view ≡ g.V.View.history l.initial.view;
-  entries : g.V.View.entries l.view ≡ g.V.View.entries l.initial.view;
-  base : g.V.View.base l.view ≡ g.V.View.base l.initial.view;
-  staged : g.V.View.staged l.view ≡ g.V.View.staged l.initial.view ++ flat_map changes_in l.outcomes.items;
-  rest : l.outcomes.items ++ outcomes (ground_in l.setting) l.setting.kind (g.V.View.history l.initial.view ++ g.V.View.staged l.view) (map operation_in (drop l.operation-index l.operations))
-      ≡ outcomes (ground_in l.setting) l.setting.kind (g.V.View.history l.initial.view ++ g.V.View.staged l.initial.view) (map operation_in l.operations);
+  history : g.V.AccountView.history l.view ≡ g.V.AccountView.history l.initial.view;
+  entries : g.V.AccountView.entries l.view ≡ g.V.AccountView.entries l.initial.view;
+  base : g.V.AccountView.base l.view ≡ g.V.AccountView.base l.initial.view;
+  staged : g.V.AccountView.staged l.view ≡ g.V.AccountView.staged l.initial.view ++ flat_map changes_in l.outcomes.items;
+  rest : l.outcomes.items ++ outcomes (ground_in l.setting) l.setting.kind (g.V.AccountView.history l.initial.view ++ g.V.AccountView.staged l.view) (map operation_in (drop l.operation-index l.operations))
+      ≡ outcomes (ground_in l.setting) l.setting.kind (g.V.AccountView.history l.initial.view ++ g.V.AccountView.staged l.initial.view) (map operation_in l.operations);
 }

@@ -1,0 +1,16 @@
+use Rattle.std.proofs.Common.{◌≡◌, false, sym, arith, ◌∙◌}
+use borrow.Author.Count.{below_more}
+use Rattle.std.specs.List.{list_any}
+use Rattle.patch_object.proofs.PointerLemmas.{found_prefix, front_at, no_prefix}
+use Rattle.patch_object.proofs.pointer_set.has_prefix.Goals as goal
+
+pub returns-then-contains : goal.returns-then-contains
+returns-then-contains c = sym (found_prefix c.args.path.now c.loop-end.end c.args.paths.now.keys (sym c.contains.ensures ∙ c.if-contains.true))
+
+pub loop-end-preserved : goal.loop-end-preserved
+loop-end-preserved c =
+    let none : list_any (front_at c.args.path.now c.loop-end.end) c.args.paths.now.keys ≡ false = sym c.contains.ensures ∙ c.if-contains.false in
+    below_more (λ n. list_any (front_at c.args.path.now n) c.args.paths.now.keys ≡ false) c.loop-end.end c.loop-end.invariant none
+
+pub returns : goal.returns
+returns c = sym (no_prefix c.args.path.now c.args.paths.now.keys (λ n h. c.loop-end.invariant n (omega arith)))

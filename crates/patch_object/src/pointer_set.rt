@@ -1,0 +1,72 @@
+//! Pointers among which the prefixes of another are found.
+ghost use Rattle.std.specs.Prelude.{◌≡◌, ◌||◌, IfOk, List, OnOk, [], map, string_bytes, ℕ};
+ghost use Rattle.std.specs.List.{list_any};
+ghost use Rattle.model_json.specs.Patch.{is_prefix};
+ghost use Rattle.patch_object.specs.Paths.{string_parts};
+
+use model_json::text::Text;
+use std::alloc::{AllocError, Global};
+use std::collections::BTreeSet;
+use std::marker::Model;
+
+/// A set of pointers. Contracts see their parts.
+#[derive(Drop)]
+pub(crate) struct PointerSet {
+    paths: BTreeSet<Vec<String>>,
+}
+
+impl Model for PointerSet {
+    ghost use Rattle.std.specs.Prelude.{List, map, ℕ};
+    ghost use Rattle.patch_object.specs.Paths.{string_parts};
+
+    ghost Value = { List (List (List ℕ)) };
+
+    ghost view = { λ a. map string_parts a.paths.keys };
+}
+
+impl PointerSet {
+    /// Has no pointers. Takes no memory.
+    pub(crate) fn new(alloc: Global) -> PointerSet
+        ensures { result ≡ [] }
+    {
+        PointerSet {
+            paths: BTreeSet::new(alloc),
+        }
+    }
+
+    /// Adds the pointer with these parts. Takes memory for a copy of them.
+    pub(crate) fn add(&mut self, alloc: Global, parts: &[Text]) -> Result<(), AllocError>
+        ensures { OnOk result ((ps : List (List ℕ)) → list_any (λ e. is_prefix e ps) self.new ≡ (is_prefix parts.now ps || list_any (λ e. is_prefix e ps) self.old)) }
+    {
+        self.paths.insert(strings(alloc, parts)?)?;
+        Ok(())
+    }
+
+    /// Whether one of the pointers is a prefix of these parts. Takes memory for a copy of them.
+    pub(crate) fn has_prefix_of(&self, alloc: Global, parts: &[Text]) -> Result<bool, AllocError>
+        ensures { IfOk result (λ b. b ≡ list_any (λ e. is_prefix e parts.now) self.now) }
+    {
+        Ok(has_prefix(&self.paths, &strings(alloc, parts)?))
+    }
+}
+
+fn has_prefix(paths: &BTreeSet<Vec<String>>, path: &[String]) -> bool
+    ensures { result ≡ list_any (λ e. is_prefix e (map string_bytes path.now)) (map string_parts paths.now.keys) }
+{
+    for end in 0..path.len() + 1 {
+        if paths.contains(&path[..end]) {
+            return true;
+        }
+    }
+    false
+}
+
+fn strings(alloc: Global, parts: &[Text]) -> Result<Vec<String>, AllocError>
+    ensures { IfOk result (λ v. string_parts v ≡ parts.now) }
+{
+    let mut strings = Vec::with_capacity(alloc, parts.len())?;
+    for part in parts {
+        strings.push(part.copy()?.into_string())?;
+    }
+    Ok(strings)
+}
