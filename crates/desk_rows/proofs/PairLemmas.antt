@@ -46,3 +46,34 @@ module _ (first h h' : Base × List Entry) (left : ℕ) (some : 0 < left) (few :
       subst (λ (k : ℕ). Called (pair_shown first h left) (pair_shown first h' (left - 1)) k call moment (of_desk r)) one_is
       (called r base replied
       (subst (λ (s : Stamp). OnOk r (h'.1 ≡ h.1 ++ added h.0 h.1 call s)) next grown) same)
+
+-- the same of the first account
+module _ (h h' second : Base × List Entry) (left : ℕ) (some : 0 < left) (few : left < 2 ^ 32) (call : Call) (moment : ℤ) where
+  beside_first : h'.0 ≡ h.0 → StaysBeside (pair_shown h second left) (pair_shown h' second (left - 1)) 0
+  beside_first base = record {
+    accounts = refl;
+    rules = refl;
+    turns = omega (arith, some, few);
+    base = λ j. ap (λ (b : Base). if j == 0 then b else second.0) base;
+    author = λ j. refl;
+    seen = λ j other. rw (ne_eqb j 0 other) refl;
+    last = λ j other. omega (arith, some, few);
+  }
+
+  first_called_by : {E : Type 0} (r : Result Reply E) → h'.0 ≡ h.0 → IfOk r (λ x. x ≡ answer h.0 h.1 call moment)
+      → OnOk r (h'.1 ≡ h.1 ++ added h.0 h.1 call (stamp_next left moment)) → OnErr r (h'.1 ≡ h.1)
+      → Called (pair_shown h second left) (pair_shown h' second (left - 1)) 0 call moment (of_desk r)
+  first_called_by (Ok reply) base replied grown same = (
+    omega (arith, some, few),
+    record { beside = beside_first base; history = h.1; begins = ([], sym (append-nil h.1), refl); later = omega (arith, some, few); replied = replied; seen = grown },
+  )
+  first_called_by (Err e) base replied grown same =
+      (omega (arith, some, few), record { beside = beside_first base; begins = ([], same ∙ sym (append-nil h.1), refl); later = omega (arith, some, few) })
+
+  pub first_called : {E : Type 0} (account : ℕ) (stamp : Stamp) (r : Result Reply E) → 0 ≡ account → stamp ≡ stamp_next left moment → h'.0 ≡ h.0
+      → IfOk r (λ x. x ≡ answer h.0 h.1 call moment) → OnOk r (h'.1 ≡ h.1 ++ added h.0 h.1 call stamp) → OnErr r (h'.1 ≡ h.1)
+      → Called (pair_shown h second left) (pair_shown h' second (left - 1)) account call moment (of_desk r)
+  first_called account stamp r zero_is next base replied grown same =
+      subst (λ (k : ℕ). Called (pair_shown h second left) (pair_shown h' second (left - 1)) k call moment (of_desk r)) zero_is
+      (first_called_by r base replied
+      (subst (λ (s : Stamp). OnOk r (h'.1 ≡ h.1 ++ added h.0 h.1 call s)) next grown) same)

@@ -2,6 +2,7 @@
 use Rattle.std.proofs.Common.{◌≡◌, inl, inr, ℕ, zero, suc, ◌==◌, ℤ, pos, ◌+ℤ◌, ◌-ℤ◌, Bool, true, ◌&&◌, List, [], ◌∷◌, Option, Some, None, nat_lt, refl, ap, ◌∙◌, arith}
 use Rattle.std.specs.List.{list_any, list_all}
 use Rattle.jiff_core.proofs.SignedLemmas.{signed_arith}
+use Rattle.std.proofs.lemmas.Bool.Decides.{nat_tests}
 use borrow.Author.Tests.{eqb-true}
 use Rattle.model_time.specs.CivilDay.{cycles_later, weekday_of}
 use Rattle.model_series.specs.declared.by_part.Freq.{Freq}
@@ -80,7 +81,7 @@ empty-same t p r h (x ∷ xs) all = any-same t p r h (x ∷ xs) all
 
 empty-any : (p : ℤ → Bool) (xs : List ℤ) → is_empty xs ≡ true → empty_or_any p xs ≡ true
 empty-any p [] h = refl
-empty-any p (x ∷ xs) h = absurd (false_true h)
+empty-any p (x ∷ xs) h = grind (arith, nat_tests)
 
 matches-week : (r : Rule) → is_of_weekdays r ≡ true → (n : ℤ) → day_matches r (week_later n) ≡ day_matches r n
 unfolding day_matches

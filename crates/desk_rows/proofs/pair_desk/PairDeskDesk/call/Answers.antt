@@ -5,7 +5,7 @@ use Rattle.model_call.specs.declared.call.Reply.{Reply}
 use Rattle.model_batch.specs.declared.desk.DeskError.{DeskError}
 use Rattle.model_history.specs.declared.stamp.Stamp.{Stamp}
 use Rattle.desk_rows.specs.Pair.{pair_shown}
-use Rattle.desk_rows.proofs.PairLemmas.{second_called, stamp_next}
+use Rattle.desk_rows.proofs.PairLemmas.{first_called, second_called, stamp_next}
 use Rattle.desk_rows.proofs.pair_desk.PairDeskDesk.call.Goals as goal
 
 pub returns-else-account-eq0 : goal.returns-else-account-eq0
@@ -21,4 +21,18 @@ returns-else-account-eq0 c =
       called =
           subst (λ (r : Result Reply DeskError). Called (pair_shown d.first d.second d.calls_left) (pair_shown d.first act.new.self (d.calls_left - 1)) c.args.account c.args.call.now c.args.moment r) (sym c.as_of_desk-else-account-eq0.ensures)
           (second_called d.first d.second act.new.self d.calls_left some few c.args.call.now c.args.moment c.args.account stamp act.result c.requires c.if-account-eq0.false next e.base e.reply e.grown e.unchanged);
+    }
+
+pub returns-then-account-eq0 : goal.returns-then-account-eq0
+returns-then-account-eq0 c =
+    let d = c.args.self.now in
+    let e = c.act.ensures in
+    let some : 0 < d.calls_left = search rules in
+    let few : d.calls_left < 2 ^ 32 = search rules in
+    let stamp : Stamp = record { author = 0; turn = most_turns - c.from-turn.result; moment = c.args.moment } in
+    let next : stamp ≡ stamp_next d.calls_left c.args.moment = λ i. record { author = 0; turn = most_turns - c.from-turn.ensures i; moment = c.args.moment } in
+    record {
+      called =
+          subst (λ (r : Result Reply DeskError). Called (pair_shown d.first d.second d.calls_left) (pair_shown c.act.new.self d.second (d.calls_left - 1)) c.args.account c.args.call.now c.args.moment r) (sym c.as_of_desk.ensures)
+          (first_called d.first c.act.new.self d.second d.calls_left some few c.args.call.now c.args.moment c.args.account stamp c.act.result (sym c.if-account-eq0.true) next e.base e.reply e.grown e.unchanged);
     }
