@@ -205,22 +205,65 @@ fn assert_full(
     assert_set(rt, alloc, account, "{\"a\":{\"name\":\"A\"}}", &outcome)
 }
 
+/// Asserts what a set of each operation comes to.
+fn assert_each(
+    rt: &impl Abort,
+    alloc: Global,
+    account: &mut Account,
+    reply: &str,
+) -> Result<(), Fail> {
+    let call = set_of_each(alloc)?;
+    assert_reply(rt, alloc, account, &call, reply)
+}
+
+/// Asserts that of the calendars of a JSON object the one of a key is created with this number, and the other one is refused.
+fn assert_last(
+    rt: &impl Abort,
+    alloc: Global,
+    account: &mut Account,
+    creates: &str,
+    key: &str,
+    number: u32,
+    beyond: &str,
+) -> Result<(), Fail> {
+    let last = created(alloc, key, number)?;
+    let refused = refused(alloc, beyond)?;
+    let outcome = Outcome {
+        states: (number - 1, number),
+        created: last.as_str(),
+        refused: refused.as_str(),
+    };
+    assert_set(rt, alloc, account, creates, &outcome)
+}
+
+/// Asserts that a call is refused for this reason.
+fn assert_refused(
+    rt: &impl Abort,
+    account: &mut Account,
+    call: &Call,
+    error: MethodError,
+) -> Result<(), Fail> {
+    let replied = account.act(0, 50_001, call, Moment::clamped(MOMENT))?;
+    assert_eq!(rt; replied.error, Some(error));
+    Ok(())
+}
+
 #[test]
 fn fifty_thousand_entries_are_the_most(rt: HostRuntime) -> Result<(), Fail> {
     let alloc = rt.alloc();
     let mut account = filled(alloc, 49_999, "n")?;
-    let last = created(alloc, "a", 50_000)?;
-    let beyond = refused(alloc, "b")?;
-    let outcome = Outcome {
-        states: (49_999, 50_000),
-        created: last.as_str(),
-        refused: beyond.as_str(),
-    };
     let creates = "{\"a\":{\"name\":\"A\"},\"b\":{\"name\":\"B\"}}";
-    assert_set(&rt, alloc, &mut account, creates, &outcome)?;
+    assert_last(&rt, alloc, &mut account, creates, "a", 50_000, "b")?;
     assert_full(&rt, alloc, &mut account, 50_000)?;
-    let each = set_of_each(alloc)?;
-    assert_reply(&rt, alloc, &mut account, &each, ALL_REFUSED)
+    assert_each(&rt, alloc, &mut account, ALL_REFUSED)
+}
+
+/// Asserts that a page is told from state 1, and that none is from state 0.
+fn assert_pages(rt: &impl Abort, alloc: Global, account: &mut Account) -> Result<(), Fail> {
+    let last = changes_since(alloc, "1")?;
+    assert_reply(rt, alloc, account, &last, FIRST_PAGE)?;
+    let beyond = changes_since(alloc, "0")?;
+    assert_refused(rt, account, &beyond, MethodError::CannotCalculateChanges)
 }
 
 // The state behind 4,097 changes tells of those behind state 1, and no longer of those behind state 0.
@@ -228,12 +271,13 @@ fn fifty_thousand_entries_are_the_most(rt: HostRuntime) -> Result<(), Fail> {
 fn changes_are_told_of_the_last_4096_states(rt: HostRuntime) -> Result<(), Fail> {
     let alloc = rt.alloc();
     let mut account = filled(alloc, 4097, "n")?;
-    let last = changes_since(alloc, "1")?;
-    assert_reply(&rt, alloc, &mut account, &last, FIRST_PAGE)?;
-    let beyond = changes_since(alloc, "0")?;
-    let replied = account.act(0, 50_001, &beyond, Moment::clamped(MOMENT))?;
-    assert_eq!(rt; replied.error, Some(MethodError::CannotCalculateChanges));
-    Ok(())
+    assert_pages(&rt, alloc, &mut account)
+}
+
+/// A JSON object of a calendar `a` whose name is a byte longer than that of a calendar `b`, which has `size` bytes.
+fn longer_and_shorter(alloc: Global, size: usize) -> Result<String, AllocError> {
+    let name = "n".repeat(alloc, size)?;
+    format!(in alloc; "{{\"a\":{{\"name\":\"n{name}\"}},\"b\":{{\"name\":\"{name}\"}}}}")
 }
 
 // The compact text of calendar 1 with an empty name is 140 bytes long. 42,075 calendars with names of 255 bytes have
@@ -241,20 +285,9 @@ fn changes_are_told_of_the_last_4096_states(rt: HostRuntime) -> Result<(), Fail>
 #[test]
 fn a_create_that_fits_is_taken_where_a_longer_one_is_refused(rt: HostRuntime) -> Result<(), Fail> {
     let alloc = rt.alloc();
+    let creates = longer_and_shorter(alloc, 253)?;
     let mut account = filled(alloc, 42_075, "n".repeat(alloc, 255)?.as_str())?;
-    let fitting = "n".repeat(alloc, 253)?;
-    let creates = format!(in alloc;
-        "{{\"a\":{{\"name\":\"n{fitting}\"}},\"b\":{{\"name\":\"{fitting}\"}}}}"
-    )?;
-    let last = created(alloc, "b", 42_076)?;
-    let beyond = refused(alloc, "a")?;
-    let outcome = Outcome {
-        states: (42_075, 42_076),
-        created: last.as_str(),
-        refused: beyond.as_str(),
-    };
-    assert_set(&rt, alloc, &mut account, creates.as_str(), &outcome)?;
+    assert_last(&rt, alloc, &mut account, creates.as_str(), "b", 42_076, "a")?;
     assert_full(&rt, alloc, &mut account, 42_076)?;
-    let each = set_of_each(alloc)?;
-    assert_reply(&rt, alloc, &mut account, &each, TEXT_REFUSED)
+    assert_each(&rt, alloc, &mut account, TEXT_REFUSED)
 }
