@@ -229,7 +229,7 @@ fn assert_last(
     let last = created(alloc, key, number)?;
     let refused = refused(alloc, beyond)?;
     let outcome = Outcome {
-        states: (number - 1, number),
+        states: (number.saturating_sub(1), number),
         created: last.as_str(),
         refused: refused.as_str(),
     };
