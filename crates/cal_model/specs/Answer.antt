@@ -16,7 +16,6 @@ use Rattle.model_history.specs.History.{changes_of}
 use Rattle.model_history.specs.declared.entry.Change.{Change}
 use Rattle.model_history.specs.declared.entry.Entry.{Entry}
 use Rattle.model_history.specs.declared.entry.Kind.{Kind}
-use Rattle.model_history.specs.declared.entry.Kind.TheVariants.{Calendar, Event}
 use Rattle.model_history.specs.declared.stamp.Stamp.{Stamp}
 use Rattle.model_json.specs.declared.tree.Tree.{Tree}
 use Rattle.model_json.specs.declared.tree.Tree.TheVariants.{Null}
@@ -28,15 +27,6 @@ answered h arguments created = record { arguments = arguments; error = None; cre
 abbrev pub refused : List Entry → MethodError → Reply
 refused h error = record { arguments = Null; error = Some error; created = []; place = length h }
 
--- events aren't built yet
-abbrev pub if_built : List Entry → Kind → Reply → Reply
-if_built h Calendar reply = reply
-if_built h Event reply = refused h NotBuilt
-
-abbrev pub changes_if_built : Kind → List Change → List Change
-changes_if_built Calendar cs = cs
-changes_if_built Event cs = []
-
 abbrev pub unless_error : List Entry → Option MethodError → Reply → Reply
 unless_error h None reply = reply
 unless_error h (Some e) reply = refused h e
@@ -46,9 +36,9 @@ abbrev pub unless_refused : Option MethodError → List Change → List Change
 unless_refused None cs = cs
 unless_refused (Some e) cs = []
 
-abbrev pub get_answer : List ℕ → List Entry → List (List ℕ × List ℕ) → Option (List (List ℕ)) → Option (List (List ℕ)) → Reply
-get_answer account h created ids properties = unless_error h (get_error (changes_of h) ids properties) (answered h (get_response account (changes_of h)
-    (map (selected properties) (objects_asked (changes_of h) Calendar created ids)) (ids_not_found (changes_of h) Calendar created ids)) [])
+abbrev pub get_answer : List ℕ → List Entry → Kind → List (List ℕ × List ℕ) → Option (List (List ℕ)) → Option (List (List ℕ)) → Reply
+get_answer account h kind created ids properties = unless_error h (get_error kind (changes_of h) ids properties) (answered h (get_response account kind (changes_of h)
+    (map (selected properties) (objects_asked (changes_of h) kind created ids)) (ids_not_found (changes_of h) kind created ids)) [])
 
 abbrev pub changes_answer : List ℕ → List Entry → Kind → List ℕ → Option ℤ → Reply
 changes_answer account h kind since most = unless_error h (changes_refusal kind (changes_of h) since most)
@@ -67,9 +57,9 @@ module _ (base : Base) (h : List Entry) (moment : ℤ) (kind : Kind) (created : 
 
 module _ (base : Base) (h : List Entry) (moment : ℤ) (created : List (List ℕ × List ℕ)) where
   abbrev pub answer_to : Asks → Reply
-  answer_to (Get kind ids properties) = if_built h kind (get_answer base.account_id h created ids properties)
-  answer_to (Changes kind since most) = if_built h kind (changes_answer base.account_id h kind since most)
-  answer_to (Set kind if_in_state create update destroy remove_events) = if_built h kind (set_answer base h moment kind created (objects create update destroy) if_in_state remove_events)
+  answer_to (Get kind ids properties) = get_answer base.account_id h kind created ids properties
+  answer_to (Changes kind since most) = changes_answer base.account_id h kind since most
+  answer_to (Set kind if_in_state create update destroy remove_events) = set_answer base h moment kind created (objects create update destroy) if_in_state remove_events
   answer_to (Query filter sort position anchor anchor_offset limit calculate_total expand time_zone) = refused h NotBuilt
   answer_to (QueryChanges filter sort since most up_to calculate_total expand time_zone) = refused h NotBuilt
   answer_to (Availability id utc_start utc_end time_zone) = refused h NotBuilt
@@ -78,7 +68,7 @@ module _ (base : Base) (h : List Entry) (moment : ℤ) (created : List (List ℕ
   abbrev pub changes_by : Asks → List Change
   changes_by (Get kind ids properties) = []
   changes_by (Changes kind since most) = []
-  changes_by (Set kind if_in_state create update destroy remove_events) = changes_if_built kind (set_added base h moment kind created (objects create update destroy) if_in_state remove_events)
+  changes_by (Set kind if_in_state create update destroy remove_events) = set_added base h moment kind created (objects create update destroy) if_in_state remove_events
   changes_by (Query filter sort position anchor anchor_offset limit calculate_total expand time_zone) = []
   changes_by (QueryChanges filter sort since most up_to calculate_total expand time_zone) = []
   changes_by (Availability id utc_start utc_end time_zone) = []

@@ -1,6 +1,6 @@
 -- A reply says how many entries went before it.
 use Rattle.std.proofs.Common.{◌≡◌, ℕ, ℤ, List, Option, Some, None, length, refl}
-use Rattle.cal_model.specs.Answer.{answer, answer_to, if_built, unless_error}
+use Rattle.cal_model.specs.Answer.{answer, answer_to, unless_error}
 use Rattle.model_history.specs.Base.{Base}
 use Rattle.model_call.specs.declared.call.Asks.{Asks}
 use Rattle.model_call.specs.declared.call.Asks.TheVariants.{Availability, Changes, Get, Query, QueryChanges, Set}
@@ -8,21 +8,15 @@ use Rattle.model_call.specs.declared.call.Call.{Call}
 use Rattle.model_call.specs.declared.call.MethodError.{MethodError}
 use Rattle.model_call.specs.declared.call.Reply.{Reply}
 use Rattle.model_history.specs.declared.entry.Entry.{Entry}
-use Rattle.model_history.specs.declared.entry.Kind.{Kind}
-use Rattle.model_history.specs.declared.entry.Kind.TheVariants.{Calendar, Event}
 
 placed_unless : (h : List Entry) (e : Option MethodError) (r : Reply) → r.place ≡ length h → (unless_error h e r).place ≡ length h
 placed_unless h None r is = is
 placed_unless h (Some e) r is = refl
 
-placed_built : (h : List Entry) (kind : Kind) (r : Reply) → r.place ≡ length h → (if_built h kind r).place ≡ length h
-placed_built h Calendar r is = is
-placed_built h Event r is = refl
-
 placed : (b : Base) (h : List Entry) (m : ℤ) (created : List (List ℕ × List ℕ)) (a : Asks) → (answer_to b h m created a).place ≡ length h
-placed b h m created (Get kind ids properties) = placed_built h kind _ (placed_unless h _ _ refl)
-placed b h m created (Changes kind since most) = placed_built h kind _ (placed_unless h _ _ refl)
-placed b h m created (Set kind if_in_state create update destroy remove_events) = placed_built h kind _ (placed_unless h _ _ refl)
+placed b h m created (Get kind ids properties) = placed_unless h _ _ refl
+placed b h m created (Changes kind since most) = placed_unless h _ _ refl
+placed b h m created (Set kind if_in_state create update destroy remove_events) = placed_unless h _ _ refl
 placed b h m created (Query filter sort position anchor anchor_offset limit calculate_total expand time_zone) = refl
 placed b h m created (QueryChanges filter sort since most up_to calculate_total expand time_zone) = refl
 placed b h m created (Availability id utc_start utc_end time_zone) = refl

@@ -5,6 +5,7 @@ use Rattle.std.specs.Str.{bytes_eq}
 use Rattle.cal_model.specs.Calendar.{is_calendar_property}
 use Rattle.cal_model.specs.CreatedIds.{different, object_with_id, resolved_id}
 use Rattle.model_json.specs.Data.{Data, text, list, object, Pair, items_of, members_of}
+use Rattle.model_core.specs.Names.{is_name}
 use Rattle.model_core.specs.declared.limits.TheConstants.{MAX_OBJECTS_IN_GET}
 use Rattle.model_history.specs.History.{live_object, live_at}
 use Rattle.model_history.specs.ObjectId.{object_number, state_text}
@@ -14,7 +15,7 @@ use Rattle.model_call.specs.declared.call.MethodError.{MethodError}
 use Rattle.model_call.specs.declared.call.MethodError.TheVariants.{InvalidArguments, RequestTooLarge}
 use Rattle.model_history.specs.declared.entry.Change.{Change}
 use Rattle.model_history.specs.declared.entry.Kind.{Kind}
-use Rattle.model_history.specs.declared.entry.Kind.TheVariants.{Calendar}
+use Rattle.model_history.specs.declared.entry.Kind.TheVariants.{Calendar, Event}
 use Rattle.model_json.specs.declared.tree.Tree.{Tree}
 use Rattle.model_json.specs.declared.tree.Tree.TheVariants.{Object}
 
@@ -43,17 +44,22 @@ abbrev pub count_asked : List Change → Kind → Option (List (List ℕ)) → �
 count_asked cs kind None = length (live_at cs kind)
 count_asked cs kind (Some ids) = length ids
 
-abbrev pub are_calendar_properties : Option (List (List ℕ)) → Bool
-are_calendar_properties None = true
-are_calendar_properties (Some names) = list_all is_calendar_property names
+-- a calendar has its properties alone; an event may have any
+abbrev pub is_property : Kind → List ℕ → Bool
+is_property Calendar name = is_calendar_property name
+is_property Event name = is_name name
 
--- why a get of calendars is refused: a property that calendars don't have, then too many objects
-abbrev pub get_error : List Change → Option (List (List ℕ)) → Option (List (List ℕ)) → Option MethodError
-get_error cs ids properties =
-    if not (are_calendar_properties properties) then Some InvalidArguments
-    else if nat_lt MAX_OBJECTS_IN_GET (count_asked cs Calendar ids) then Some RequestTooLarge else None
+abbrev pub are_properties : Kind → Option (List (List ℕ)) → Bool
+are_properties kind None = true
+are_properties kind (Some names) = list_all (is_property kind) names
 
-abbrev pub get_response : List ℕ → List Change → List Data → List (List ℕ) → Tree
-get_response account cs objects missing = Object (
+-- why a get is refused: a name that no property of the kind has, then too many objects
+abbrev pub get_error : Kind → List Change → Option (List (List ℕ)) → Option (List (List ℕ)) → Option MethodError
+get_error kind cs ids properties =
+    if not (are_properties kind properties) then Some InvalidArguments
+    else if nat_lt MAX_OBJECTS_IN_GET (count_asked cs kind ids) then Some RequestTooLarge else None
+
+abbrev pub get_response : List ℕ → Kind → List Change → List Data → List (List ℕ) → Tree
+get_response account kind cs objects missing = Object (
     (codes "accountId", text account) ∷ (codes "list", list (items_of objects))
-    ∷ (codes "notFound", list (items_of (map text missing))) ∷ (codes "state", text (state_text Calendar cs)) ∷ [])
+    ∷ (codes "notFound", list (items_of (map text missing))) ∷ (codes "state", text (state_text kind cs)) ∷ [])

@@ -3,11 +3,13 @@ use Rattle.std.specs.Prelude.{ℕ, ℤ, List, [], ◌∷◌, ◌++◌, Bool, tru
 use Rattle.std.specs.Option.{option_map_or}
 use Rattle.std.specs.Str.{bytes_eq}
 use Rattle.cal_model.specs.Calendar.{bad_properties, calendar_in, stored}
-use Rattle.cal_model.specs.CreatedIds.{object_named}
+use Rattle.cal_model.specs.CreatedIds.{object_named, resolved_object, resolved_patch}
+use Rattle.cal_model.specs.EventObject.{event_members, has_event, has_other_uid, is_in_no_calendar}
 use Rattle.cal_model.specs.Quota.{exceeds_quota, size_of_object}
 use Rattle.cal_model.specs.declared.outcome.Outcome.{Outcome}
 use Rattle.cal_model.specs.declared.outcome.Outcome.TheVariants.{Accepted, Refused}
-use Rattle.cal_model.specs.declared.set_error.SetError.TheVariants.{InvalidPatch, InvalidProperties, NotBuilt, NotFound, OverQuota, WillDestroy}
+use Rattle.cal_model.specs.declared.set_error.SetError.TheVariants.{CalendarHasEvent, InvalidPatch, InvalidProperties, NotBuilt, NotFound, OverQuota, WillDestroy}
+use Rattle.model_event.specs.Events.{bad_event_properties, has_recurrence}
 use Rattle.model_history.specs.Base.{Base}
 use Rattle.model_history.specs.History.{next_number}
 use Rattle.model_history.specs.ObjectId.{id_text}
@@ -29,10 +31,9 @@ pub record Ground : Type 0 where
   pub base : Base
   pub moment : ℤ
 
--- One object of a set: created from what the client gives; updated by a patch, with whether the call also destroys it and whether
--- an earlier update of the call names it; or destroyed.
+-- One object that a set changes: updated by a patch, with whether the call also destroys it and whether an earlier update of the
+-- call names it; or destroyed.
 pub data Operation : Type 0 where
-  create : List Pair → Operation
   update : List ℕ → List Pair → Bool → Bool → Operation
   destroy : List ℕ → Operation
 
@@ -75,39 +76,73 @@ module _ (g : Ground) (cs : List Change) where
       (put Calendar n (stored (calendar_in (with_own_id Calendar n ps))))
       (with_name_if names_id (codes "id") (bad_properties g.base.zones (with_own_id Calendar n ps)))
 
-  abbrev pub object_outcome : Kind → ℕ → Bool → List Pair → Outcome
-  object_outcome Calendar n names_id ps = calendar_outcome n names_id ps
-  object_outcome Event n names_id ps = Refused NotBuilt
+  -- the bad properties of an event, with those that its account and what it was before make bad
+  abbrev pub bad_of_event : Option Tree → Bool → Data → List (List ℕ)
+  bad_of_event before names_id d = with_name_if names_id (codes "id") (with_name_if (has_other_uid before d) (codes "uid")
+      (with_name_if (is_in_no_calendar cs d) (codes "calendarIds") (bad_event_properties g.base.zones d)))
+
+  abbrev pub stored_event_outcome : ℕ → Option Tree → Bool → List Pair → Outcome
+  stored_event_outcome n before names_id ps = if has_recurrence (object (members_of ps)) then Refused NotBuilt
+      else after_tests cs (put Event n ps) (bad_of_event before names_id (object (members_of ps)))
+
+  -- what comes of storing event n with these members, in place of what it was before
+  abbrev pub event_outcome : ℕ → Option Tree → Bool → List Pair → Outcome
+  event_outcome n before names_id ps = stored_event_outcome n before names_id (event_members g.base.account_id g.moment n before ps)
+
+  abbrev pub object_outcome : Kind → ℕ → Option Tree → Bool → List Pair → Outcome
+  object_outcome Calendar n before names_id ps = calendar_outcome n names_id ps
+  object_outcome Event n before names_id ps = event_outcome n before names_id ps
 
   -- a new object has no id yet
   abbrev pub created_outcome : Kind → List Pair → Outcome
-  created_outcome kind ps = object_outcome kind (next_number cs kind) (is_some (lookup (codes "id") (given ps))) ps
+  created_outcome kind ps = object_outcome kind (next_number cs kind) None (is_some (lookup (codes "id") (given ps))) ps
 
-  abbrev pub patched_outcome : Kind → ℕ → Result Data (List ℕ) → Outcome
-  patched_outcome kind n (Err key) = Refused (InvalidPatch key)
-  patched_outcome kind n (Ok d) = object_outcome kind n (has_other_id kind n (members_in d)) (members_in d)
+  abbrev pub patched_outcome : Kind → ℕ → Tree → Result Data (List ℕ) → Outcome
+  patched_outcome kind n before (Err key) = Refused (InvalidPatch key)
+  patched_outcome kind n before (Ok d) = object_outcome kind n (Some before) (has_other_id kind n (members_in d)) (members_in d)
 
   abbrev pub updated_outcome : Kind → List Pair → Bool → Bool → Option (ℕ × Tree) → Outcome
   updated_outcome kind patch is_destroyed is_repeated None = Refused NotFound
   updated_outcome kind patch true is_repeated (Some q) = Refused WillDestroy
   updated_outcome kind patch false true (Some q) = Refused (InvalidPatch [])
-  updated_outcome kind patch false false (Some q) = patched_outcome kind q.0 (patched (data_of q.1) patch)
+  updated_outcome kind patch false false (Some q) = patched_outcome kind q.0 q.1 (patched (data_of q.1) patch)
+
+  -- a calendar in which events are stays
+  abbrev pub is_in_use : Kind → ℕ → Bool
+  is_in_use Calendar n = has_event cs n
+  is_in_use Event n = false
 
   abbrev pub destroyed_outcome : Kind → Option (ℕ × Tree) → Outcome
   destroyed_outcome kind None = Refused NotFound
-  destroyed_outcome kind (Some q) = within_quota cs (removal kind q.0)
+  destroyed_outcome kind (Some q) = if is_in_use kind q.0 then Refused CalendarHasEvent else within_quota cs (removal kind q.0)
 
-  -- the first reason why an operation is refused after these changes, or else the change that it makes
-  abbrev pub outcome_of : Kind → Operation → Outcome
-  outcome_of kind (create ps) = created_outcome kind ps
-  outcome_of kind (update id patch is_destroyed is_repeated) = updated_outcome kind patch is_destroyed is_repeated (object_named cs kind id)
-  outcome_of kind (destroy id) = destroyed_outcome kind (object_named cs kind id)
+  -- the first reason why an operation is refused after these changes, or else the change that it makes, where the request has
+  -- created these ids
+  abbrev pub outcome_of : Kind → List (List ℕ × List ℕ) → Operation → Outcome
+  outcome_of kind created (update id patch is_destroyed is_repeated) =
+      updated_outcome kind (resolved_patch created kind patch) is_destroyed is_repeated (object_named cs kind id)
+  outcome_of kind created (destroy id) = destroyed_outcome kind (object_named cs kind id)
 
 abbrev pub changes_in : Outcome → List Change
 changes_in (Accepted c) = c ∷ []
 changes_in (Refused e) = []
 
+-- a creation id and the id that the object got
+abbrev pub created_id : Pair → Outcome → List (List ℕ × List ℕ)
+created_id p (Accepted c) = (p.0, id_text c.kind c.id) ∷ []
+created_id p (Refused e) = []
+
+-- what comes of a create, given under its creation id, where the request has created these ids
+abbrev pub create_outcome : Ground → Kind → List (List ℕ × List ℕ) → List Change → Pair → Outcome
+create_outcome g kind created cs p = created_outcome g cs kind (resolved_object created kind (members_in p.1))
+
+-- what comes of creates, each after the changes of those before it and with the ids that they created
+abbrev pub outcomes_of_creates : Ground → Kind → List (List ℕ × List ℕ) → List Change → List Pair → List Outcome
+outcomes_of_creates g kind created cs [] = []
+outcomes_of_creates g kind created cs (p ∷ ps) = create_outcome g kind created cs p
+    ∷ outcomes_of_creates g kind (created ++ created_id p (create_outcome g kind created cs p)) (cs ++ changes_in (create_outcome g kind created cs p)) ps
+
 -- what comes of operations, each after the changes of those before it
-abbrev pub outcomes : Ground → Kind → List Change → List Operation → List Outcome
-outcomes g kind cs [] = []
-outcomes g kind cs (o ∷ os) = outcome_of g cs kind o ∷ outcomes g kind (cs ++ changes_in (outcome_of g cs kind o)) os
+abbrev pub outcomes : Ground → Kind → List (List ℕ × List ℕ) → List Change → List Operation → List Outcome
+outcomes g kind created cs [] = []
+outcomes g kind created cs (o ∷ os) = outcome_of g cs kind created o ∷ outcomes g kind created (cs ++ changes_in (outcome_of g cs kind created o)) os

@@ -1,5 +1,6 @@
 -- What the reply to a set tells (RFC 8620 section 5.3).
 use Rattle.std.specs.Prelude.{ℕ, List, [], ◌∷◌, ◌++◌, Bool, false, not, Option, Some, None, codes, filter, option_map, unwrap_or}
+use Rattle.std.specs.Str.{bytes_eq}
 use Rattle.cal_model.specs.Operations.{Ground}
 use Rattle.cal_model.specs.SetErrors.{set_error}
 use Rattle.cal_model.specs.Sets.{Objects, create_outcomes, destroy_outcomes, ids_to_destroy, of_each, set_changes, update_outcomes}
@@ -8,6 +9,7 @@ use Rattle.cal_model.specs.declared.outcome.Outcome.TheVariants.{Accepted, Refus
 use Rattle.model_history.specs.ObjectId.{id_text, state_text}
 use Rattle.model_history.specs.declared.entry.Change.{Change}
 use Rattle.model_history.specs.declared.entry.Kind.{Kind}
+use Rattle.model_history.specs.declared.entry.Kind.TheVariants.{Calendar, Event}
 use Rattle.model_json.specs.Data.{Data, Pair, items_of, list, lookup, members_of, null, object, text}
 use Rattle.model_json.specs.Edit.{put_all}
 use Rattle.model_json.specs.Parts.{members_in}
@@ -32,9 +34,14 @@ abbrev pub created_member : Pair → Outcome → List Pair
 created_member p (Accepted c) = (p.0, object (members_of (members_beyond (members_in p.1) (members_stored c)))) ∷ []
 created_member p (Refused e) = []
 
--- what `updated` tells of an accepted update: nothing was changed that the client doesn't know
+-- what an update changed that the client doesn't know: of an event, when it was updated
+abbrev pub news_of : Kind → Change → Data
+news_of Calendar c = null
+news_of Event c = object (members_of (filter (λ p. bytes_eq p.0 (codes "updated")) (members_stored c)))
+
+-- what `updated` tells of an accepted update
 abbrev pub updated_member : Pair → Outcome → List Pair
-updated_member p (Accepted c) = (id_text c.kind c.id, null) ∷ []
+updated_member p (Accepted c) = (id_text c.kind c.id, news_of c.kind c) ∷ []
 updated_member p (Refused e) = []
 
 -- what `destroyed` tells of an accepted destroy

@@ -3,14 +3,13 @@ use Rattle.std.specs.Prelude.{ℕ, ◌+◌, ◌∷◌, ◌++◌, ◌&&◌, Bool,
 use Rattle.std.specs.List.{list_all, list_any, zip}
 use Rattle.std.specs.Str.{bytes_eq}
 use Rattle.cal_model.specs.CreatedIds.{resolved_id}
-use Rattle.cal_model.specs.Operations.{Ground, Operation, changes_in, create, destroy, outcomes, update}
+use Rattle.cal_model.specs.Operations.{Ground, Operation, changes_in, created_id, destroy, outcomes, outcomes_of_creates, update}
 use Rattle.cal_model.specs.declared.outcome.Outcome.{Outcome}
-use Rattle.cal_model.specs.declared.outcome.Outcome.TheVariants.{Accepted, Refused}
 use Rattle.model_call.specs.declared.call.MethodError.{MethodError}
 use Rattle.model_call.specs.declared.call.MethodError.TheVariants.{InvalidArguments, RequestTooLarge, StateMismatch}
 use Rattle.model_core.specs.Id.{is_id}
 use Rattle.model_core.specs.declared.limits.TheConstants.{MAX_OBJECTS_IN_SET}
-use Rattle.model_history.specs.ObjectId.{id_text, state_text}
+use Rattle.model_history.specs.ObjectId.{state_text}
 use Rattle.model_history.specs.declared.entry.Change.{Change}
 use Rattle.model_history.specs.declared.entry.Kind.{Kind}
 use Rattle.model_json.specs.Data.{Data, Pair}
@@ -53,11 +52,6 @@ names_id found id = list_any (λ q. bytes_eq q.1 id) found
 abbrev pub of_each : {X Y : Type 0} → (X → Outcome → List Y) → List X → List Outcome → List Y
 of_each f xs os = flat_map (λ q. f q.0 q.1) (zip xs os)
 
--- a creation id and the id that the object got
-abbrev pub created_id : Pair → Outcome → List (List ℕ × List ℕ)
-created_id p (Accepted c) = (p.0, id_text c.kind c.id) ∷ []
-created_id p (Refused e) = []
-
 module _ (created : List (List ℕ × List ℕ)) where
   -- the ids of these texts, each once under the first text that stands for it
   abbrev pub ids_named : List (List ℕ) → List NamedId
@@ -74,7 +68,7 @@ module _ (created : List (List ℕ × List ℕ)) where
 -- `#key` may name what this call creates.
 module _ (g : Ground) (kind : Kind) (created : List (List ℕ × List ℕ)) (cs : List Change) (s : Objects) where
   abbrev pub create_outcomes : List Outcome
-  create_outcomes = outcomes g kind cs (map (λ p. create (members_in p.1)) s.creates)
+  create_outcomes = outcomes_of_creates g kind created cs s.creates
 
   -- the ids that this call's creates add
   abbrev pub new_ids : List (List ℕ × List ℕ)
@@ -90,13 +84,13 @@ module _ (g : Ground) (kind : Kind) (created : List (List ℕ × List ℕ)) (cs 
   ids_to_destroy = ids_named all_ids s.destroys
 
   abbrev pub update_outcomes : List Outcome
-  update_outcomes = outcomes g kind after_creates (updates_after all_ids ids_to_destroy [] s.updates)
+  update_outcomes = outcomes g kind all_ids after_creates (updates_after all_ids ids_to_destroy [] s.updates)
 
   abbrev pub after_updates : List Change
   after_updates = after_creates ++ flat_map changes_in update_outcomes
 
   abbrev pub destroy_outcomes : List Outcome
-  destroy_outcomes = outcomes g kind after_updates (map (λ q. destroy q.1) ids_to_destroy)
+  destroy_outcomes = outcomes g kind all_ids after_updates (map (λ q. destroy q.1) ids_to_destroy)
 
   abbrev pub set_outcomes : List Outcome
   set_outcomes = create_outcomes ++ (update_outcomes ++ destroy_outcomes)

@@ -22,6 +22,8 @@ pub enum SetError {
         /// All of them, in byte order.
         properties: Texts,
     },
+    /// A live event is in the calendar that would be destroyed.
+    CalendarHasEvent,
     /// The account would have more than it may.
     OverQuota,
     /// The form of the object isn't built.
@@ -38,6 +40,7 @@ impl SetError {
             SetError::WillDestroy => "willDestroy",
             SetError::InvalidPatch { .. } => "invalidPatch",
             SetError::InvalidProperties { .. } => "invalidProperties",
+            SetError::CalendarHasEvent => "calendarHasEvent",
             SetError::OverQuota => "overQuota",
             SetError::NotBuilt => "notBuilt",
         }

@@ -1,5 +1,6 @@
 //! What a set sees of an account while it is planned.
 ghost use Rattle.std.specs.Prelude.{◌≡◌, ◌≤◌, ◌++◌, ◌∷◌, [], List, OnErr, OnOk, length, option_map};
+ghost use Rattle.cal_model.specs.EventObject.{has_event};
 ghost use Rattle.cal_model.specs.Quota.{IsFit, size_of, size_of_object};
 ghost use Rattle.cal_model.specs.declared.limits.TheConstants.{MAX_ENTRIES, MAX_OBJECT_BYTES};
 ghost use Rattle.model_history.specs.Base.{Base};
@@ -27,6 +28,10 @@ pub trait AccountView {
     /// The object of a kind and number, where it is live. Takes no memory.
     fn live(&self, kind: Kind, id: u64) -> Option<&Tree>
         ensures { option_map (λ t. t.now) result ≡ live_object (history self.now ++ staged self.now) kind id };
+
+    /// Whether a live event is in a calendar of this number. Takes no memory, and time with the number of events.
+    fn has_event(&self, calendar: u64) -> bool
+        ensures { result ≡ has_event (history self.now ++ staged self.now) calendar };
 
     /// How many objects of a kind were created. Takes no memory.
     fn created_so_far(&self, kind: Kind) -> u64

@@ -1,7 +1,7 @@
 -- What an operation of a set stands for, what it is judged against, and when its change may be staged.
 use Rattle.std.specs.Prelude.{◌≡◌, ◌⊎◌, ℕ, List, true, is_some}
 use Rattle.cal_model.specs.Operations as operations
-use Rattle.cal_model.specs.Operations.{create, update, destroy}
+use Rattle.cal_model.specs.Operations.{update, destroy}
 use Rattle.cal_model.specs.Quota.{IsFit, size_of_object}
 use Rattle.cal_model.specs.declared.outcome.Outcome.{Outcome}
 use Rattle.cal_model.specs.declared.outcome.Outcome.TheVariants.{Accepted, Refused}
@@ -11,7 +11,7 @@ use Rattle.model_history.specs.declared.entry.Kind.{Kind}
 use Rattle.model_json.specs.Parts.{members_in}
 use Rattle.model_json.specs.TreeData.{data_of}
 use Rattle.set_methods.specs.declared.operation.Operation.{Operation}
-use Rattle.set_methods.specs.declared.operation.Operation.TheVariants.{Create, Update, Destroy}
+use Rattle.set_methods.specs.declared.operation.Operation.TheVariants.{Update, Destroy}
 use Rattle.set_methods.specs.declared.setting.Judged.{Judged}
 use Rattle.set_methods.specs.declared.setting.Setting.{Setting}
 
@@ -19,7 +19,6 @@ abbrev pub ground_in : Setting → operations.Ground
 ground_in s = record { base = record { account_id = s.account.now; zones = s.zones.now }; moment = s.moment }
 
 abbrev pub operation_in : Operation → operations.Operation
-operation_in (Create value) = create (members_in (data_of value.now))
 operation_in (Update id patch is_destroyed is_repeated) = update id.now (members_in (data_of patch.now)) is_destroyed is_repeated
 operation_in (Destroy id) = destroy id.now
 

@@ -15,7 +15,7 @@ pub fn asked_ids(
 ) -> Result<Vec<Text>, AllocError>
     ensures { IfOk result (λ v. v.items ≡ different (map (resolved_id created.now) ids.now)) }
 {
-    let created = CreatedIds::of(alloc, created, &[])?;
+    let created = CreatedIds::of(alloc, created)?;
     let mut asked = Vec::new(alloc);
     for id in ids {
         note(&mut asked, created.resolved(id))?;

@@ -2,7 +2,8 @@
 ghost use Rattle.std.specs.Prelude.{◌≡◌, ◌∷◌, [], IfOk, length, map, option_map};
 ghost use Rattle.cal_model.specs.declared.outcome.Outcome.TheVariants.{Accepted};
 ghost use Rattle.cal_model.specs.SetReply.{created_member, is_value, members_beyond, members_stored, object_or_null};
-ghost use Rattle.cal_model.specs.Sets.{created_id, of_each};
+ghost use Rattle.cal_model.specs.Operations.{created_id};
+ghost use Rattle.cal_model.specs.Sets.{of_each};
 ghost use Rattle.model_json.specs.Data.{lookup};
 ghost use Rattle.model_json.specs.ObjectKeys.{HasOrderedKeys};
 ghost use Rattle.model_json.specs.Parts.{members_in};
@@ -109,8 +110,8 @@ fn is_value(value: &Tree, other: Option<&Tree>) -> bool
     }
 }
 
-// The members of the object that a change puts.
-fn stored_members(change: &Change) -> &[Member]
+/// The members of the object that a change puts, and none of a removal. Takes no memory.
+pub(crate) fn stored_members(change: &Change) -> &[Member]
     ensures value { map pair_of result.now ≡ members_stored change.now }
     ensures ordered { HasOrderedKeys (members_stored change.now) }
 {

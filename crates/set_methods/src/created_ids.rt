@@ -1,5 +1,5 @@
 //! The ids that the texts of a call stand for (RFC 8620 section 5.3).
-ghost use Rattle.std.specs.Prelude.{◌≡◌, ◌++◌, IfOk, List, OnOk, Some, if◌then◌else◌, option_map, ℕ};
+ghost use Rattle.std.specs.Prelude.{◌≡◌, ◌++◌, ◌∷◌, [], IfOk, List, OnOk, Some, if◌then◌else◌, option_and_then, option_map, ℕ};
 ghost use Rattle.std.specs.Str.{bytes_eq};
 ghost use Rattle.cal_model.specs.CreatedIds.{created_id_at, resolved_id};
 ghost use Rattle.model_json.specs.Parts.{behind_hash};
@@ -11,44 +11,55 @@ use std::collections::BTreeMap;
 use std::marker::Model;
 
 // In order, since clients choose the keys and could make the hashes of many equal.
-type IdsByKey<'a> = BTreeMap<&'a [u8], &'a Text>;
+type IdsByKey<'k> = BTreeMap<&'k [u8], Text>;
 
 /// The ids of created objects by their creation ids. Contracts see the pairs, of which the last of a key counts.
 #[derive(Drop)]
-pub struct CreatedIds<'a> {
-    earlier: &'a [(Text, Text)],
-    later: &'a [(Text, Text)],
-    by_key: IdsByKey<'a>,
+pub struct CreatedIds<'k> {
+    earlier: &'k [(Text, Text)],
+    later: Vec<(Text, Text)>,
+    by_key: IdsByKey<'k>,
 }
 
-impl<'a> Model for CreatedIds<'a> {
+impl<'k> Model for CreatedIds<'k> {
     ghost use Rattle.std.specs.Prelude.{◌≡◌, ◌++◌, List, ℕ};
     ghost use Rattle.cal_model.specs.CreatedIds.{created_id_at};
     ghost use Rattle.set_methods.specs.IdsByKey.{id_at};
 
     ghost Value = { List (List ℕ × List ℕ) };
 
-    ghost view = { λ a. a.earlier.now ++ a.later.now };
+    ghost view = { λ a. a.earlier.now ++ a.later.items };
 
-    ghost invariant = { λ a. (key : List ℕ) → id_at a.by_key key ≡ created_id_at (a.earlier.now ++ a.later.now) key };
+    ghost invariant = { λ a. (key : List ℕ) → id_at a.by_key key ≡ created_id_at (a.earlier.now ++ a.later.items) key };
 }
 
-impl<'a> CreatedIds<'a> {
-    /// The ids of these pairs and then of those. Takes memory for a place for each.
-    pub fn of(
-        alloc: Global,
-        earlier: &'a [(Text, Text)],
-        later: &'a [(Text, Text)],
-    ) -> Result<CreatedIds<'a>, AllocError>
-        ensures { IfOk result (λ ids. ids ≡ earlier.now ++ later.now) }
+impl<'k> CreatedIds<'k> {
+    /// The ids of these pairs. Takes memory for a copy of each id.
+    pub fn of(alloc: Global, earlier: &'k [(Text, Text)]) -> Result<CreatedIds<'k>, AllocError>
+        ensures { IfOk result (λ ids. ids ≡ earlier.now) }
     {
         let mut by_key = BTreeMap::new(alloc);
         for (key, id) in earlier {
-            put(&mut by_key, key.as_str().as_bytes(), id)?;
+            put(&mut by_key, key.as_str().as_bytes(), id.copy()?)?;
         }
-        for (key, id) in later {
-            put(&mut by_key, key.as_str().as_bytes(), id)?;
-        }
+        Ok(CreatedIds {
+            earlier,
+            later: Vec::new(alloc),
+            by_key,
+        })
+    }
+
+    /// The ids with one more, which counts before those of the same key. Takes memory for copies.
+    pub fn with(self, key: &'k Text, id: Text) -> Result<CreatedIds<'k>, AllocError>
+        ensures { IfOk result (λ ids. ids ≡ self.entry ++ (key.now, id) ∷ []) }
+    {
+        let CreatedIds {
+            earlier,
+            mut later,
+            mut by_key,
+        } = self;
+        put(&mut by_key, key.as_str().as_bytes(), id.copy()?)?;
+        later.push((key.copy()?, id))?;
         Ok(CreatedIds {
             earlier,
             later,
@@ -56,20 +67,24 @@ impl<'a> CreatedIds<'a> {
         })
     }
 
+    /// The created id of the key behind the `#` that a text begins with. Takes no memory.
+    pub fn created<'t>(&'t self, id: &'k str) -> Option<&'t Text>
+        ensures { option_map (λ t. t.now) result ≡ option_and_then (created_id_at self.now) (behind_hash id.now) }
+    {
+        self.by_key.get(&key_behind_hash(id.as_bytes())?)
+    }
+
     /// The id that a text stands for: `#key` is the created id of that key, where there is one. Takes no memory.
-    pub fn resolved(&self, id: &'a Text) -> &'a Text
+    pub fn resolved<'t>(&'t self, id: &'k Text) -> &'t Text
         ensures { result.now ≡ resolved_id self.now id.now }
     {
-        match key_behind_hash(id.as_str().as_bytes()) {
-            Some(key) => self.by_key.get(&key).copied().unwrap_or(id),
-            None => id,
-        }
+        self.created(id.as_str()).unwrap_or(id)
     }
 }
 
 // Puts an id at a creation id, in the place of one that stands there.
-fn put<'a>(ids: &mut IdsByKey<'a>, key: &'a [u8], id: &'a Text) -> Result<(), AllocError>
-    ensures { OnOk result ((q : List ℕ) → id_at ids.new q ≡ (if bytes_eq key.now q then Some id.now else id_at ids.old q)) }
+fn put<'k>(ids: &mut IdsByKey<'k>, key: &'k [u8], id: Text) -> Result<(), AllocError>
+    ensures { OnOk result ((q : List ℕ) → id_at ids.new q ≡ (if bytes_eq key.now q then Some id else id_at ids.old q)) }
 {
     ids.insert(key, id)?;
     Ok(())

@@ -1,7 +1,7 @@
 //! What comes of one object of a set.
 ghost use Rattle.std.specs.Prelude.{◌≡◌, ◌++◌, Bool, IfOk, IfSome, Some, is_some, option_map, true};
-ghost use Rattle.cal_model.specs.CreatedIds.{object_named};
-ghost use Rattle.cal_model.specs.Operations.{created_outcome, destroyed_outcome, object_outcome, outcome_of, patched_outcome, updated_outcome};
+ghost use Rattle.cal_model.specs.CreatedIds.{object_named, resolved_object};
+ghost use Rattle.cal_model.specs.Operations.{Ground, created_outcome, destroyed_outcome, is_in_use, object_outcome, outcome_of, patched_outcome, updated_outcome};
 ghost use Rattle.model_history.specs.History.{live_object};
 ghost use Rattle.model_json.specs.Parts.{members_in};
 ghost use Rattle.model_json.specs.Patch.{patched};
@@ -9,9 +9,12 @@ ghost use Rattle.model_json.specs.TreeData.{data_of};
 ghost use Rattle.set_methods.specs.Judging.{HasNumber, IsAllowed, ground_in, operation_in};
 
 use crate::calendar::calendar_outcome;
-use crate::given::{copy_of_object, given_at, has_other_id, into_object};
+use crate::created_ids::CreatedIds;
+use crate::event::event_outcome;
+use crate::given::{given_at, has_other_id, into_object};
 use crate::operation::Operation;
 use crate::quota::within_quota;
+use crate::resolved::{resolved_object, resolved_patch};
 use crate::setting::{Judged, Setting};
 use cal_model::set_error::SetError;
 use cal_model::view::AccountView;
@@ -22,43 +25,48 @@ use patch_object::{PatchError, apply};
 use std::alloc::{AllocError, Global};
 use time_text::read_object_id;
 
-/// What comes of an operation after the changes of a view.
-pub(crate) fn judge<V: AccountView>(
+/// What comes of an update or a destroy after the changes of a view, where the request has created these ids.
+pub(crate) fn judge<'k, V: AccountView>(
     alloc: Global,
     view: &V,
     setting: &Setting<'_>,
-    operation: &Operation<'_>,
+    created: &CreatedIds<'k>,
+    operation: &Operation<'k>,
 ) -> Result<Judged, AllocError>
     ensures exact { IfOk result (λ j. j.outcome
-        ≡ outcome_of (ground_in setting.now) (V.history view.now ++ V.staged view.now) setting.now.kind (operation_in operation.now)) }
+        ≡ outcome_of (ground_in setting.now) (V.history view.now ++ V.staged view.now) setting.now.kind created.now (operation_in operation.now)) }
     ensures allowed { IfOk result (IsAllowed (V.history view.now ++ V.staged view.now)) }
 {
     match operation {
-        Operation::Create(value) => create(alloc, view, setting, value),
         Operation::Update {
             id,
             patch,
             is_destroyed,
             is_repeated,
-        } => update(alloc, view, setting, id, patch, *is_destroyed, *is_repeated),
+        } => {
+            let patch = resolved_patch(alloc, setting.kind, created, patch)?;
+            update(alloc, view, setting, id, &patch, *is_destroyed, *is_repeated)
+        }
         Operation::Destroy(id) => destroy(alloc, view, setting, id),
     }
 }
 
-fn create<V: AccountView>(
+/// What comes of creating an object of what the client gives, after the changes of a view, where the request has created these ids.
+pub(crate) fn judge_create<'k, V: AccountView>(
     alloc: Global,
     view: &V,
     setting: &Setting<'_>,
-    value: &Tree,
+    created: &CreatedIds<'k>,
+    value: &'k Tree,
 ) -> Result<Judged, AllocError>
-    ensures exact { IfOk result (λ j. j.outcome
-        ≡ created_outcome (ground_in setting.now) (V.history view.now ++ V.staged view.now) setting.now.kind (members_in (data_of value.now))) }
+    ensures exact { IfOk result (λ j. j.outcome ≡ created_outcome (ground_in setting.now) (V.history view.now ++ V.staged view.now) setting.now.kind
+        (resolved_object created.now setting.now.kind (members_in (data_of value.now)))) }
     ensures allowed { IfOk result (IsAllowed (V.history view.now ++ V.staged view.now)) }
 {
-    let object = copy_of_object(alloc, value)?;
+    let object = resolved_object(alloc, setting.kind, created, value)?;
     let names_id = given_at(&object, "id").is_some();
     let number = view.created_so_far(setting.kind) + 1;
-    object_outcome(alloc, view, setting, number, names_id, object)
+    object_outcome(alloc, view, setting, number, None, names_id, object)
 }
 
 // What comes of storing an object that may be put.
@@ -67,17 +75,18 @@ fn object_outcome<V: AccountView>(
     view: &V,
     setting: &Setting<'_>,
     number: u64,
+    before: Option<&Tree>,
     names_id: bool,
     object: TreeObject,
 ) -> Result<Judged, AllocError>
     requires { HasNumber (V.history view.now ++ V.staged view.now) setting.now.kind number }
-    ensures exact { IfOk result (λ j. j.outcome
-        ≡ object_outcome (ground_in setting.now) (V.history view.now ++ V.staged view.now) setting.now.kind number names_id object) }
+    ensures exact { IfOk result (λ j. j.outcome ≡ object_outcome (ground_in setting.now) (V.history view.now ++ V.staged view.now) setting.now.kind number
+        (option_map (λ t. t.now) before.entry) names_id object) }
     ensures allowed { IfOk result (IsAllowed (V.history view.now ++ V.staged view.now)) }
 {
     match setting.kind {
         Kind::Calendar => calendar_outcome(alloc, view, setting, number, names_id, object),
-        Kind::Event => Ok(Judged::refused(SetError::NotBuilt)),
+        Kind::Event => event_outcome(alloc, view, setting, number, before, names_id, object),
     }
 }
 
@@ -96,12 +105,12 @@ fn update<V: AccountView>(
     view: &V,
     setting: &Setting<'_>,
     id: &Text,
-    patch: &Tree,
+    patch: &TreeObject,
     is_destroyed: bool,
     is_repeated: bool,
 ) -> Result<Judged, AllocError>
     ensures exact { IfOk result (λ j. j.outcome
-        ≡ updated_outcome (ground_in setting.now) (V.history view.now ++ V.staged view.now) setting.now.kind (members_in (data_of patch.now)) is_destroyed is_repeated
+        ≡ updated_outcome (ground_in setting.now) (V.history view.now ++ V.staged view.now) setting.now.kind patch.now is_destroyed is_repeated
         (object_named (V.history view.now ++ V.staged view.now) setting.now.kind id.now)) }
     ensures allowed { IfOk result (IsAllowed (V.history view.now ++ V.staged view.now)) }
 {
@@ -127,20 +136,18 @@ fn patch_object<V: AccountView>(
     setting: &Setting<'_>,
     number: u64,
     object: &Tree,
-    patch: &Tree,
+    patch: &TreeObject,
 ) -> Result<Judged, AllocError>
     requires { HasNumber (V.history view.now ++ V.staged view.now) setting.now.kind number }
     ensures exact { IfOk result (λ j. j.outcome
-        ≡ patched_outcome (ground_in setting.now) (V.history view.now ++ V.staged view.now) setting.now.kind number (patched (data_of object.now) (members_in (data_of patch.now)))) }
+        ≡ patched_outcome (ground_in setting.now) (V.history view.now ++ V.staged view.now) setting.now.kind number object.now (patched (data_of object.now) patch.now)) }
     ensures allowed { IfOk result (IsAllowed (V.history view.now ++ V.staged view.now)) }
 {
-    let empty = TreeObject::new(Vec::new(alloc));
-    let patch = patch.as_object().unwrap_or(&empty);
     match apply(alloc, object, patch) {
         Ok(tree) => {
-            let object = into_object(alloc, tree);
-            let names_id = has_other_id(alloc, setting.kind, number, &object)?;
-            object_outcome(alloc, view, setting, number, names_id, object)
+            let patched = into_object(alloc, tree);
+            let names_id = has_other_id(alloc, setting.kind, number, &patched)?;
+            object_outcome(alloc, view, setting, number, Some(object), names_id, patched)
         }
         Err(PatchError::InvalidPatch { key }) => Ok(Judged::refused(SetError::InvalidPatch {
             key,
@@ -163,6 +170,9 @@ fn destroy<V: AccountView>(
     match named(view, setting.kind, id) {
         None => Ok(Judged::refused(SetError::NotFound)),
         Some((number, _)) => {
+            if is_in_use(view, setting.kind, number) {
+                return Ok(Judged::refused(SetError::CalendarHasEvent));
+            }
             let change = Change {
                 kind: setting.kind,
                 id: number,
@@ -170,5 +180,15 @@ fn destroy<V: AccountView>(
             };
             within_quota(alloc, view, change)
         }
+    }
+}
+
+// Whether this is a calendar in which events are.
+fn is_in_use<V: AccountView>(view: &V, kind: Kind, number: u64) -> bool
+    ensures { (g : Ground) → result ≡ is_in_use g (V.history view.now ++ V.staged view.now) kind number }
+{
+    match kind {
+        Kind::Calendar => view.has_event(number),
+        Kind::Event => false,
     }
 }

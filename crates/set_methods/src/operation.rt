@@ -3,11 +3,9 @@
 use model_json::text::Text;
 use model_json::tree::Tree;
 
-/// One object of a set (RFC 8620 section 5.3). Its id is the one that the text of the call stands for.
+/// One object that a set changes (RFC 8620 section 5.3). Its id is the one that the text of the call stands for.
 #[derive(Clone, Copy, Drop)]
 pub(crate) enum Operation<'a> {
-    /// Creates an object of what the client gives.
-    Create(&'a Tree),
     /// Updates an object by a patch.
     Update {
         id: &'a Text,

@@ -1,8 +1,7 @@
-//! The operations of a set, in order.
+//! The updates and destroys of a set, in order.
 ghost use Rattle.std.specs.Prelude.{◌≡◌, [], IfOk, map};
-ghost use Rattle.cal_model.specs.Operations.{create, destroy};
+ghost use Rattle.cal_model.specs.Operations.{destroy};
 ghost use Rattle.cal_model.specs.Sets.{updates_after};
-ghost use Rattle.model_json.specs.Parts.{members_in};
 ghost use Rattle.model_json.specs.TreeData.{pair_of};
 ghost use Rattle.set_methods.specs.Judging.{operation_in};
 
@@ -12,27 +11,13 @@ use crate::operation::Operation;
 use model_json::tree::Member;
 use std::alloc::{AllocError, Global};
 
-/// The creates of a set.
-pub(crate) fn create_operations<'a>(
-    alloc: Global,
-    members: &'a [Member],
-) -> Result<Vec<Operation<'a>>, AllocError>
-    ensures { IfOk result (λ v. map operation_in v.items ≡ map (λ p. create (members_in p.1)) (map pair_of members.now)) }
-{
-    let mut operations = Vec::with_capacity(alloc, members.len())?;
-    for member in members {
-        operations.push(Operation::Create(&member.value))?;
-    }
-    Ok(operations)
-}
-
 /// The updates of a set, each with whether its object is among those to be destroyed, and whether one before it names the
 /// same. Takes time with the square of their number.
-pub(crate) fn update_operations<'a>(
+pub(crate) fn update_operations<'a, 'k>(
     alloc: Global,
-    created: &CreatedIds<'a>,
+    created: &'a CreatedIds<'k>,
     destroyed: &[NamedId<'a>],
-    members: &'a [Member],
+    members: &'k [Member],
 ) -> Result<Vec<Operation<'a>>, AllocError>
     ensures { IfOk result (λ v. map operation_in v.items ≡ updates_after created.now destroyed.now [] (map pair_of members.now)) }
 {

@@ -17,8 +17,9 @@ pub(crate) fn object_or_null(alloc: Global, members: Vec<Member>) -> Result<Tree
     Ok(Tree::Object(object_of(alloc, members)?))
 }
 
+/// An object of these members, which may stand in any order. Of two with one key the later counts.
 #[tactic(auto, using(crate::proofs::ReplyLemmas::put_member_push))]
-fn object_of(alloc: Global, members: Vec<Member>) -> Result<TreeObject, AllocError>
+pub(crate) fn object_of(alloc: Global, members: Vec<Member>) -> Result<TreeObject, AllocError>
     ensures { IfOk result (λ o. o ≡ put_all (map pair_of members.items) []) }
 {
     let mut object = TreeObject::new(Vec::with_capacity(alloc, members.len())?);

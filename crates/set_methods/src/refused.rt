@@ -99,7 +99,11 @@ fn set_error_tree(alloc: Global, error: &SetError) -> Result<Tree, AllocError>
                 vec![in alloc; ("properties", properties), ("type", name)]?,
             )
         }
-        SetError::NotFound | SetError::WillDestroy | SetError::OverQuota | SetError::NotBuilt => {
+        SetError::NotFound
+        | SetError::WillDestroy
+        | SetError::CalendarHasEvent
+        | SetError::OverQuota
+        | SetError::NotBuilt => {
             Tree::object(alloc, vec![in alloc; ("type", name)]?)
         }
     }

@@ -1,25 +1,89 @@
 //! Operations carried out in order.
 ghost use Rattle.std.specs.Prelude.{◌≡◌, ◌++◌, IfOk, OnOk, flat_map, length, map, vec_len};
-ghost use Rattle.cal_model.specs.Operations.{changes_in, outcomes};
+ghost use Rattle.cal_model.specs.Operations.{changes_in, created_id, outcomes, outcomes_of_creates};
+ghost use Rattle.cal_model.specs.Sets.{of_each};
+ghost use Rattle.model_json.specs.Data.{Data};
+ghost use Rattle.model_json.specs.TreeData.{pair_of};
 ghost use Rattle.set_methods.specs.Judging.{IsAllowed, ground_in, operation_in};
 
-use crate::judge::judge;
+use crate::created_ids::CreatedIds;
+use crate::judge::{judge, judge_create};
 use crate::operation::Operation;
 use crate::setting::{Judged, Setting};
 use cal_model::outcome::Outcome;
 use cal_model::view::AccountView;
 use model_history::entry::Change;
+use model_json::text::Text;
+use model_json::tree::Member;
 use std::alloc::{AllocError, Global};
+use time_text::object_id_text;
 
-/// What comes of operations, each after those before it, whose accepted changes are staged (RFC 8620 section 5.3).
-pub(crate) fn run<V: AccountView>(
+/// What creates came to.
+#[derive(Drop)]
+pub(crate) struct Creates<'k> {
+    pub outcomes: Vec<Outcome>,
+    /// The ids that the request has created by then.
+    pub ids: CreatedIds<'k>,
+}
+
+/// What comes of creates, each after those before it and with the ids that they created. Accepted changes are staged
+/// (RFC 8620 section 5.3).
+pub(crate) fn run_creates<'k, V: AccountView>(
     alloc: Global,
     view: &mut V,
     setting: &Setting<'_>,
-    operations: &[Operation<'_>],
+    created: CreatedIds<'k>,
+    creates: &'k [Member],
+) -> Result<Creates<'k>, AllocError>
+    ensures outcomes { IfOk result (λ c. c.outcomes.items
+        ≡ outcomes_of_creates (ground_in setting.now) setting.now.kind created.entry (V.history view.old ++ V.staged view.old) (map pair_of creates.now)) }
+    ensures ids { IfOk result (λ c. c.ids ≡ created.entry ++ of_each created_id (map pair_of creates.now)
+        (outcomes_of_creates (ground_in setting.now) setting.now.kind created.entry (V.history view.old ++ V.staged view.old) (map pair_of creates.now))) }
+    ensures lengths { IfOk result (λ c. vec_len c.outcomes ≡ length creates.now) }
+    ensures staged { IfOk result (λ c. V.staged view.new ≡ V.staged view.old ++ flat_map changes_in c.outcomes.items) }
+    ensures history { V.history view.new ≡ V.history view.old }
+    ensures entries { V.entries view.new ≡ V.entries view.old }
+    ensures base { V.base view.new ≡ V.base view.old }
+{
+    let mut outcomes = Vec::with_capacity(alloc, creates.len())?;
+    let mut ids = created;
+    for member in creates {
+        let judged = judge_create(alloc, view, setting, &ids, &member.value)?;
+        let outcome = staged(view, judged)?;
+        ids = noted(alloc, ids, &member.key, &outcome)?;
+        outcomes.push(outcome)?;
+    }
+    Ok(Creates { outcomes, ids })
+}
+
+// The ids with that of the object that a create made.
+fn noted<'k>(
+    alloc: Global,
+    ids: CreatedIds<'k>,
+    key: &'k Text,
+    outcome: &Outcome,
+) -> Result<CreatedIds<'k>, AllocError>
+    ensures { IfOk result (λ all. (d : Data) → all ≡ ids.entry ++ created_id (key.now, d) outcome.now) }
+{
+    match outcome {
+        Outcome::Accepted(change) => {
+            let id = object_id_text(alloc, change.kind, change.id)?;
+            ids.with(key, id)
+        }
+        Outcome::Refused(_) => Ok(ids),
+    }
+}
+
+/// What comes of operations, each after those before it, whose accepted changes are staged (RFC 8620 section 5.3).
+pub(crate) fn run<'k, V: AccountView>(
+    alloc: Global,
+    view: &mut V,
+    setting: &Setting<'_>,
+    created: &CreatedIds<'k>,
+    operations: &[Operation<'k>],
 ) -> Result<Vec<Outcome>, AllocError>
     ensures outcomes { IfOk result (λ v. v.items
-        ≡ outcomes (ground_in setting.now) setting.now.kind (V.history view.old ++ V.staged view.old) (map operation_in operations.now)) }
+        ≡ outcomes (ground_in setting.now) setting.now.kind created.now (V.history view.old ++ V.staged view.old) (map operation_in operations.now)) }
     ensures lengths { IfOk result (λ v. vec_len v ≡ length operations.now) }
     ensures staged { IfOk result (λ v. V.staged view.new ≡ V.staged view.old ++ flat_map changes_in v.items) }
     ensures history { V.history view.new ≡ V.history view.old }
@@ -28,7 +92,7 @@ pub(crate) fn run<V: AccountView>(
 {
     let mut outcomes = Vec::with_capacity(alloc, operations.len())?;
     for operation in operations {
-        let judged = judge(alloc, view, setting, operation)?;
+        let judged = judge(alloc, view, setting, created, operation)?;
         let outcome = staged(view, judged)?;
         outcomes.push(outcome)?;
     }
