@@ -1,0 +1,4 @@
+//! What an event is: its properties with their tests, its participants, and what both mean.
+#![tactic(auto)]
+
+pub mod limits;
