@@ -1,5 +1,5 @@
 -- Participants of an event (RFC 8984 section 4.4.6): what may stand in an object, and what it means.
-use Rattle.std.specs.Prelude.{ℕ, List, [], ◌∷◌, ◌++◌, ◌&&◌, ◌==◌, Bool, true, Option, codes, length, map, nat_le, unwrap_or}
+use Rattle.std.specs.Prelude.{ℕ, List, [], ◌∷◌, ◌++◌, ◌&&◌, ◌||◌, ◌==◌, Bool, true, false, Option, codes, length, map, nat_le, unwrap_or}
 use Rattle.std.specs.List.{list_all, list_any}
 use Rattle.std.specs.Option.{option_map_or}
 use Rattle.std.specs.Str.{bytes_eq}
@@ -73,17 +73,16 @@ participant_in d = record {
 abbrev pub people_in : Data → List ParticipantProperties
 people_in d = map (λ p. participant_in p.1) (members_in d)
 
--- From here on `finds s t` says whether a text t is found in a text s.
+-- Participants whom one looks for: by a test of texts, or by a status.
 
--- the texts by which a participant may be found
-abbrev pub texts_of : ParticipantProperties → List (List ℕ)
-texts_of p = some_of p.name ++ (some_of p.email ++ p.send_to)
+-- a text of the participant passes: its name, its email or one of the texts of `sendTo`
+abbrev pub has_text : (List ℕ → Bool) → ParticipantProperties → Bool
+has_text finds p = option_map_or finds p.name false || (option_map_or finds p.email false || list_any finds p.send_to)
 
--- the participant has the text, where one is asked for, and the status, where one is
-abbrev pub meets : (List ℕ → List ℕ → Bool) → Option (List ℕ) → Option (List ℕ) → ParticipantProperties → Bool
-meets finds part status p =
-    option_map_or (λ t. list_any (λ s. finds s t) (texts_of p)) part true && option_map_or (λ t. bytes_eq p.status t) status true
+-- the participant has such a text, where one is looked for, and the status, where one is
+abbrev pub meets : Option (List ℕ → Bool) → Option (List ℕ) → ParticipantProperties → Bool
+meets finds status p = option_map_or (λ f. has_text f p) finds true && option_map_or (bytes_eq p.status) status true
 
 -- one and the same participant meets both
-abbrev pub any_meets : (List ℕ → List ℕ → Bool) → Option (List ℕ) → Option (List ℕ) → List ParticipantProperties → Bool
-any_meets finds part status people = list_any (meets finds part status) people
+abbrev pub any_meets : Option (List ℕ → Bool) → Option (List ℕ) → List ParticipantProperties → Bool
+any_meets finds status people = list_any (meets finds status) people
