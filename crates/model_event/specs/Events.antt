@@ -1,6 +1,6 @@
 -- Events (RFC 8984, draft JMAP for Calendars): what may stand in an object, and what it means.
-use Rattle.std.specs.Prelude.{ℕ, ℤ, pos, List, [], ◌∷◌, ◌++◌, ◌&&◌, ◌||◌, Bool, false, not, Option, Some, None, codes, length, is_some, nat_le, option_and_then, unwrap_or}
-use Rattle.std.specs.List.{list_all}
+use Rattle.std.specs.Prelude.{ℕ, ℤ, pos, List, [], ◌∷◌, ◌++◌, ◌&&◌, ◌||◌, ◌==◌, Bool, false, not, Option, Some, None, codes, length, is_some, nat_le, option_and_then, unwrap_or}
+use Rattle.std.specs.List.{list_all, list_any}
 use Rattle.std.specs.Option.{option_map_or}
 use Rattle.model_core.specs.Names.{is_name}
 use Rattle.model_event.specs.Participants.{ParticipantProperties, are_participants, people_in}
@@ -106,6 +106,10 @@ calendars_among (p ∷ ps) = some_of (object_number Calendar p.0) ++ calendars_a
 -- the numbers of its calendars, in byte order of their ids
 abbrev pub calendars_of : Data → List ℕ
 calendars_of d = calendars_among (unwrap_or (object_at (codes "calendarIds") d) [])
+
+-- the calendar of this number is one of them
+abbrev pub names_calendar : ℕ → Data → Bool
+names_calendar number d = list_any (λ n. n == number) (calendars_of d)
 
 -- its participants, in byte order of their Ids
 abbrev pub participants_of : Data → List ParticipantProperties

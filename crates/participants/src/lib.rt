@@ -5,4 +5,4 @@ pub mod finds;
 pub mod participant;
 pub mod people;
 pub mod read;
-mod table;
+pub mod table;
