@@ -2,7 +2,7 @@
 ghost use Rattle.std.specs.Prelude.{◌≡◌, ◌∷◌, [], IfErr, IfOk, OnOk, codes, option_and_then};
 ghost use Rattle.event_model.specs.Reports.{Reports};
 ghost use Rattle.event_model.specs.declared.read.EventError.TheVariants.{NoMemory};
-ghost use Rattle.model_event.specs.Events.{bad_event_properties, event_in, has_word, is_occupying, length_in, participants_of, start_in, zone_in};
+ghost use Rattle.model_event.specs.Events.{bad_event_properties, event_in, has_word, is_occupying, length_in, participants_of, start_in};
 ghost use Rattle.model_json.specs.Parts.{text_at};
 ghost use Rattle.model_json.specs.TreeData.{data_of};
 ghost use Rattle.model_time.specs.Durations.{duration_in};
@@ -11,7 +11,7 @@ ghost use Rattle.model_time.specs.LocalTimes.{local_in};
 use crate::calendars::calendars_of;
 use crate::event::Event;
 use crate::table::EventTable;
-use model_event::values::is_one_of;
+use model_event::values::{copy_at, is_one_of};
 use model_json::lists::Texts;
 use model_json::text::Text;
 use model_json::tree::Tree;
@@ -76,7 +76,7 @@ fn event(alloc: Global, tree: &Tree) -> Result<Event, AllocError>
     Ok(Event {
         start: start(tree),
         length: length(tree),
-        time_zone: time_zone(tree)?,
+        time_zone: copy_at(tree, "timeZone")?,
         is_occupying: is_occupying(tree),
         calendars: calendars_of(alloc, tree)?,
         people: people(alloc, tree)?,
@@ -114,15 +114,6 @@ fn given_length(tree: &Tree) -> Option<Length>
     ensures { result ≡ option_and_then duration_in (text_at (codes "duration") (data_of tree.now)) }
 {
     read_duration(tree.text_at("duration")?.as_str().as_bytes())
-}
-
-fn time_zone(tree: &Tree) -> Result<Option<Text>, AllocError>
-    ensures { IfOk result (λ zone. zone ≡ zone_in (data_of tree.now)) }
-{
-    match tree.text_at("timeZone") {
-        Some(zone) => Ok(Some(zone.copy()?)),
-        None => Ok(None),
-    }
 }
 
 fn is_occupying(tree: &Tree) -> bool

@@ -87,8 +87,8 @@ abbrev pub length_in : Data → Length
 length_in d = unwrap_or (option_and_then duration_in (text_at (codes "duration") d)) (length_of 0 0)
 
 -- the name of its zone, none where it is floating
-abbrev pub zone_in : Data → Option (List ℕ)
-zone_in d = text_at (codes "timeZone") d
+abbrev pub time_zone_in : Data → Option (List ℕ)
+time_zone_in d = text_at (codes "timeZone") d
 
 -- the value at a key is this word
 abbrev pub has_word : List ℕ → List ℕ → Data → Bool
@@ -128,7 +128,7 @@ abbrev pub event_in : Data → EventProperties
 event_in d = record {
   start = start_in d;
   length = length_in d;
-  time_zone = zone_in d;
+  time_zone = time_zone_in d;
   is_occupying = is_occupying d;
   calendars = calendars_of d;
   people = participants_of d;

@@ -1,10 +1,13 @@
-//! Tests of the values of properties.
-ghost use Rattle.std.specs.Prelude.{◌≡◌, map};
+//! The values of properties: tests of them, and copies of texts.
+ghost use Rattle.std.specs.Prelude.{◌≡◌, IfOk, map};
 ghost use Rattle.model_event.specs.Values.{is_one_of, is_true};
+ghost use Rattle.model_json.specs.Parts.{text_at};
 ghost use Rattle.model_json.specs.TreeData.{data_of};
 ghost use Rattle.property_table.specs.Names.{has_name};
 
+use model_json::text::Text;
 use model_json::tree::Tree;
+use std::alloc::AllocError;
 
 /// Whether this is `true`. Takes no memory.
 pub fn is_true(value: &Tree) -> bool
@@ -23,6 +26,16 @@ pub fn is_one_of(value: &Tree, words: &[&str]) -> bool
     match value {
         Tree::Text(text) => has_word(words, text.as_str()),
         _ => false,
+    }
+}
+
+/// A copy of the text at a key, where the value is an object that has one there.
+pub fn copy_at(tree: &Tree, key: &str) -> Result<Option<Text>, AllocError>
+    ensures { IfOk result (λ t. t ≡ text_at key.now (data_of tree.now)) }
+{
+    match tree.text_at(key) {
+        Some(text) => Ok(Some(text.copy()?)),
+        None => Ok(None),
     }
 }
 

@@ -10,6 +10,7 @@ ghost use Rattle.participants.specs.declared.read.ParticipantsError.TheVariants.
 use crate::participant::Participant;
 use crate::people::People;
 use crate::table::are_participants;
+use model_event::values::copy_at;
 use model_json::lists::Texts;
 use model_json::text::Text;
 use model_json::tree::{Member, Tree};
@@ -67,16 +68,6 @@ fn participant_in(alloc: Global, tree: &Tree) -> Result<Participant, AllocError>
         send_to: Texts::new(texts_at(alloc, tree, "sendTo")?),
         status: status(alloc, tree)?,
     })
-}
-
-// A copy of the text at a key.
-fn copy_at(tree: &Tree, key: &str) -> Result<Option<Text>, AllocError>
-    ensures { IfOk result (λ t. t ≡ text_at key.now (data_of tree.now)) }
-{
-    match tree.text_at(key) {
-        Some(text) => Ok(Some(text.copy()?)),
-        None => Ok(None),
-    }
 }
 
 // The texts among the values of the object at a key.
