@@ -1,0 +1,141 @@
+//! Reads events.
+ghost use Rattle.std.specs.Prelude.{◌≡◌, ◌∷◌, [], IfErr, IfOk, OnOk, codes, option_and_then};
+ghost use Rattle.event_model.specs.Reports.{Reports};
+ghost use Rattle.event_model.specs.declared.read.EventError.TheVariants.{NoMemory};
+ghost use Rattle.model_event.specs.Events.{bad_event_properties, event_in, has_word, is_occupying, length_in, participants_of, start_in};
+ghost use Rattle.model_json.specs.Parts.{text_at};
+ghost use Rattle.model_json.specs.TreeData.{data_of};
+ghost use Rattle.model_time.specs.Durations.{duration_in};
+ghost use Rattle.model_time.specs.LocalTimes.{local_in};
+
+use crate::calendars::calendars_of;
+use crate::event::Event;
+use crate::table::EventTable;
+use model_event::values::{copy_at, is_one_of};
+use model_json::lists::Texts;
+use model_json::text::Text;
+use model_json::tree::Tree;
+use model_time::length::Length;
+use model_time::wall::Wall;
+use participants::people::People;
+use participants::read::people_in;
+use property_table::table::failing_names;
+use std::alloc::{AllocError, Global};
+use time_text::{read_duration, read_local};
+use zone_table::Zones;
+
+/// Why there is no event.
+#[derive(Drop)]
+pub enum EventError {
+    /// The object has properties that an event may not have, or not with these values, or lacks some.
+    BadEvent {
+        /// Their names, in byte order.
+        properties: Texts,
+    },
+    /// There was no memory.
+    NoMemory,
+}
+
+impl From<AllocError> for EventError {
+    ghost from_gives = { λ _ error. error ≡ NoMemory };
+
+    fn from(_: AllocError) -> Self {
+        EventError::NoMemory
+    }
+}
+
+/// The names of all properties that an event may not have so, in byte order. A member that is null counts as left out.
+///
+/// Takes memory for the names.
+pub fn bad_event_names(alloc: Global, tree: &Tree, zones: &Zones) -> Result<Vec<Text>, AllocError>
+    ensures { IfOk result (λ v. v.items ≡ bad_event_properties zones.now (data_of tree.now)) }
+{
+    failing_names(alloc, &EventTable { alloc, zones }, tree)
+}
+
+/// Reads an event, in which a member that is null counts as left out.
+///
+/// `BadEvent` names all properties that are bad. Takes memory for a copy of some texts, or for the names.
+pub fn read_event(alloc: Global, tree: &Tree, zones: &Zones) -> Result<Event, EventError>
+    ensures value { IfOk result (λ e. e ≡ event_in (data_of tree.now)) }
+    ensures valid { OnOk result (bad_event_properties zones.now (data_of tree.now) ≡ []) }
+    ensures err { IfErr result (λ error. Reports error (bad_event_properties zones.now (data_of tree.now))) }
+{
+    let names = bad_event_names(alloc, tree, zones)?;
+    if !names.is_empty() {
+        return Err(EventError::BadEvent {
+            properties: Texts::new(names),
+        });
+    }
+    Ok(event(alloc, tree)?)
+}
+
+fn event(alloc: Global, tree: &Tree) -> Result<Event, AllocError>
+    ensures { IfOk result (λ e. e ≡ event_in (data_of tree.now)) }
+{
+    Ok(Event {
+        start: start(tree),
+        length: length(tree),
+        time_zone: copy_at(tree, "timeZone")?,
+        is_occupying: is_occupying(tree),
+        calendars: calendars_of(alloc, tree)?,
+        people: people(alloc, tree)?,
+    })
+}
+
+fn start(tree: &Tree) -> Wall
+    ensures { result ≡ start_in (data_of tree.now) }
+{
+    match given_start(tree) {
+        Some(start) => start,
+        None => Wall::new(0),
+    }
+}
+
+fn given_start(tree: &Tree) -> Option<Wall>
+    ensures { result ≡ option_and_then local_in (text_at (codes "start") (data_of tree.now)) }
+{
+    read_local(tree.text_at("start")?.as_str().as_bytes())
+}
+
+fn length(tree: &Tree) -> Length
+    ensures { result ≡ length_in (data_of tree.now) }
+{
+    match given_length(tree) {
+        Some(length) => length,
+        None => Length {
+            days: 0,
+            seconds: 0,
+        },
+    }
+}
+
+fn given_length(tree: &Tree) -> Option<Length>
+    ensures { result ≡ option_and_then duration_in (text_at (codes "duration") (data_of tree.now)) }
+{
+    read_duration(tree.text_at("duration")?.as_str().as_bytes())
+}
+
+fn is_occupying(tree: &Tree) -> bool
+    ensures { result ≡ is_occupying (data_of tree.now) }
+{
+    !has_word(tree, "status", "cancelled") && !has_word(tree, "freeBusyStatus", "free")
+}
+
+fn has_word(tree: &Tree, key: &str, word: &str) -> bool
+    ensures { result ≡ has_word key.now word.now (data_of tree.now) }
+{
+    match tree.get(key) {
+        Some(value) => is_one_of(value, &[word]),
+        None => false,
+    }
+}
+
+fn people(alloc: Global, tree: &Tree) -> Result<People, AllocError>
+    ensures { IfOk result (λ people. people ≡ participants_of (data_of tree.now)) }
+{
+    match tree.get("participants") {
+        Some(participants) => people_in(alloc, participants),
+        None => people_in(alloc, &Tree::Null),
+    }
+}
