@@ -3,7 +3,7 @@ ghost use Rattle.std.specs.Prelude.{◌≡◌, IfOk, option_map, true, unsigned_
 ghost use Rattle.account_core.specs.Ledger.{base, ledger_entries};
 ghost use Rattle.account_store.specs.Store.{entries};
 ghost use Rattle.account_core.specs.PageObject.{page_object};
-ghost use Rattle.cal_model.specs.Answer.{changes_answer, if_built};
+ghost use Rattle.cal_model.specs.Answer.{changes_answer};
 ghost use Rattle.cal_model.specs.Changes.{id_list, is_maximum};
 ghost use Rattle.model_json.specs.TreeData.{data_of};
 
@@ -22,23 +22,18 @@ use state_log::{ChangesError, Page};
 use std::alloc::{AllocError, Global};
 use time_text::{object_id_text, read_state};
 
-/// Answers what changed of a kind since a state.
+/// Answers what changed of a kind since a state. A maximum that isn't one is told before a state that isn't known.
 pub fn changes(
     ledger: &Ledger,
     kind: Kind,
     since: &Text,
     most: &Option<Num>,
 ) -> Result<Reply, AllocError>
-    ensures { IfOk result (λ r. r ≡ if_built (ledger_entries ledger.now) kind
-        (changes_answer (base ledger.now).account_id (ledger_entries ledger.now) kind since.now most.now)) }
+    ensures { IfOk result (λ r. r ≡ changes_answer (base ledger.now).account_id (ledger_entries ledger.now) kind since.now most.now) }
 {
-    match kind {
-        Kind::Calendar => changes_since(ledger.alloc, &ledger.id, &ledger.store, kind, since, most),
-        Kind::Event => Ok(refusal(ledger.alloc, &ledger.store, MethodError::NotBuilt)),
-    }
+    changes_since(ledger.alloc, &ledger.id, &ledger.store, kind, since, most)
 }
 
-// A maximum that isn't one is told before a state that isn't known.
 fn changes_since(
     alloc: Global,
     account: &Text,

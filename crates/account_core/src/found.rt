@@ -1,4 +1,4 @@
-//! What a get of calendars finds (RFC 8620 section 5.1).
+//! What a get finds (RFC 8620 section 5.1).
 ghost use Rattle.std.specs.Prelude.{◌≡◌, [], Some, IfOk, filter, flat_map, is_some, map, not, option_and_then, option_map};
 ghost use Rattle.account_store.specs.Store.{entries};
 ghost use Rattle.cal_model.specs.CreatedIds.{object_with_id};
@@ -6,9 +6,9 @@ ghost use Rattle.cal_model.specs.Gets.{ids_not_found, objects_asked, selected};
 ghost use Rattle.model_history.specs.History.{changes_of};
 ghost use Rattle.model_json.specs.Parts.{some_of};
 ghost use Rattle.model_json.specs.TreeData.{data_of};
-ghost use Rattle.model_history.specs.declared.entry.Kind.TheVariants.{Calendar};
 
-use crate::properties::{asked_properties, select};
+use crate::asked::Asked;
+use crate::properties::select;
 use account_store::Store;
 use model_history::entry::Kind;
 use model_json::lists::Texts;
@@ -37,14 +37,14 @@ fn object_of_id<'a>(store: &'a Store, kind: Kind, id: &Text) -> Option<&'a Tree>
 /// Copies of objects with those of their members alone that are asked for, and `id`.
 fn select_all(
     alloc: Global,
-    properties: &Option<Texts>,
+    asked: &Asked,
     objects: &[&Tree],
 ) -> Result<Vec<Tree>, AllocError>
-    ensures { IfOk result (λ v. map data_of v.items ≡ map (selected properties.now) (map (λ t. t.now) objects.now)) }
+    ensures { IfOk result (λ v. map data_of v.items ≡ map (selected asked.now) (map (λ t. t.now) objects.now)) }
 {
     let mut list = Vec::with_capacity(alloc, objects.len())?;
     for object in objects {
-        list.push(select(alloc, properties, object)?)?;
+        list.push(select(alloc, asked, object)?)?;
     }
     Ok(list)
 }
@@ -53,39 +53,41 @@ fn select_all(
 fn find_each(
     alloc: Global,
     store: &Store,
-    properties: &Option<Texts>,
+    kind: Kind,
+    asked: &Asked,
     ids: Vec<Text>,
 ) -> Result<Found, AllocError>
-    ensures list { IfOk result (λ found. map data_of found.list.items ≡ map (selected properties.now)
-        (flat_map (λ id. some_of (object_with_id (changes_of (entries store.now)) Calendar id)) ids.items)) }
+    ensures list { IfOk result (λ found. map data_of found.list.items ≡ map (selected asked.now)
+        (flat_map (λ id. some_of (object_with_id (changes_of (entries store.now)) kind id)) ids.items)) }
     ensures missing { IfOk result (λ found. found.missing.items
-        ≡ filter (λ id. not (is_some (object_with_id (changes_of (entries store.now)) Calendar id))) ids.items) }
+        ≡ filter (λ id. not (is_some (object_with_id (changes_of (entries store.now)) kind id))) ids.items) }
 {
     let mut list = Vec::new(alloc);
     let mut missing = Vec::new(alloc);
     for id in ids {
-        match object_of_id(store, Kind::Calendar, &id) {
-            Some(object) => list.push(select(alloc, properties, object)?)?,
+        match object_of_id(store, kind, &id) {
+            Some(object) => list.push(select(alloc, asked, object)?)?,
             None => missing.push(id)?,
         }
     }
     Ok(Found { list, missing })
 }
 
-/// What is found of the calendars of these ids, where `#key` stands for the created id of that key.
+/// What is found of the objects of these ids, where `#key` stands for the created id of that key.
 pub fn find_ids(
     alloc: Global,
     store: &Store,
+    kind: Kind,
     ids: &[Text],
     properties: &Option<Texts>,
     created: &[(Text, Text)],
 ) -> Result<Found, AllocError>
-    ensures list { IfOk result (λ found. map data_of found.list.items ≡ map (selected properties.now) (objects_asked (changes_of (entries store.now)) Calendar created.now (Some ids.now))) }
-    ensures missing { IfOk result (λ found. found.missing.items ≡ ids_not_found (changes_of (entries store.now)) Calendar created.now (Some ids.now)) }
+    ensures list { IfOk result (λ found. map data_of found.list.items ≡ map (selected properties.now) (objects_asked (changes_of (entries store.now)) kind created.now (Some ids.now))) }
+    ensures missing { IfOk result (λ found. found.missing.items ≡ ids_not_found (changes_of (entries store.now)) kind created.now (Some ids.now)) }
 {
     let ids = asked_ids(alloc, ids, created)?;
-    let properties = asked_properties(alloc, properties)?;
-    find_each(alloc, store, &properties, ids)
+    let asked = Asked::of(alloc, properties)?;
+    find_each(alloc, store, kind, &asked, ids)
 }
 
 /// What is found where these are all objects, and all are asked for.
@@ -97,9 +99,9 @@ pub fn find_all(
     ensures list { IfOk result (λ found. map data_of found.list.items ≡ map (selected properties.now) (map (λ t. t.now) objects.now)) }
     ensures missing { IfOk result (λ found. found.missing.items ≡ []) }
 {
-    let properties = asked_properties(alloc, properties)?;
+    let asked = Asked::of(alloc, properties)?;
     Ok(Found {
-        list: select_all(alloc, &properties, objects)?,
+        list: select_all(alloc, &asked, objects)?,
         missing: Vec::new(alloc),
     })
 }

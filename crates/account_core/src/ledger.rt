@@ -128,6 +128,10 @@ impl AccountView for Ledger {
         found
     }
 
+    fn has_event(&self, calendar: u64) -> bool {
+        has_event_from(self, calendar, 1)
+    }
+
     fn created_so_far(&self, kind: Kind) -> u64 {
         self.tally.created(kind)
     }

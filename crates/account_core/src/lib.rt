@@ -2,6 +2,7 @@
 #![tactic(auto)]
 
 pub mod account;
+mod asked;
 mod changes;
 mod found;
 mod get;

@@ -2,7 +2,7 @@
 ghost use Rattle.std.specs.Prelude.{◌≡◌, ◌≤◌, ◌++◌, [], None, IfErr, IfOk, OnErr, OnOk, length};
 ghost use Rattle.account_core.specs.Ledger.{base, ledger_entries, history, staged};
 ghost use Rattle.account_store.specs.Store.{spare};
-ghost use Rattle.cal_model.specs.Answer.{answered, changes_if_built, entries_from, if_built, set_added, set_answer};
+ghost use Rattle.cal_model.specs.Answer.{answered, entries_from, set_added, set_answer};
 ghost use Rattle.cal_model.specs.SetReply.{set_arguments};
 ghost use Rattle.cal_model.specs.Sets.{new_ids, set_changes, set_refusal};
 ghost use Rattle.set_methods.specs.Reports.{Reports};
@@ -10,8 +10,7 @@ ghost use Rattle.set_methods.specs.Requests.{ground_at, objects_in};
 
 use crate::ledger::Ledger;
 use crate::reply::{refusal, reply};
-use model_call::call::{MethodError, Reply};
-use model_history::entry::Kind;
+use model_call::call::Reply;
 use model_history::stamp::Stamp;
 use model_json::lists::Pairs;
 use model_time::moment::Moment;
@@ -21,29 +20,9 @@ use set_methods::request::SetRequest;
 use std::alloc::AllocError;
 
 /// Answers a set of objects of a kind, and adds its entries. After want of memory the entries are as before.
+///
+/// The changes are planned and memory is reserved before an entry is added, and nothing can fail then.
 pub fn set(
-    ledger: &mut Ledger,
-    stamp: &Stamp,
-    request: &SetRequest<'_>,
-    created: &Pairs,
-) -> Result<Reply, AllocError>
-    requires { staged ledger.old ≡ [] }
-    ensures reply { IfOk result (λ r. r ≡ if_built (ledger_entries ledger.old) request.now.kind (set_answer (base ledger.old) (ledger_entries ledger.old) stamp.now.moment
-        request.now.kind created.now (objects_in request.now) request.now.if_in_state.now request.now.remove_events)) }
-    ensures grown { OnOk result (ledger_entries ledger.new ≡ ledger_entries ledger.old ++ entries_from stamp.now 0 (changes_if_built request.now.kind (set_added (base ledger.old)
-        (ledger_entries ledger.old) stamp.now.moment request.now.kind created.now (objects_in request.now) request.now.if_in_state.now request.now.remove_events))) }
-    ensures unchanged { OnErr result (ledger_entries ledger.new ≡ ledger_entries ledger.old) }
-    ensures staged { staged ledger.new ≡ [] }
-    ensures base { base ledger.new ≡ base ledger.old }
-{
-    match request.kind {
-        Kind::Calendar => carry_out(ledger, stamp, request, created),
-        Kind::Event => Ok(refusal(ledger.alloc, &ledger.store, MethodError::NotBuilt)),
-    }
-}
-
-// The changes are planned and memory is reserved before an entry is added, and nothing can fail then.
-fn carry_out(
     ledger: &mut Ledger,
     stamp: &Stamp,
     request: &SetRequest<'_>,

@@ -33,10 +33,13 @@ resolved_value created d = option_map_or (λ ps. object (members_of (resolved_ca
 abbrev pub resolved_member_value : List (List ℕ × List ℕ) → Pair → Data
 resolved_member_value created p = if bytes_eq p.0 (codes "calendarIds") then resolved_value created p.1 else p.1
 
+-- what stands behind `calendarIds/` in a pointer that begins with it
+abbrev pub below_calendar_ids : List ℕ → Option (List ℕ)
+below_calendar_ids key = if bytes_eq (take 12 key) (codes "calendarIds/") then Some (drop 12 key) else None
+
 -- a pointer `calendarIds/#key` names the calendar that the request created under the key
 abbrev pub resolved_pointer : List (List ℕ × List ℕ) → List ℕ → List ℕ
-resolved_pointer created key =
-    if bytes_eq (take 12 key) (codes "calendarIds/") then codes "calendarIds/" ++ resolved_id created (drop 12 key) else key
+resolved_pointer created key = option_map_or (λ id. codes "calendarIds/" ++ resolved_id created id) (below_calendar_ids key) key
 
 -- an object as the client gives it, with created ids in place of `#key`
 abbrev pub resolved_object : List (List ℕ × List ℕ) → Kind → List Pair → List Pair

@@ -69,6 +69,11 @@ is_this_text d s = option_map_or (λ t. bytes_eq t s) (as_text d) false
 abbrev pub has_other_id : Kind → ℕ → List Pair → Bool
 has_other_id kind n ps = option_map_or (λ d. not (is_this_text d (id_text kind n))) (lookup (codes "id") (given ps)) false
 
+-- a calendar in which events are
+abbrev pub is_in_use : List Change → Kind → ℕ → Bool
+is_in_use cs Calendar n = has_event cs n
+is_in_use cs Event n = false
+
 module _ (g : Ground) (cs : List Change) where
   -- what comes of storing calendar n with these members; `names_id` says whether the client gives an id that it may not give
   abbrev pub calendar_outcome : ℕ → Bool → List Pair → Outcome
@@ -107,14 +112,9 @@ module _ (g : Ground) (cs : List Change) where
   updated_outcome kind patch false true (Some q) = Refused (InvalidPatch [])
   updated_outcome kind patch false false (Some q) = patched_outcome kind q.0 q.1 (patched (data_of q.1) patch)
 
-  -- a calendar in which events are stays
-  abbrev pub is_in_use : Kind → ℕ → Bool
-  is_in_use Calendar n = has_event cs n
-  is_in_use Event n = false
-
   abbrev pub destroyed_outcome : Kind → Option (ℕ × Tree) → Outcome
   destroyed_outcome kind None = Refused NotFound
-  destroyed_outcome kind (Some q) = if is_in_use kind q.0 then Refused CalendarHasEvent else within_quota cs (removal kind q.0)
+  destroyed_outcome kind (Some q) = if is_in_use cs kind q.0 then Refused CalendarHasEvent else within_quota cs (removal kind q.0)
 
   -- the first reason why an operation is refused after these changes, or else the change that it makes, where the request has
   -- created these ids

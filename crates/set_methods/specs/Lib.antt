@@ -1,4 +1,3 @@
-pub mod IdsByKey
 pub mod Judging
 pub mod Reports
 pub mod Requests

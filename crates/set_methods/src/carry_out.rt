@@ -1,10 +1,13 @@
 //! Sets that are carried out.
-ghost use Rattle.std.specs.Prelude.{◌≡◌, [], IfOk, OnOk, flat_map, length, vec_len};
+ghost use Rattle.std.specs.Prelude.{◌≡◌, [], IfOk, List, OnOk, flat_map, length, vec_len, ℕ};
 ghost use Rattle.cal_model.specs.SetReply.{set_arguments};
 ghost use Rattle.cal_model.specs.Operations.{changes_in};
-ghost use Rattle.cal_model.specs.Sets.{all_ids, create_outcomes, new_ids, set_changes};
+ghost use Rattle.cal_model.specs.Sets.{new_ids, set_changes};
+ghost use Rattle.model_history.specs.History.{state_at};
+ghost use Rattle.model_history.specs.declared.entry.Change.{Change as AnyChange};
 ghost use Rattle.set_methods.specs.Judging.{ground_in};
 ghost use Rattle.set_methods.specs.Requests.{objects_in};
+ghost use Rattle.set_methods.specs.Telling.{IsCreated};
 
 use crate::arguments::arguments;
 use crate::created::new_ids;
@@ -18,17 +21,18 @@ use crate::setting::Setting;
 use crate::told::Told;
 use cal_model::view::AccountView;
 use model_json::lists::Pairs;
+use model_json::tree::Tree;
 use std::alloc::{AllocError, Global};
 
 /// Carries out a set that isn't refused: creates, then updates, then destroys (RFC 8620 section 5.3).
 ///
 /// After want of memory some changes may be staged.
-pub(crate) fn carry_out<'k, V: AccountView>(
+pub(crate) fn carry_out<V: AccountView>(
     alloc: Global,
     view: &mut V,
-    setting: &Setting<'k>,
-    request: &SetRequest<'k>,
-    created: &'k Pairs,
+    setting: &Setting<'_>,
+    request: &SetRequest<'_>,
+    created: &Pairs,
 ) -> Result<Plan, AllocError>
     requires { V.staged view.old ≡ [] }
     ensures arguments { IfOk result (λ p. p.arguments ≡ set_arguments (ground_in setting.now) setting.now.kind created.now (V.history view.old) (objects_in request.now)) }
@@ -39,46 +43,64 @@ pub(crate) fn carry_out<'k, V: AccountView>(
     ensures base { V.base view.new ≡ V.base view.old }
 {
     let old_state = view.state(setting.kind);
-    let objects = request.creates();
-    let patches = request.updates();
     let made = create_all(alloc, view, setting, request, created)?;
-    let added = new_ids(alloc, objects, &made.outcomes)?;
-    let arguments = {
-        let named = ids_named(alloc, &made.ids, request.destroys())?;
-        let updates = update_operations(alloc, &made.ids, &named, patches)?;
-        let changed = run(alloc, view, setting, &made.ids, &updates)?;
-        let destroys = destroy_operations(alloc, &named)?;
-        let removed = run(alloc, view, setting, &made.ids, &destroys)?;
-        let told = Told {
-            account: setting.account,
-            old_state,
-            new_state: view.state(setting.kind),
-            creates: objects,
-            create_outcomes: &made.outcomes,
-            updates: patches,
-            update_outcomes: &changed,
-            destroys: &named,
-            destroy_outcomes: &removed,
-        };
-        arguments(alloc, &told)?
-    };
+    let added = new_ids(alloc, request.creates(), &made.outcomes)?;
+    let arguments = change_all(alloc, view, setting, request, old_state, &made)?;
     Ok(Plan {
         arguments,
         created: Pairs::new(added),
     })
 }
 
-// What comes of the creates, where the request has created these ids before.
-fn create_all<'k, V: AccountView>(
+// Carries out the updates and destroys behind the creates, and gives the arguments of the response.
+fn change_all<V: AccountView>(
     alloc: Global,
     view: &mut V,
     setting: &Setting<'_>,
-    request: &SetRequest<'k>,
-    created: &'k Pairs,
-) -> Result<Creates<'k>, AllocError>
+    request: &SetRequest<'_>,
+    old_state: u64,
+    made: &Creates,
+) -> Result<Tree, AllocError>
+    requires { vec_len made.now.outcomes ≡ length (objects_in request.now).creates }
+    ensures arguments { IfOk result (λ t. (created : List (List ℕ × List ℕ)) (cs : List AnyChange)
+        → IsCreated made.now (ground_in setting.now) setting.now.kind created cs (objects_in request.now) → V.history view.old ≡ cs → V.staged view.old ≡ flat_map changes_in made.now.outcomes.items
+        → old_state ≡ state_at cs setting.now.kind → t ≡ set_arguments (ground_in setting.now) setting.now.kind created cs (objects_in request.now)) }
+    ensures staged { OnOk result ((created : List (List ℕ × List ℕ)) (cs : List AnyChange)
+        → IsCreated made.now (ground_in setting.now) setting.now.kind created cs (objects_in request.now) → V.history view.old ≡ cs → V.staged view.old ≡ flat_map changes_in made.now.outcomes.items
+        → V.staged view.new ≡ set_changes (ground_in setting.now) setting.now.kind created cs (objects_in request.now)) }
+    ensures history { V.history view.new ≡ V.history view.old }
+    ensures entries { V.entries view.new ≡ V.entries view.old }
+    ensures base { V.base view.new ≡ V.base view.old }
+{
+    let named = ids_named(alloc, &made.ids, request.destroys())?;
+    let updates = update_operations(alloc, &made.ids, &named, request.updates())?;
+    let changed = run(alloc, view, setting, &made.ids, &updates)?;
+    let destroys = destroy_operations(alloc, &named)?;
+    let removed = run(alloc, view, setting, &made.ids, &destroys)?;
+    let told = Told {
+        account: setting.account,
+        old_state,
+        new_state: view.state(setting.kind),
+        creates: request.creates(),
+        create_outcomes: &made.outcomes,
+        updates: request.updates(),
+        update_outcomes: &changed,
+        destroys: &named,
+        destroy_outcomes: &removed,
+    };
+    Ok(arguments(alloc, &told)?)
+}
+
+// What comes of the creates, where the request has created these ids before.
+fn create_all<V: AccountView>(
+    alloc: Global,
+    view: &mut V,
+    setting: &Setting<'_>,
+    request: &SetRequest<'_>,
+    created: &Pairs,
+) -> Result<Creates, AllocError>
     requires { V.staged view.old ≡ [] }
-    ensures outcomes { IfOk result (λ c. c.outcomes.items ≡ create_outcomes (ground_in setting.now) setting.now.kind created.now (V.history view.old) (objects_in request.now)) }
-    ensures ids { IfOk result (λ c. c.ids ≡ all_ids (ground_in setting.now) setting.now.kind created.now (V.history view.old) (objects_in request.now)) }
+    ensures created { IfOk result (λ c. IsCreated c (ground_in setting.now) setting.now.kind created.now (V.history view.old) (objects_in request.now)) }
     ensures lengths { IfOk result (λ c. vec_len c.outcomes ≡ length (objects_in request.now).creates) }
     ensures staged { IfOk result (λ c. V.staged view.new ≡ flat_map changes_in c.outcomes.items) }
     ensures history { V.history view.new ≡ V.history view.old }

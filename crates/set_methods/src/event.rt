@@ -98,18 +98,18 @@ fn bad_names<V: AccountView>(
         (option_map (λ t. t.now) before.entry) names_id (data_of event.now)) }
 {
     let mut names = bad_event_names(alloc, event, setting.zones)?;
-    note_if(alloc, is_in_no_calendar(view, event), "calendarIds", &mut names)?;
+    note_if(
+        alloc,
+        is_in_no_calendar(view, event),
+        "calendarIds",
+        &mut names,
+    )?;
     note_if(alloc, has_other_uid(before, event), "uid", &mut names)?;
     note_if(alloc, names_id, "id", &mut names)?;
     Ok(names)
 }
 
-fn note_if(
-    alloc: Global,
-    is_bad: bool,
-    name: &str,
-    names: &mut Vec<Text>,
-) -> Result<(), AllocError>
+fn note_if(alloc: Global, is_bad: bool, name: &str, names: &mut Vec<Text>) -> Result<(), AllocError>
     ensures { OnOk result (names.new.items ≡ with_name_if is_bad name.now names.old.items) }
 {
     if is_bad {
@@ -190,32 +190,47 @@ fn with_server_values(
     ensures { IfOk result (λ o. o ≡ with_server_values setting.now.account.now setting.now.moment number (option_map (λ t. t.now) before.entry) given) }
 {
     let mut members = given;
-    put(alloc, "id", Tree::Text(object_id_text(alloc, Kind::Event, number)?), &mut members)?;
-    put(alloc, "created", moment_created(alloc, setting.moment, before)?, &mut members)?;
-    put(alloc, "updated", moment_tree(alloc, setting.moment)?, &mut members)?;
-    supply(alloc, "@type", Tree::Text(Text::from_str(alloc, "Event")?), &mut members)?;
-    supply(alloc, "uid", Tree::Text(supplied_uid(alloc, setting.account, number)?), &mut members)?;
+    put(
+        alloc,
+        "id",
+        Tree::Text(object_id_text(alloc, Kind::Event, number)?),
+        &mut members,
+    )?;
+    put(
+        alloc,
+        "created",
+        moment_created(alloc, setting.moment, before)?,
+        &mut members,
+    )?;
+    put(
+        alloc,
+        "updated",
+        moment_tree(alloc, setting.moment)?,
+        &mut members,
+    )?;
+    supply(
+        alloc,
+        "@type",
+        Tree::Text(Text::from_str(alloc, "Event")?),
+        &mut members,
+    )?;
+    supply(
+        alloc,
+        "uid",
+        Tree::Text(supplied_uid(alloc, setting.account, number)?),
+        &mut members,
+    )?;
     Ok(members)
 }
 
-fn put(
-    alloc: Global,
-    key: &str,
-    value: Tree,
-    members: &mut TreeObject,
-) -> Result<(), AllocError>
+fn put(alloc: Global, key: &str, value: Tree, members: &mut TreeObject) -> Result<(), AllocError>
     ensures { OnOk result (members.new ≡ with_pair key.now (data_of value) members.old) }
 {
     members.put(Text::from_str(alloc, key)?, value)
 }
 
 // Puts a value at a key where there is none.
-fn supply(
-    alloc: Global,
-    key: &str,
-    value: Tree,
-    members: &mut TreeObject,
-) -> Result<(), AllocError>
+fn supply(alloc: Global, key: &str, value: Tree, members: &mut TreeObject) -> Result<(), AllocError>
     ensures { OnOk result (members.new ≡ with_default key.now (data_of value) members.old) }
 {
     if members.get(key).is_some() {
@@ -224,11 +239,7 @@ fn supply(
     put(alloc, key, value, members)
 }
 
-fn moment_created(
-    alloc: Global,
-    moment: Moment,
-    before: Option<&Tree>,
-) -> Result<Tree, AllocError>
+fn moment_created(alloc: Global, moment: Moment, before: Option<&Tree>) -> Result<Tree, AllocError>
     ensures { IfOk result (λ t. data_of t ≡ moment_created moment (option_map (λ t. t.now) before.entry)) }
 {
     match before {

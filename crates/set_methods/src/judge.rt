@@ -1,7 +1,7 @@
 //! What comes of one object of a set.
 ghost use Rattle.std.specs.Prelude.{◌≡◌, ◌++◌, Bool, IfOk, IfSome, Some, is_some, option_map, true};
 ghost use Rattle.cal_model.specs.CreatedIds.{object_named, resolved_object};
-ghost use Rattle.cal_model.specs.Operations.{Ground, created_outcome, destroyed_outcome, is_in_use, object_outcome, outcome_of, patched_outcome, updated_outcome};
+ghost use Rattle.cal_model.specs.Operations.{created_outcome, destroyed_outcome, is_in_use, object_outcome, outcome_of, patched_outcome, updated_outcome};
 ghost use Rattle.model_history.specs.History.{live_object};
 ghost use Rattle.model_json.specs.Parts.{members_in};
 ghost use Rattle.model_json.specs.Patch.{patched};
@@ -26,12 +26,12 @@ use std::alloc::{AllocError, Global};
 use time_text::read_object_id;
 
 /// What comes of an update or a destroy after the changes of a view, where the request has created these ids.
-pub(crate) fn judge<'k, V: AccountView>(
+pub(crate) fn judge<V: AccountView>(
     alloc: Global,
     view: &V,
     setting: &Setting<'_>,
-    created: &CreatedIds<'k>,
-    operation: &Operation<'k>,
+    created: &CreatedIds,
+    operation: &Operation<'_>,
 ) -> Result<Judged, AllocError>
     ensures exact { IfOk result (λ j. j.outcome
         ≡ outcome_of (ground_in setting.now) (V.history view.now ++ V.staged view.now) setting.now.kind created.now (operation_in operation.now)) }
@@ -45,19 +45,27 @@ pub(crate) fn judge<'k, V: AccountView>(
             is_repeated,
         } => {
             let patch = resolved_patch(alloc, setting.kind, created, patch)?;
-            update(alloc, view, setting, id, &patch, *is_destroyed, *is_repeated)
+            update(
+                alloc,
+                view,
+                setting,
+                id,
+                &patch,
+                *is_destroyed,
+                *is_repeated,
+            )
         }
         Operation::Destroy(id) => destroy(alloc, view, setting, id),
     }
 }
 
 /// What comes of creating an object of what the client gives, after the changes of a view, where the request has created these ids.
-pub(crate) fn judge_create<'k, V: AccountView>(
+pub(crate) fn judge_create<V: AccountView>(
     alloc: Global,
     view: &V,
     setting: &Setting<'_>,
-    created: &CreatedIds<'k>,
-    value: &'k Tree,
+    created: &CreatedIds,
+    value: &Tree,
 ) -> Result<Judged, AllocError>
     ensures exact { IfOk result (λ j. j.outcome ≡ created_outcome (ground_in setting.now) (V.history view.now ++ V.staged view.now) setting.now.kind
         (resolved_object created.now setting.now.kind (members_in (data_of value.now)))) }
@@ -147,7 +155,15 @@ fn patch_object<V: AccountView>(
         Ok(tree) => {
             let patched = into_object(alloc, tree);
             let names_id = has_other_id(alloc, setting.kind, number, &patched)?;
-            object_outcome(alloc, view, setting, number, Some(object), names_id, patched)
+            object_outcome(
+                alloc,
+                view,
+                setting,
+                number,
+                Some(object),
+                names_id,
+                patched,
+            )
         }
         Err(PatchError::InvalidPatch { key }) => Ok(Judged::refused(SetError::InvalidPatch {
             key,
@@ -185,7 +201,7 @@ fn destroy<V: AccountView>(
 
 // Whether this is a calendar in which events are.
 fn is_in_use<V: AccountView>(view: &V, kind: Kind, number: u64) -> bool
-    ensures { (g : Ground) → result ≡ is_in_use g (V.history view.now ++ V.staged view.now) kind number }
+    ensures { result ≡ is_in_use (V.history view.now ++ V.staged view.now) kind number }
 {
     match kind {
         Kind::Calendar => view.has_event(number),

@@ -53,10 +53,10 @@ pub(crate) fn names_id(named: &[NamedId<'_>], id: &Text) -> bool
 }
 
 /// The ids of these texts, each once under the first text that stands for it. Takes time with the square of their number.
-pub(crate) fn ids_named<'a, 'k>(
+pub(crate) fn ids_named<'a>(
     alloc: Global,
-    created: &'a CreatedIds<'k>,
-    texts: &'k [Text],
+    created: &'a CreatedIds,
+    texts: &'a [Text],
 ) -> Result<Vec<NamedId<'a>>, AllocError>
     ensures { IfOk result (λ v. v.items ≡ ids_named created.now texts.now) }
 {

@@ -13,11 +13,11 @@ use std::alloc::{AllocError, Global};
 
 /// The updates of a set, each with whether its object is among those to be destroyed, and whether one before it names the
 /// same. Takes time with the square of their number.
-pub(crate) fn update_operations<'a, 'k>(
+pub(crate) fn update_operations<'a>(
     alloc: Global,
-    created: &'a CreatedIds<'k>,
+    created: &'a CreatedIds,
     destroyed: &[NamedId<'a>],
-    members: &'k [Member],
+    members: &'a [Member],
 ) -> Result<Vec<Operation<'a>>, AllocError>
     ensures { IfOk result (λ v. map operation_in v.items ≡ updates_after created.now destroyed.now [] (map pair_of members.now)) }
 {

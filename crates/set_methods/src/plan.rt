@@ -22,14 +22,14 @@ use zone_table::Zones;
 ///
 /// The accepted changes are then staged. `Method` tells why the call is refused as a whole. Takes memory for the changes and
 /// the response.
-pub fn plan<'k, V: AccountView>(
+pub fn plan<V: AccountView>(
     alloc: Global,
     view: &mut V,
-    zones: &'k Zones,
-    account: &'k Text,
+    zones: &Zones,
+    account: &Text,
     moment: Moment,
-    request: &SetRequest<'k>,
-    created: &'k Pairs,
+    request: &SetRequest<'_>,
+    created: &Pairs,
 ) -> Result<Plan, PlanError>
     requires staged { V.staged view.old ≡ [] }
     requires zones { zones.now ≡ (V.base view.old).zones }

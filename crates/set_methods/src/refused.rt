@@ -103,8 +103,6 @@ fn set_error_tree(alloc: Global, error: &SetError) -> Result<Tree, AllocError>
         | SetError::WillDestroy
         | SetError::CalendarHasEvent
         | SetError::OverQuota
-        | SetError::NotBuilt => {
-            Tree::object(alloc, vec![in alloc; ("type", name)]?)
-        }
+        | SetError::NotBuilt => { Tree::object(alloc, vec![in alloc; ("type", name)]?) }
     }
 }

@@ -20,25 +20,25 @@ use time_text::object_id_text;
 
 /// What creates came to.
 #[derive(Drop)]
-pub(crate) struct Creates<'k> {
+pub(crate) struct Creates {
     pub outcomes: Vec<Outcome>,
     /// The ids that the request has created by then.
-    pub ids: CreatedIds<'k>,
+    pub ids: CreatedIds,
 }
 
 /// What comes of creates, each after those before it and with the ids that they created. Accepted changes are staged
 /// (RFC 8620 section 5.3).
-pub(crate) fn run_creates<'k, V: AccountView>(
+pub(crate) fn run_creates<V: AccountView>(
     alloc: Global,
     view: &mut V,
     setting: &Setting<'_>,
-    created: CreatedIds<'k>,
-    creates: &'k [Member],
-) -> Result<Creates<'k>, AllocError>
+    created: CreatedIds,
+    creates: &[Member],
+) -> Result<Creates, AllocError>
     ensures outcomes { IfOk result (λ c. c.outcomes.items
-        ≡ outcomes_of_creates (ground_in setting.now) setting.now.kind created.entry (V.history view.old ++ V.staged view.old) (map pair_of creates.now)) }
-    ensures ids { IfOk result (λ c. c.ids ≡ created.entry ++ of_each created_id (map pair_of creates.now)
-        (outcomes_of_creates (ground_in setting.now) setting.now.kind created.entry (V.history view.old ++ V.staged view.old) (map pair_of creates.now))) }
+        ≡ outcomes_of_creates (ground_in setting.now) setting.now.kind created (V.history view.old ++ V.staged view.old) (map pair_of creates.now)) }
+    ensures ids { IfOk result (λ c. c.ids ≡ created ++ of_each created_id (map pair_of creates.now)
+        (outcomes_of_creates (ground_in setting.now) setting.now.kind created (V.history view.old ++ V.staged view.old) (map pair_of creates.now))) }
     ensures lengths { IfOk result (λ c. vec_len c.outcomes ≡ length creates.now) }
     ensures staged { IfOk result (λ c. V.staged view.new ≡ V.staged view.old ++ flat_map changes_in c.outcomes.items) }
     ensures history { V.history view.new ≡ V.history view.old }
@@ -57,30 +57,30 @@ pub(crate) fn run_creates<'k, V: AccountView>(
 }
 
 // The ids with that of the object that a create made.
-fn noted<'k>(
+fn noted(
     alloc: Global,
-    ids: CreatedIds<'k>,
-    key: &'k Text,
+    ids: CreatedIds,
+    key: &Text,
     outcome: &Outcome,
-) -> Result<CreatedIds<'k>, AllocError>
-    ensures { IfOk result (λ all. (d : Data) → all ≡ ids.entry ++ created_id (key.now, d) outcome.now) }
+) -> Result<CreatedIds, AllocError>
+    ensures { IfOk result (λ all. (d : Data) → all ≡ ids ++ created_id (key.now, d) outcome.now) }
 {
     match outcome {
         Outcome::Accepted(change) => {
             let id = object_id_text(alloc, change.kind, change.id)?;
-            ids.with(key, id)
+            ids.with(alloc, key, id)
         }
         Outcome::Refused(_) => Ok(ids),
     }
 }
 
 /// What comes of operations, each after those before it, whose accepted changes are staged (RFC 8620 section 5.3).
-pub(crate) fn run<'k, V: AccountView>(
+pub(crate) fn run<V: AccountView>(
     alloc: Global,
     view: &mut V,
     setting: &Setting<'_>,
-    created: &CreatedIds<'k>,
-    operations: &[Operation<'k>],
+    created: &CreatedIds,
+    operations: &[Operation<'_>],
 ) -> Result<Vec<Outcome>, AllocError>
     ensures outcomes { IfOk result (λ v. v.items
         ≡ outcomes (ground_in setting.now) setting.now.kind created.now (V.history view.old ++ V.staged view.old) (map operation_in operations.now)) }

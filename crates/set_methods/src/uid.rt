@@ -9,15 +9,11 @@ use time_text::object_id_text;
 use uuid::Uuid;
 
 /// The uid of an event to which the client gives none: the version 5 UUID of the account's id, a slash and the event's id.
-pub(crate) fn supplied_uid(
-    alloc: Global,
-    account: &Text,
-    number: u64,
-) -> Result<Text, AllocError>
+pub(crate) fn supplied_uid(alloc: Global, account: &Text, number: u64) -> Result<Text, AllocError>
     ensures { IfOk result (λ t. t ≡ supplied_uid account.now number) }
 {
     let mut name = String::from_str(alloc, account.as_str())?;
-    name.push('/')?;
+    name.push_str("/")?;
     name.push_str(object_id_text(alloc, Kind::Event, number)?.as_str())?;
     named_uuid(alloc, name.as_bytes())
 }

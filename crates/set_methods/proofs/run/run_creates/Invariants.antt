@@ -13,9 +13,9 @@ invariant-loop-member g l = record {
   base : g.V.AccountView.base l.view ≡ g.V.AccountView.base l.initial.view;
   staged : g.V.AccountView.staged l.view ≡ g.V.AccountView.staged l.initial.view ++ flat_map changes_in l.outcomes.items;
   rest : l.outcomes.items ++ outcomes_of_creates (ground_in l.setting) l.setting.kind l.ids (g.V.AccountView.history l.initial.view ++ g.V.AccountView.staged l.view) (map pair_of (drop l.member-index l.creates))
-      ≡ outcomes_of_creates (ground_in l.setting) l.setting.kind l.created (g.V.AccountView.history l.initial.view ++ g.V.AccountView.staged l.initial.view) (map pair_of l.creates);
+      ≡ outcomes_of_creates (ground_in l.setting) l.setting.kind l.initial.ids (g.V.AccountView.history l.initial.view ++ g.V.AccountView.staged l.initial.view) (map pair_of l.creates);
   added : l.ids ++ of_each created_id (map pair_of (drop l.member-index l.creates))
       (outcomes_of_creates (ground_in l.setting) l.setting.kind l.ids (g.V.AccountView.history l.initial.view ++ g.V.AccountView.staged l.view) (map pair_of (drop l.member-index l.creates)))
-      ≡ l.created ++ of_each created_id (map pair_of l.creates)
-      (outcomes_of_creates (ground_in l.setting) l.setting.kind l.created (g.V.AccountView.history l.initial.view ++ g.V.AccountView.staged l.initial.view) (map pair_of l.creates));
+      ≡ l.initial.ids ++ of_each created_id (map pair_of l.creates)
+      (outcomes_of_creates (ground_in l.setting) l.setting.kind l.initial.ids (g.V.AccountView.history l.initial.view ++ g.V.AccountView.staged l.initial.view) (map pair_of l.creates));
 }
