@@ -1,6 +1,7 @@
-pub mod Differences
 pub mod Orders
 pub mod Numbers
 pub mod Counting
 pub mod Committing
 pub mod Pages
+pub mod LiveEvents
+pub mod AskedLemmas

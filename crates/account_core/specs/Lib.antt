@@ -1,3 +1,5 @@
 pub mod PageObject
 pub mod Tally
 pub mod Ledger
+pub mod AskedNames
+pub mod Uses

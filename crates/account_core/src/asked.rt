@@ -2,7 +2,7 @@
 ghost use Rattle.std.specs.Prelude.{◌≡◌, ◌||◌, IfOk, List, OnOk, ℕ};
 ghost use Rattle.std.specs.BTreeSet.{contains_text};
 ghost use Rattle.std.specs.Str.{bytes_eq};
-ghost use Rattle.account_core.specs.AskedNames.{is_one_of};
+ghost use Rattle.account_core.specs.AskedNames.{is_named, is_one_of};
 ghost use Rattle.cal_model.specs.Gets.{is_asked_for};
 ghost use Rattle.model_json.specs.Data.{Data};
 
@@ -55,9 +55,16 @@ impl Asked {
         ensures { (d : Data) → result ≡ is_asked_for self.now (name.now, d) }
     {
         match &self.names {
-            Some(_) => name == "id" || self.by_name.contains(name),
+            Some(_) => name == "id" || self.is_named(name),
             None => true,
         }
+    }
+
+    // Whether the name is one of those that are asked for one by one.
+    fn is_named(&self, name: &str) -> bool
+        ensures { result ≡ is_named self.now name.now }
+    {
+        self.by_name.contains(name)
     }
 }
 

@@ -35,11 +35,7 @@ fn object_of_id<'a>(store: &'a Store, kind: Kind, id: &Text) -> Option<&'a Tree>
 }
 
 /// Copies of objects with those of their members alone that are asked for, and `id`.
-fn select_all(
-    alloc: Global,
-    asked: &Asked,
-    objects: &[&Tree],
-) -> Result<Vec<Tree>, AllocError>
+fn select_all(alloc: Global, asked: &Asked, objects: &[&Tree]) -> Result<Vec<Tree>, AllocError>
     ensures { IfOk result (λ v. map data_of v.items ≡ map (selected asked.now) (map (λ t. t.now) objects.now)) }
 {
     let mut list = Vec::with_capacity(alloc, objects.len())?;

@@ -1,5 +1,5 @@
 //! Gets (RFC 8620 section 5.1).
-ghost use Rattle.std.specs.Prelude.{◌≡◌, [], List, Some, None, true, IfOk, map, ℕ};
+ghost use Rattle.std.specs.Prelude.{◌≡◌, [], Some, None, true, IfOk, map};
 ghost use Rattle.account_core.specs.Ledger.{base, ledger_entries};
 ghost use Rattle.account_store.specs.Store.{entries};
 ghost use Rattle.cal_model.specs.Answer.{answered, get_answer};
@@ -57,13 +57,9 @@ fn get_ids(
     get_reply(ledger.alloc, &ledger.id, &ledger.store, kind, found)
 }
 
-fn get_all(
-    ledger: &Ledger,
-    kind: Kind,
-    properties: &Option<Texts>,
-) -> Result<Reply, AllocError>
+fn get_all(ledger: &Ledger, kind: Kind, properties: &Option<Texts>) -> Result<Reply, AllocError>
     requires { are_properties kind properties.now ≡ true }
-    ensures { IfOk result (λ r. (created : List (List ℕ × List ℕ)) → r ≡ get_answer (base ledger.now).account_id (ledger_entries ledger.now) kind created None properties.now) }
+    ensures { IfOk result (λ r. r ≡ get_answer (base ledger.now).account_id (ledger_entries ledger.now) kind [] None properties.now) }
 {
     let objects = ledger.store.live(ledger.alloc, kind)?;
     if objects.len() > MAX_OBJECTS_IN_GET {

@@ -6,6 +6,7 @@ ghost use Rattle.cal_model.specs.Answer.{entries_from};
 ghost use Rattle.model_history.specs.History.{changes_of};
 
 use crate::tally::Tally;
+use crate::uses::has_event;
 use account_store::Store;
 use cal_model::view::AccountView;
 use model_history::entry::{Change, Entry, Kind};
@@ -28,9 +29,9 @@ pub struct Ledger {
     pub store: Store,
     /// What the history holds.
     kept: Tally,
-    staged: Vec<Change>,
+    pub(crate) staged: Vec<Change>,
     /// What the history and the staged changes hold.
-    tally: Tally,
+    pub(crate) tally: Tally,
     ghost kept_told: { Tallies kept (changes_of (entries store)) },
     ghost told: { Tallies tally (changes_of (entries store) ++ staged.items) },
 }
@@ -129,7 +130,7 @@ impl AccountView for Ledger {
     }
 
     fn has_event(&self, calendar: u64) -> bool {
-        has_event_from(self, calendar, 1)
+        has_event(self, calendar)
     }
 
     fn created_so_far(&self, kind: Kind) -> u64 {

@@ -11,3 +11,4 @@ mod properties;
 mod reply;
 mod set;
 mod tally;
+mod uses;

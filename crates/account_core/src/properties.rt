@@ -59,11 +59,7 @@ fn are_names_of_properties(kind: Kind, names: &[Text]) -> bool
 }
 
 // Copies of those of the members that are asked for, and of `id`.
-fn chosen(
-    alloc: Global,
-    asked: &Asked,
-    members: &[Member],
-) -> Result<Vec<Member>, AllocError>
+fn chosen(alloc: Global, asked: &Asked, members: &[Member]) -> Result<Vec<Member>, AllocError>
     ensures { IfOk result (λ v. map pair_of v.items ≡ filter (is_asked_for asked.now) (map pair_of members.now)) }
 {
     let mut chosen = Vec::new(alloc);

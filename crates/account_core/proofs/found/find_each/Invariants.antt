@@ -5,11 +5,10 @@ use Rattle.cal_model.specs.Gets.{selected}
 use Rattle.model_history.specs.History.{changes_of}
 use Rattle.model_json.specs.Parts.{some_of}
 use Rattle.model_json.specs.TreeData.{data_of}
-use Rattle.model_history.specs.declared.entry.Kind.TheVariants.{Calendar}
 use Rattle.account_core.proofs.found.find_each.Given as goal
 
 abbrev pub invariant-loop-id : goal.invariant-loop-id
 invariant-loop-id l = record {
-  list : map data_of l.list.items ≡ map (selected l.properties) (flat_map (λ id. some_of (object_with_id (changes_of (entries l.store)) Calendar id)) l.yielded);
-  missing : l.missing.items ≡ filter (λ id. not (is_some (object_with_id (changes_of (entries l.store)) Calendar id))) l.yielded;
+  list : map data_of l.list.items ≡ map (selected l.asked) (flat_map (λ id. some_of (object_with_id (changes_of (entries l.store)) l.kind id)) l.yielded);
+  missing : l.missing.items ≡ filter (λ id. not (is_some (object_with_id (changes_of (entries l.store)) l.kind id))) l.yielded;
 }

@@ -4,4 +4,4 @@ use Rattle.model_json.specs.TreeData.{data_of}
 use Rattle.account_core.proofs.found.select_all.Given as goal
 
 abbrev pub invariant-loop-object : goal.invariant-loop-object
-invariant-loop-object l = map data_of l.list.items ++ map (selected l.properties) (map (λ t. t.now) (drop l.object-index l.objects)) ≡ map (selected l.properties) (map (λ t. t.now) l.objects)
+invariant-loop-object l = map data_of l.list.items ++ map (selected l.asked) (map (λ t. t.now) (drop l.object-index l.objects)) ≡ map (selected l.asked) (map (λ t. t.now) l.objects)

@@ -1,7 +1,7 @@
 use Rattle.std.proofs.Common.{refl}
 use Rattle.cal_model.specs.Calendar.{calendar_table}
 use Rattle.property_table.proofs.TableLemmas.{unlike}
-use Rattle.account_core.proofs.properties.is_property.Goals as goal
+use Rattle.account_core.proofs.properties.is_calendar_property.Goals as goal
 
 pub returns-in_default : goal.returns-in_default
 unfolding calendar_table
