@@ -1,7 +1,7 @@
 -- Answers look at the changes of a history and at nothing else of it.
 use Rattle.std.proofs.Common.{◌≡◌, ℕ, ℤ, suc, List, [], ◌∷◌, Bool, Option, Some, None, length, map, unwrap_or, refl, sym, ap, ◌∙◌}
 use Rattle.std.proofs.lemmas.List.{length-map}
-use Rattle.cal_model.specs.Answer.{answer, answer_to, answered, added, changes_answer, changes_by, changes_if_built, entries_from, get_answer, ground, if_built, refused, set_added, set_answer, unless_error, unless_refused}
+use Rattle.cal_model.specs.Answer.{answer, answer_to, answered, added, changes_answer, changes_by, entries_from, get_answer, ground, refused, set_added, set_answer, unless_error, unless_refused}
 use Rattle.cal_model.specs.Changes.{changes_response, changes_refusal}
 use Rattle.cal_model.specs.Gets.{get_response, get_error, ids_not_found, objects_asked, selected}
 use Rattle.cal_model.specs.SetReply.{set_arguments}
@@ -16,7 +16,6 @@ use Rattle.model_call.specs.declared.call.Reply.{Reply}
 use Rattle.model_history.specs.declared.entry.Change.{Change}
 use Rattle.model_history.specs.declared.entry.Entry.{Entry}
 use Rattle.model_history.specs.declared.entry.Kind.{Kind}
-use Rattle.model_history.specs.declared.entry.Kind.TheVariants.{Calendar, Event}
 use Rattle.model_history.specs.declared.stamp.Stamp.{Stamp}
 use Rattle.model_json.specs.declared.tree.Tree.TheVariants.{Null}
 use Rattle.time_text.specs.State.{state_in}
@@ -41,14 +40,10 @@ module _ (b : Base) (h h' : List Entry) (same : changes_of h ≡ changes_of h') 
   same_by : (refusal : List Change → Option MethodError) (r r' : Reply) → r ≡ r' → unless_error h (refusal (changes_of h)) r ≡ unless_error h' (refusal (changes_of h')) r'
   same_by refusal r r' is = ap (λ (cs : List Change). unless_error h (refusal cs) r) same ∙ same_unless (refusal (changes_of h')) r r' is
 
-  same_built : (kind : Kind) (r r' : Reply) → r ≡ r' → if_built h kind r ≡ if_built h' kind r'
-  same_built Calendar r r' is = is
-  same_built Event r r' is = same_refused _
-
   module _ (m : ℤ) (created : List (List ℕ × List ℕ)) where
-    same_get : (ids properties : Option (List (List ℕ))) → get_answer b.account_id h created ids properties ≡ get_answer b.account_id h' created ids properties
-    same_get ids properties = same_by (λ cs. get_error cs ids properties) _ _ (λ i. record {
-      arguments = get_response b.account_id (same i) (map (selected properties) (objects_asked (same i) Calendar created ids)) (ids_not_found (same i) Calendar created ids);
+    same_get : (kind : Kind) (ids properties : Option (List (List ℕ))) → get_answer b.account_id h kind created ids properties ≡ get_answer b.account_id h' kind created ids properties
+    same_get kind ids properties = same_by (λ cs. get_error kind cs ids properties) _ _ (λ i. record {
+      arguments = get_response b.account_id kind (same i) (map (selected properties) (objects_asked (same i) kind created ids)) (ids_not_found (same i) kind created ids);
       error = None;
       created = [];
       place = same_length i;
@@ -71,9 +66,9 @@ module _ (b : Base) (h h' : List Entry) (same : changes_of h ≡ changes_of h') 
     })
 
     same_to : (asks : Asks) → answer_to b h m created asks ≡ answer_to b h' m created asks
-    same_to (Get kind ids properties) = same_built kind _ _ (same_get ids properties)
-    same_to (Changes kind since most) = same_built kind _ _ (same_page kind since most)
-    same_to (Set kind if_in_state create update destroy remove_events) = same_built kind _ _ (same_set kind (objects create update destroy) if_in_state remove_events)
+    same_to (Get kind ids properties) = same_get kind ids properties
+    same_to (Changes kind since most) = same_page kind since most
+    same_to (Set kind if_in_state create update destroy remove_events) = same_set kind (objects create update destroy) if_in_state remove_events
     same_to (Query filter sort position anchor anchor_offset limit calculate_total expand time_zone) = same_refused _
     same_to (QueryChanges filter sort since most up_to calculate_total expand time_zone) = same_refused _
     same_to (Availability id utc_start utc_end time_zone) = same_refused _
@@ -82,7 +77,7 @@ module _ (b : Base) (h h' : List Entry) (same : changes_of h ≡ changes_of h') 
     same_changes (Get kind ids properties) = refl
     same_changes (Changes kind since most) = refl
     same_changes (Set kind if_in_state create update destroy remove_events) =
-        ap (λ (cs : List Change). changes_if_built kind (unless_refused (set_refusal kind cs (objects create update destroy) if_in_state remove_events) (set_changes (ground b h m kind created) kind created cs (objects create update destroy)))) same
+        ap (λ (cs : List Change). unless_refused (set_refusal kind cs (objects create update destroy) if_in_state remove_events) (set_changes (ground b h m kind created) kind created cs (objects create update destroy))) same
     same_changes (Query filter sort position anchor anchor_offset limit calculate_total expand time_zone) = refl
     same_changes (QueryChanges filter sort since most up_to calculate_total expand time_zone) = refl
     same_changes (Availability id utc_start utc_end time_zone) = refl

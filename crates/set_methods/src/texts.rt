@@ -2,7 +2,7 @@
 ghost use Rattle.std.specs.Prelude.{◌≡◌, IfOk, OnOk, map};
 ghost use Rattle.std.specs.List.{list_any};
 ghost use Rattle.std.specs.Str.{bytes_eq};
-ghost use Rattle.cal_model.specs.CreatedIds.{different, with_text};
+ghost use Rattle.cal_model.specs.CreatedIds.{with_text};
 ghost use Rattle.model_json.specs.Data.{items_of, list, text};
 ghost use Rattle.model_json.specs.TreeData.{data_of};
 
@@ -47,15 +47,4 @@ pub fn note(texts: &mut Vec<Text>, text: &Text) -> Result<(), AllocError>
     }
     texts.push(text.copy()?)?;
     Ok(())
-}
-
-/// The different ones of these texts, in order of first mention. Takes time with their number times that of all.
-pub fn different_texts(alloc: Global, texts: &[Text]) -> Result<Vec<Text>, AllocError>
-    ensures { IfOk result (λ v. v.items ≡ different texts.now) }
-{
-    let mut all = Vec::new(alloc);
-    for text in texts {
-        note(&mut all, text)?;
-    }
-    Ok(all)
 }
