@@ -1,1 +1,2 @@
 mod DepthLemmas
+mod TimeLemmas

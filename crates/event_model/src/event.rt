@@ -1,5 +1,6 @@
 //! An event.
-ghost use Rattle.std.specs.Prelude.{◌≡◌, option_map};
+ghost use Rattle.std.specs.Prelude.{◌≡◌, option_map, true};
+ghost use Rattle.model_event.specs.Values.{is_short_length, is_showing};
 
 use model_json::text::Text;
 use model_time::length::Length;
@@ -23,20 +24,27 @@ impl Model for Event {
 
     ghost Value = { EventProperties };
 
+    ghost use Rattle.std.specs.Prelude.{◌≡◌, true};
+    ghost use Rattle.model_event.specs.Values.{is_short_length, is_showing};
+
     ghost view = { λ a. record { start = a.start; length = a.length; time_zone = a.time_zone; is_occupying = a.is_occupying; calendars = a.calendars.items; people = a.people } };
+
+    ghost invariant = { λ a. (is_showing a.start ≡ true) × (is_short_length a.length ≡ true) };
 }
 
 impl Event {
-    /// The wall second at which the event starts. Takes no memory.
+    /// The wall second at which the event starts, in the years 1 to 9998. Takes no memory.
     pub fn start(&self) -> Wall
-        ensures { result ≡ self.now.start }
+        ensures value { result ≡ self.now.start }
+        ensures showing { is_showing result ≡ true }
     {
         self.start
     }
 
-    /// How long it lasts. Takes no memory.
+    /// How long it lasts, 366 days at most. Takes no memory.
     pub fn length(&self) -> Length
-        ensures { result ≡ self.now.length }
+        ensures value { result ≡ self.now.length }
+        ensures short { is_short_length result ≡ true }
     {
         self.length
     }

@@ -1,8 +1,9 @@
 //! Reads events.
-ghost use Rattle.std.specs.Prelude.{◌≡◌, ◌∷◌, [], IfErr, IfOk, OnOk, codes, option_and_then};
+ghost use Rattle.std.specs.Prelude.{◌≡◌, ◌∷◌, [], IfErr, IfOk, OnOk, codes, option_and_then, true};
 ghost use Rattle.event_model.specs.Reports.{Reports};
 ghost use Rattle.event_model.specs.declared.read.EventError.TheVariants.{NoMemory};
 ghost use Rattle.model_event.specs.Events.{bad_event_properties, event_in, has_word, is_occupying, length_in, participants_of, start_in};
+ghost use Rattle.model_event.specs.Values.{is_short_length, is_showing};
 ghost use Rattle.model_json.specs.Parts.{text_at};
 ghost use Rattle.model_json.specs.TreeData.{data_of};
 ghost use Rattle.model_time.specs.Durations.{duration_in};
@@ -67,15 +68,17 @@ pub fn read_event(alloc: Global, tree: &Tree, zones: &Zones) -> Result<Event, Ev
             properties: Texts::new(names),
         });
     }
-    Ok(event(alloc, tree)?)
+    Ok(event(alloc, tree, zones)?)
 }
 
-fn event(alloc: Global, tree: &Tree) -> Result<Event, AllocError>
+// What an object means that has no bad properties.
+fn event(alloc: Global, tree: &Tree, zones: &Zones) -> Result<Event, AllocError>
+    requires { bad_event_properties zones.now (data_of tree.now) ≡ [] }
     ensures { IfOk result (λ e. e ≡ event_in (data_of tree.now)) }
 {
     Ok(Event {
-        start: start(tree),
-        length: length(tree),
+        start: start(tree, zones),
+        length: length(tree, zones),
         time_zone: copy_at(tree, "timeZone")?,
         is_occupying: is_occupying(tree),
         calendars: calendars_of(alloc, tree)?,
@@ -83,9 +86,13 @@ fn event(alloc: Global, tree: &Tree) -> Result<Event, AllocError>
     })
 }
 
-fn start(tree: &Tree) -> Wall
-    ensures { result ≡ start_in (data_of tree.now) }
+#[tactic(auto, using(crate::proofs::TimeLemmas::start_shows))]
+fn start(tree: &Tree, zones: &Zones) -> Wall
+    requires { bad_event_properties zones.now (data_of tree.now) ≡ [] }
+    ensures value { result ≡ start_in (data_of tree.now) }
+    ensures showing { is_showing result ≡ true }
 {
+    let _ordered = tree.members_in();
     match given_start(tree) {
         Some(start) => start,
         None => Wall::new(0),
@@ -98,9 +105,13 @@ fn given_start(tree: &Tree) -> Option<Wall>
     read_local(tree.text_at("start")?.as_str().as_bytes())
 }
 
-fn length(tree: &Tree) -> Length
-    ensures { result ≡ length_in (data_of tree.now) }
+#[tactic(auto, using(crate::proofs::TimeLemmas::length_is_short))]
+fn length(tree: &Tree, zones: &Zones) -> Length
+    requires { bad_event_properties zones.now (data_of tree.now) ≡ [] }
+    ensures value { result ≡ length_in (data_of tree.now) }
+    ensures short { is_short_length result ≡ true }
 {
+    let _ordered = tree.members_in();
     match given_length(tree) {
         Some(length) => length,
         None => Length {

@@ -25,7 +25,7 @@ impl Model for People {
 
 impl People {
     /// These participants. Takes no memory.
-    pub fn new(participants: Vec<Participant>) -> People
+    pub(crate) fn new(participants: Vec<Participant>) -> People
         ensures { result ≡ participants.items }
     {
         People { participants }
