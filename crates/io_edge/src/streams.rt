@@ -44,7 +44,6 @@ impl<R: Read + Drop> Source for ReaderSource<R> {
 }
 
 // Reads, and tries again where a signal interrupted the read. A read that fails consumes nothing.
-#[tactic(auto, using(crate::proofs::Pieces::read_again))]
 fn read_some<R: Read>(reader: &mut R, buf: &mut [u8]) -> Result<usize, Failed>
     ensures bound { ReadsAtMost result buf.new }
     ensures bytes { ReadConsumes (R.remaining reader.old) (R.remaining reader.new) result buf.new }

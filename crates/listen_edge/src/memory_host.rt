@@ -74,6 +74,8 @@ pub struct MemHost<W> {
 }
 
 impl<W: Wait + Copy + Send + Drop + 'static> MemHost<W> {
+    ghost use Rattle.listen_edge.specs.MemoryForms.{failing_listeners};
+
     /// Makes a host with a list of connections for each listener. The calls of `listener` whose numbers, from 0, stand in `failing` fail.
     ///
     /// Takes memory for the shelf: for what is written of all connections.
@@ -85,6 +87,7 @@ impl<W: Wait + Copy + Send + Drop + 'static> MemHost<W> {
     ) -> Result<MemHost<W>, AllocError>
         ensures asked { IfOk result (λ h. (⟦<MemHost<W> as Host>⟧.shown h).asked ≡ Some []) }
         ensures faults { IfOk result (λ h. (⟦<MemHost<W> as Host>⟧.shown h).faults ≡ 0) }
+        ensures failing { IfOk result (λ h. failing_listeners h ≡ failing.items) }
     {
         let mut all = 0usize;
         for connections in &waiting {

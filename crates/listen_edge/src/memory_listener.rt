@@ -116,5 +116,5 @@ impl Listener for MemListener {
         });
     }
 
-    ghost balanced = { λ l. no_more_mapped l.back.items l.handed.items l.balanced };
+    ghost balanced = { λ l. no_more_mapped _ _ l.back.items l.handed.items l.balanced };
 }
