@@ -1,2 +1,4 @@
+pub mod Crossing
 pub mod FreshLemmas
+pub mod SharedLemmas
 pub mod SoleLemmas

@@ -1,2 +1,3 @@
 pub mod FreshDesk
+pub mod SharedDesk
 pub mod SoleDesk

@@ -1,4 +1,7 @@
 //! A pass of a lock.
+ghost use Rattle.std.specs.Prelude.{◌≡◌, ◌≤◌};
+ghost use Rattle.model_history.specs.MostTurns.{most_turns};
+
 use crate::steps::PassSeat;
 use model_history::book::Book;
 use std::marker::Model;
@@ -28,4 +31,14 @@ impl<B: Book> Model for Pass<B> {
 
     ghost invariant = { λ p. (p.seat.me.0.phase ≡ Idle) × (p.seat.me.1 ≡ []) × (p.number ≡ p.seat.me.0.number)
         × (p.turns ≡ p.seat.me.0.turns) × (p.turns ≤ most_turns) };
+}
+
+impl<B: Book> Pass<B> {
+    /// How many calls it has made: at most 2^40. Takes no memory.
+    pub fn turns(&self) -> u64
+        ensures is { result ≡ self.now.turns }
+        ensures few { result ≤ most_turns }
+    {
+        self.turns
+    }
 }

@@ -2,7 +2,7 @@
 #![tactic(auto)]
 
 pub mod clock;
-mod failing_calls;
+pub mod failing_calls;
 pub mod fault;
 pub mod memory_clock;
 pub mod memory_opener;

@@ -1,13 +1,20 @@
 //! The system's streams.
 
-ghost use Rattle.std.specs.Prelude.{◌≡◌, None};
+ghost use Rattle.std.specs.Prelude.{◌≡◌, ◌<◌, IfOk, None, length};
+ghost use Rattle.std.specs.Io.{ReadsAtMost, WritesAtMost};
+ghost use Rattle.std.specs.Io.KnownBytes.{ReadConsumes};
 
 use crate::fault::Failed;
 use crate::sink::Sink;
 use crate::source::Source;
-use std::io::{Read, Write};
+use std::io::{ErrorKind, Read, Write};
+
+/// How often a read or a write is tried that signals interrupt.
+const MOST_TRIES: u64 = 1 << 32;
 
 /// A source over a reader. It tells what the reader tells: of what is left of standard input, nothing.
+///
+/// A read that a signal interrupts is tried again, and is no fault; the 2^32nd such read is one.
 #[derive(Drop)]
 pub struct ReaderSource<R: Drop> {
     reader: R,
@@ -28,17 +35,32 @@ impl<R: Read + Drop> Source for ReaderSource<R> {
     ghost shown = { λ source. record { left = R.remaining source.reader; faults = source.faults } };
 
     fn take(&mut self, buf: &mut [u8]) -> Result<usize, Failed> {
-        match self.reader.read(buf) {
-            Ok(count) => Ok(count),
-            Err(_) => {
-                self.faults = self.faults.saturating_add(1);
-                Err(Failed)
-            }
+        let count = read_some(&mut self.reader, buf);
+        if count.is_err() {
+            self.faults = self.faults.saturating_add(1);
         }
+        count
     }
 }
 
+// Reads, and tries again where a signal interrupted the read. A read that fails consumes nothing.
+fn read_some<R: Read>(reader: &mut R, buf: &mut [u8]) -> Result<usize, Failed>
+    ensures bound { ReadsAtMost result buf.new }
+    ensures bytes { ReadConsumes (R.remaining reader.old) (R.remaining reader.new) result buf.new }
+{
+    for _ in 0..MOST_TRIES {
+        match reader.read(buf) {
+            Ok(count) => return Ok(count),
+            Err(error) if error.kind() == ErrorKind::Interrupted => {}
+            Err(_) => return Err(Failed),
+        }
+    }
+    Err(Failed)
+}
+
 /// A sink over a writer, as standard output. It tells nothing of what it holds.
+///
+/// A write that a signal interrupts is tried again, and is no fault; the 2^32nd such write is one.
 #[derive(Drop)]
 pub struct WriterSink<W: Drop> {
     writer: W,
@@ -52,6 +74,13 @@ impl<W: Write + Drop> WriterSink<W> {
     {
         WriterSink { writer, faults: 0 }
     }
+
+    /// Gives the writer up. Takes no memory.
+    pub fn into_writer(self) -> W
+        ensures { result ≡ self.writer }
+    {
+        self.writer
+    }
 }
 
 impl<W: Write + Drop> Sink for WriterSink<W> {
@@ -62,12 +91,26 @@ impl<W: Write + Drop> Sink for WriterSink<W> {
         if bytes.is_empty() {
             return Ok(0);
         }
-        match self.writer.write(bytes) {
-            Ok(count) if count > 0 => Ok(count),
-            _ => {
-                self.faults = self.faults.saturating_add(1);
-                Err(Failed)
-            }
+        let count = write_some(&mut self.writer, bytes);
+        if count.is_err() {
+            self.faults = self.faults.saturating_add(1);
+        }
+        count
+    }
+}
+
+// Writes, and tries again where a signal interrupted the write. A write of no bytes of a piece that has some is a fault.
+fn write_some<W: Write>(writer: &mut W, bytes: &[u8]) -> Result<usize, Failed>
+    ensures bound { WritesAtMost result bytes.now }
+    ensures some { IfOk result (λ n. 0 < length bytes.now → 0 < n) }
+{
+    for _ in 0..MOST_TRIES {
+        match writer.write(bytes) {
+            Ok(0) if !bytes.is_empty() => return Err(Failed),
+            Ok(count) => return Ok(count),
+            Err(error) if error.kind() == ErrorKind::Interrupted => {}
+            Err(_) => return Err(Failed),
         }
     }
+    Err(Failed)
 }

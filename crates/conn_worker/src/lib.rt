@@ -1,0 +1,4 @@
+//! Workers: who serve one connection after the other, over any listener, desk and clock.
+#![tactic(auto)]
+
+pub mod worker;

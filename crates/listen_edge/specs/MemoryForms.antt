@@ -1,0 +1,18 @@
+-- What the forms in memory tell.
+use Rattle.std.specs.Prelude.{◌≤◌, ℕ, zero, suc, List, [], ◌∷◌, length, map}
+use native.Mathlib.Omega.{arith}
+use Rattle.listen_edge.specs.declared.memory_listener.MemListener.{MemListener}
+use Rattle.listen_edge.specs.declared.memory_host.MemHost.{MemHost}
+
+-- the numbers of the calls that are to fail, from 0
+abbrev pub failing_accepts : MemListener → List ℕ
+failing_accepts l = l.failing.numbers.items
+
+abbrev pub failing_listeners : {W : Type 0} → MemHost W → List ℕ
+failing_listeners h = h.failing.numbers.items
+
+-- lists of which one is no longer than the other, element by element
+pub no_more_mapped : {A B C D : Type 0} (f : A → B) (g : C → D) (xs : List A) (ys : List C) → length xs ≤ length ys → length (map f xs) ≤ length (map g ys)
+no_more_mapped f g [] ys h = omega (arith)
+no_more_mapped f g (x ∷ xs) [] h = absurd (omega (arith, h))
+no_more_mapped f g (x ∷ xs) (y ∷ ys) h = (let rest = no_more_mapped f g xs ys (omega (arith, h)) in omega (arith, rest))

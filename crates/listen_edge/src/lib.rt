@@ -1,0 +1,13 @@
+//! Where connections come from, and what runs those who serve them.
+#![tactic(auto)]
+
+pub mod host;
+pub mod in_place;
+pub mod job;
+pub mod listener;
+pub mod memory_host;
+pub mod memory_listener;
+pub mod real_threads;
+pub mod spawner;
+pub mod tcp_host;
+pub mod tcp_listener;
