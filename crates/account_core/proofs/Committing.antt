@@ -1,11 +1,11 @@
 -- The entries that changes become.
-use Rattle.std.proofs.Common.{◌≡◌, ◌+◌, ℕ, suc, List, [], ◌∷◌, ◌++◌, add-zero, append_assoc, arith, length, map, refl, sym, ap, ◌∙◌, zero-add}
+use Rattle.std.proofs.Common.{◌≡◌, ◌+◌, ℕ, suc, List, [], ◌∷◌, ◌++◌, add-zero, append_assoc, arith, length, refl, sym, ap, ◌∙◌, zero-add}
 use Rattle.std.proofs.lemmas.List.{map-append}
 use Rattle.std.proofs.lemmas.List.Sums.{sum_by-append}
 use Rattle.account_core.specs.Tally.{Tallies}
 use Rattle.account_core.specs.declared.tally.Tally.{Tally}
 use Rattle.cal_model.specs.Answer.{entries_from, entry_of}
-use Rattle.model_history.specs.History.{changes_of, is_kind, live_object, object_from, state_at}
+use Rattle.model_history.specs.History.{changes_of, object_from, state_at}
 use Rattle.model_history.specs.declared.entry.Change.{Change}
 use Rattle.model_history.specs.declared.entry.Entry.{Entry}
 use Rattle.model_history.specs.declared.entry.Kind.{Kind}

@@ -1,6 +1,6 @@
 -- The tally of one change more.
 use Rattle.std.proofs.lemmas.Bool.{false≢true}
-use Rattle.std.proofs.Common.{◌≡◌, ◌≤◌, ◌<◌, ◌+◌, ◌⊎◌, inl, inr, max, ℕ, List, [], ◌∷◌, ◌++◌, Bool, true, false, cond, is_some, length, length-append, arith, refl, sym, ap, ◌∙◌, zero-add, subst}
+use Rattle.std.proofs.Common.{◌≡◌, ◌≤◌, ◌+◌, ◌⊎◌, inl, inr, max, ℕ, List, [], ◌∷◌, ◌++◌, Bool, true, false, cond, is_some, length, length-append, arith, refl, sym, ap, ◌∙◌, zero-add, subst}
 use Rattle.std.proofs.lemmas.List.FromFn.{length-range_with_len}
 use Rattle.std.proofs.lemmas.List.Sums.{sum_by-append}
 use Rattle.std.specs.List.{range_with_len}

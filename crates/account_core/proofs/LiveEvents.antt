@@ -1,10 +1,10 @@
 -- Which calendars live events are in, told one number after the other.
-use Rattle.std.proofs.Common.{◌≡◌, ◌+◌, ◌-◌, ◌<◌, ◌++◌, ◌||◌, ℕ, suc, List, [], ◌∷◌, Bool, true, false, Option, Some, None, arith, flat_map, refl, sym, ap, ◌∙◌}
+use Rattle.std.proofs.Common.{◌≡◌, ◌+◌, ◌-◌, ◌<◌, ◌++◌, ◌||◌, ℕ, suc, List, [], ◌∷◌, Bool, true, false, Option, Some, None, arith, flat_map, refl, ap, ◌∙◌}
 use Rattle.std.specs.List.{list_any, range_with_len}
 use Rattle.account_core.proofs.Committing.{object_from_append}
 use Rattle.account_core.specs.Uses.{has_staged_event, is_object_in_calendar}
 use Rattle.model_event.specs.Events.{names_calendar}
-use Rattle.model_history.specs.History.{is_kind, live_object, names, object_from, some_object}
+use Rattle.model_history.specs.History.{is_kind, live_object, object_from, some_object}
 use Rattle.model_history.specs.declared.entry.Change.{Change}
 use Rattle.model_history.specs.declared.entry.Kind.TheVariants.{Event}
 use Rattle.model_json.specs.TreeData.{data_of}

@@ -1,11 +1,11 @@
 -- Numbers that are given in order.
 use Rattle.std.proofs.lemmas.Bool.{false≢true}
-use Rattle.std.proofs.Common.{◌≡◌, ◌⊎◌, inl, inr, ◌+◌, ◌<◌, ◌≤◌, ◌==◌, ◌&&◌, ◌||◌, Bool, true, false, cond, ℕ, zero, suc, List, [], ◌∷◌, ◌++◌, Option, is_some, length, arith, add-zero, add-one, refl, sym, ap, ◌∙◌, max, subst}
+use Rattle.std.proofs.Common.{◌≡◌, ◌⊎◌, inl, inr, ◌+◌, ◌<◌, ◌==◌, ◌&&◌, ◌||◌, Bool, true, false, cond, ℕ, zero, suc, List, [], ◌∷◌, ◌++◌, Option, is_some, length, arith, add-zero, add-one, refl, sym, ap, ◌∙◌, max, subst}
 use Rattle.std.proofs.lemmas.Bool.Decides.{nat_tests}
 use Rattle.std.proofs.lemmas.List.Folds.{list_any-append}
 use Rattle.std.proofs.lemmas.List.FromFn.{length-range_with_len}
-use Rattle.std.specs.List.{list_any, range_with_len}
-use Rattle.model_history.specs.History.{ids_at, ids_from, is_kind, names, next_number, live_object, object_from, with_id}
+use Rattle.std.specs.List.{range_with_len}
+use Rattle.model_history.specs.History.{ids_at, ids_from, is_kind, next_number, live_object, object_from, with_id}
 use Rattle.model_history.specs.Pages.{is_in}
 use Rattle.model_history.specs.declared.entry.Change.{Change}
 use Rattle.model_history.specs.declared.entry.Kind.{Kind}

@@ -1,5 +1,5 @@
 -- What a ledger shows.
-use Rattle.std.specs.Prelude.{ℕ, List}
+use Rattle.std.specs.Prelude.{List}
 use Rattle.std.specs.Arc.{arc_value}
 use Rattle.account_core.specs.declared.ledger.Ledger.{Ledger}
 use Rattle.account_store.specs.Store.{entries}

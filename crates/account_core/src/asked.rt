@@ -2,7 +2,7 @@
 ghost use Rattle.std.specs.Prelude.{◌≡◌, ◌||◌, IfOk, List, OnOk, ℕ};
 ghost use Rattle.std.specs.BTreeSet.{contains_text};
 ghost use Rattle.std.specs.Str.{bytes_eq};
-ghost use Rattle.account_core.specs.AskedNames.{is_named, is_one_of};
+ghost use Rattle.account_core.specs.AskedNames.{asks_by_name, is_listed};
 ghost use Rattle.cal_model.specs.Gets.{is_asked_for};
 ghost use Rattle.model_json.specs.Data.{Data};
 
@@ -24,13 +24,13 @@ pub struct Asked {
 impl Model for Asked {
     ghost use Rattle.std.specs.Prelude.{◌≡◌, List, Option, ℕ};
     ghost use Rattle.std.specs.BTreeSet.{contains_text};
-    ghost use Rattle.account_core.specs.AskedNames.{is_named};
+    ghost use Rattle.account_core.specs.AskedNames.{asks_by_name};
 
     ghost Value = { Option (List (List ℕ)) };
 
     ghost view = { λ a. a.names };
 
-    ghost invariant = { λ a. (name : List ℕ) → contains_text a.by_name name ≡ is_named a.names name };
+    ghost invariant = { λ a. (name : List ℕ) → contains_text a.by_name name ≡ asks_by_name a.names name };
 }
 
 impl Asked {
@@ -62,14 +62,14 @@ impl Asked {
 
     // Whether the name is one of those that are asked for one by one.
     fn is_named(&self, name: &str) -> bool
-        ensures { result ≡ is_named self.now name.now }
+        ensures { result ≡ asks_by_name self.now name.now }
     {
         self.by_name.contains(name)
     }
 }
 
 fn set_of(alloc: Global, names: &[Text]) -> Result<BTreeSet<String>, AllocError>
-    ensures { IfOk result (λ set. (name : List ℕ) → contains_text set name ≡ is_one_of names.now name) }
+    ensures { IfOk result (λ set. (name : List ℕ) → contains_text set name ≡ is_listed names.now name) }
 {
     let mut set = BTreeSet::new(alloc);
     for name in names {

@@ -10,7 +10,6 @@ use Rattle.model_history.specs.Pages.{created, destroyed, is_retained, mentions,
 use Rattle.model_history.specs.declared.entry.Change.{Change}
 use Rattle.model_history.specs.declared.entry.Kind.{Kind}
 use Rattle.model_json.specs.Data.{Data, items_of, list, text, truth}
-use Rattle.model_json.specs.Number.{number_in}
 use Rattle.model_json.specs.declared.tree.Tree.{Tree}
 use Rattle.model_json.specs.declared.tree.Tree.TheVariants.{Object}
 use Rattle.time_text.specs.State.{state_in}

@@ -1,5 +1,5 @@
 -- What is stored of an event, and what of it depends on its account (draft JMAP for Calendars; RFC 8984 section 4).
-use Rattle.std.specs.Prelude.{ℕ, ℤ, List, [], ◌∷◌, ◌++◌, ◌==◌, Bool, false, not, Option, Some, None, codes, is_some, take, unwrap_or, if◌then◌else◌}
+use Rattle.std.specs.Prelude.{ℕ, ℤ, List, ◌∷◌, ◌++◌, Bool, false, not, Option, Some, None, codes, is_some, take, unwrap_or, if◌then◌else◌}
 use Rattle.std.specs.List.{list_all, list_any}
 use Rattle.model_event.specs.Events.{calendars_of, names_calendar}
 use Rattle.model_history.specs.History.{live_at, live_object}
@@ -32,13 +32,13 @@ supplied_uid account n = named_uuid (account ++ 47 ∷ id_text Event n)
 abbrev pub with_default : List ℕ → Data → List Pair → List Pair
 with_default key value ps = if is_some (lookup key ps) then ps else with_pair key value ps
 
-abbrev pub value_at : List ℕ → Data → Data
-value_at key d = unwrap_or (field key d) null
+abbrev pub value_or_null : List ℕ → Data → Data
+value_or_null key d = unwrap_or (field key d) null
 
 -- an event keeps the moment of its create (RFC 8984 section 4.1.5)
 abbrev pub moment_created : ℤ → Option Tree → Data
 moment_created moment None = text (utc_text moment)
-moment_created moment (Some before) = value_at (codes "created") (data_of before)
+moment_created moment (Some before) = value_or_null (codes "created") (data_of before)
 
 -- the members of event n with what the server sets at a moment and what it supplies
 abbrev pub with_server_values : List ℕ → ℤ → ℕ → Option Tree → List Pair → List Pair
@@ -54,7 +54,7 @@ event_members account moment n before ps = with_server_values account moment n b
 -- an event keeps its uid
 abbrev pub has_other_uid : Option Tree → Data → Bool
 has_other_uid None d = false
-has_other_uid (Some before) d = not (same_data (value_at (codes "uid") d) (value_at (codes "uid") (data_of before)))
+has_other_uid (Some before) d = not (same_data (value_or_null (codes "uid") d) (value_or_null (codes "uid") (data_of before)))
 
 -- the event is in a calendar that isn't live
 abbrev pub is_in_no_calendar : List Change → Data → Bool

@@ -1,5 +1,5 @@
 -- Gets: the objects that are asked for, and the ids that name none (RFC 8620 section 5.1).
-use Rattle.std.specs.Prelude.{ℕ, List, [], ◌∷◌, ◌++◌, ◌||◌, Bool, true, not, Option, Some, None, option_and_then, is_some, unwrap_or, length, filter, flat_map, fold, map, codes, nat_lt, if◌then◌else◌}
+use Rattle.std.specs.Prelude.{ℕ, List, [], ◌∷◌, ◌||◌, Bool, true, not, Option, Some, None, is_some, length, filter, flat_map, map, codes, nat_lt, if◌then◌else◌}
 use Rattle.std.specs.List.{list_all, list_any}
 use Rattle.std.specs.Str.{bytes_eq}
 use Rattle.cal_model.specs.Calendar.{is_calendar_property}
@@ -7,9 +7,9 @@ use Rattle.cal_model.specs.CreatedIds.{different, object_with_id, resolved_id}
 use Rattle.model_json.specs.Data.{Data, text, list, object, Pair, items_of, members_of}
 use Rattle.model_core.specs.Names.{is_name}
 use Rattle.model_core.specs.declared.limits.TheConstants.{MAX_OBJECTS_IN_GET}
-use Rattle.model_history.specs.History.{live_object, live_at}
-use Rattle.model_history.specs.ObjectId.{object_number, state_text}
-use Rattle.model_json.specs.Parts.{behind_hash, members_in, some_of}
+use Rattle.model_history.specs.History.{live_at}
+use Rattle.model_history.specs.ObjectId.{state_text}
+use Rattle.model_json.specs.Parts.{members_in, some_of}
 use Rattle.model_json.specs.TreeData.{data_of}
 use Rattle.model_call.specs.declared.call.MethodError.{MethodError}
 use Rattle.model_call.specs.declared.call.MethodError.TheVariants.{InvalidArguments, RequestTooLarge}

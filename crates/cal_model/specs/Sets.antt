@@ -1,5 +1,5 @@
 -- Sets: what comes of all objects that a call creates, updates and destroys, and what it adds (RFC 8620 section 5.3).
-use Rattle.std.specs.Prelude.{ℕ, ◌+◌, ◌∷◌, ◌++◌, ◌&&◌, Bool, true, false, not, List, [], Option, Some, None, filter, flat_map, fold, length, map, nat_lt, if◌then◌else◌, unwrap_or}
+use Rattle.std.specs.Prelude.{ℕ, ◌+◌, ◌∷◌, ◌++◌, ◌&&◌, Bool, true, false, not, List, [], Option, Some, None, flat_map, fold, length, map, nat_lt, if◌then◌else◌, unwrap_or}
 use Rattle.std.specs.List.{list_all, list_any, zip}
 use Rattle.std.specs.Str.{bytes_eq}
 use Rattle.cal_model.specs.CreatedIds.{resolved_id}
@@ -12,7 +12,7 @@ use Rattle.model_core.specs.declared.limits.TheConstants.{MAX_OBJECTS_IN_SET}
 use Rattle.model_history.specs.ObjectId.{state_text}
 use Rattle.model_history.specs.declared.entry.Change.{Change}
 use Rattle.model_history.specs.declared.entry.Kind.{Kind}
-use Rattle.model_json.specs.Data.{Data, Pair}
+use Rattle.model_json.specs.Data.{Pair}
 use Rattle.model_json.specs.Parts.{members_in}
 use Rattle.model_json.specs.Patch.{is_object}
 

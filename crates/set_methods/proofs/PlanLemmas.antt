@@ -1,5 +1,5 @@
 -- What comes of a set that is carried out in three runs.
-use Rattle.std.proofs.Common.{length, suc, ◌≡◌, ◌++◌, ◌∷◌, ℕ, List, [], flat_map, map, refl, sym, ap, ◌∙◌, append_assoc, append-nil}
+use Rattle.std.proofs.Common.{length, suc, ◌≡◌, ◌++◌, ◌∷◌, ℕ, List, [], flat_map, map, refl, sym, ap, ◌∙◌, append_assoc}
 use Rattle.std.proofs.lemmas.List.{length-map}
 use Rattle.std.proofs.lemmas.List.Concat.{flat_map-append}
 use Rattle.cal_model.specs.CreatedIds.{resolved_id}

@@ -1,7 +1,7 @@
 //! What comes of storing an event.
 ghost use Rattle.std.specs.Prelude.{◌≡◌, ◌++◌, [], ◌∷◌, IfOk, OnOk, codes, is_some, map, option_map, unwrap_or};
 ghost use Rattle.std.specs.List.{list_all};
-ghost use Rattle.cal_model.specs.EventObject.{event_members, has_other_uid, is_in_no_calendar, moment_created, value_at, with_default, with_server_values};
+ghost use Rattle.cal_model.specs.EventObject.{event_members, has_other_uid, is_in_no_calendar, moment_created, value_or_null, with_default, with_server_values};
 ghost use Rattle.cal_model.specs.Operations.{bad_of_event, event_outcome, stored_event_outcome, with_name_if};
 ghost use Rattle.model_event.specs.Events.{calendars_among};
 ghost use Rattle.model_history.specs.History.{live_object};
@@ -250,7 +250,7 @@ fn moment_created(alloc: Global, moment: Moment, before: Option<&Tree>) -> Resul
 
 // A copy of the value at a key, null where there is none.
 fn copy_at(event: &Tree, key: &str) -> Result<Tree, AllocError>
-    ensures { IfOk result (λ t. data_of t ≡ value_at key.now (data_of event.now)) }
+    ensures { IfOk result (λ t. data_of t ≡ value_or_null key.now (data_of event.now)) }
 {
     match event.get(key) {
         Some(value) => value.copy(),

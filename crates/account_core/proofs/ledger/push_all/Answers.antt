@@ -1,4 +1,4 @@
-use Rattle.std.proofs.Common.{arith, append_assoc, length-append, ap, ◌∙◌, ◌++◌, ◌∷◌, []}
+use Rattle.std.proofs.Common.{arith, length-append, ◌∷◌, []}
 use Rattle.account_core.proofs.Committing.{entries_more}
 use Rattle.account_core.proofs.ledger.push_all.Goals as goal
 

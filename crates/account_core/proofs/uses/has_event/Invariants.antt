@@ -1,7 +1,6 @@
 use Rattle.std.proofs.Common.{◌≡◌, ◌+◌, ◌-◌, ◌++◌}
 use Rattle.account_core.proofs.LiveEvents.{has_event_from}
 use Rattle.account_core.specs.Ledger.{history, staged}
-use Rattle.account_core.specs.Uses.{has_staged_event}
 use Rattle.account_core.proofs.uses.has_event.Given as goal
 
 abbrev pub invariant-loop-before : goal.invariant-loop-before

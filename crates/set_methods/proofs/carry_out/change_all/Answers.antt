@@ -1,4 +1,4 @@
-use Rattle.std.proofs.Common.{◌≡◌, ◌++◌, ◌∙◌, [], arith, map, refl, sym, ap}
+use Rattle.std.proofs.Common.{◌≡◌, ◌++◌, ◌∙◌, [], arith, map, refl, ap}
 use Rattle.std.proofs.lemmas.Grind.{common_steps}
 use Rattle.cal_model.specs.Operations.{destroy, outcomes}
 use Rattle.cal_model.specs.Sets.{ids_named, updates_after}
