@@ -14,33 +14,31 @@ use std::alloc::{AllocError, Global};
 use std::io;
 use zone_table::Zones;
 
-/// What comes of a line: of the value behind a word that says what is asked of it, or of a value that is laid over an event.
+/// What comes of a line: of the value behind a word that says what is asked of it, or of members that are laid over an event.
 fn came_of(alloc: Global, zones: &Zones, line: &str) -> Result<Option<Tree>, AllocError> {
-    if let Some(event) = line.strip_prefix("whole ") {
-        return match tree_in(alloc, event)? {
-            Some(event) => Ok(Some(events::read(alloc, zones, &event)?)),
-            None => Ok(None),
-        };
+    let (question, value) = parts_of(line);
+    let Some(value) = tree_in(alloc, value)? else {
+        return Ok(None);
+    };
+    match question {
+        "whole" => Ok(Some(events::read(alloc, zones, &value)?)),
+        "recurs" => Ok(Some(calendars::recurs(&value))),
+        "calendars" => calendars::named(alloc, &value),
+        "find" => Ok(Some(finds::found(alloc, &value)?)),
+        _ => events::read_over(alloc, zones, value),
     }
-    if let Some(event) = line.strip_prefix("recurs ") {
-        return Ok(tree_in(alloc, event)?.map(|event| calendars::recurs(&event)));
+}
+
+/// The word that begins a line, empty where it begins with none, and the rest.
+fn parts_of(line: &str) -> (&str, &str) {
+    match line.split_once(' ') {
+        Some((word, rest)) if is_question(word) => (word, rest),
+        _ => ("", line),
     }
-    if let Some(event) = line.strip_prefix("calendars ") {
-        return match tree_in(alloc, event)? {
-            Some(event) => calendars::named(alloc, &event),
-            None => Ok(None),
-        };
-    }
-    if let Some(question) = line.strip_prefix("find ") {
-        return match tree_in(alloc, question)? {
-            Some(question) => Ok(Some(finds::found(alloc, &question)?)),
-            None => Ok(None),
-        };
-    }
-    match tree_in(alloc, line)? {
-        Some(members) => events::read_over(alloc, zones, members),
-        None => Ok(None),
-    }
+}
+
+fn is_question(word: &str) -> bool {
+    matches!(word, "whole" | "recurs" | "calendars" | "find")
 }
 
 /// What came of a row, where it isn't what the table has.
