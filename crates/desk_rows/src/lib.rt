@@ -1,6 +1,7 @@
 //! Worked examples of what desks and accounts answer, a module a subject.
 #![tactic(auto)]
 
+mod accounts;
 #[cfg(test)]
 mod connections;
 #[cfg(test)]
@@ -8,4 +9,3 @@ mod desks;
 mod pair_desk;
 #[cfg(test)]
 mod quotas;
-mod zones;

@@ -2,7 +2,7 @@
 ghost use Rattle.std.specs.Prelude.{◌≡◌, IfOk};
 ghost use Rattle.account_desk.specs.SoleDesk.{of_desk};
 
-use crate::zones::no_zones;
+use crate::accounts::open_account;
 use account_core::account::Account;
 use model_batch::desk::{Desk, DeskError};
 use model_call::call::{Call, Reply};
@@ -10,7 +10,6 @@ use model_history::book::Book;
 use model_json::text::Text;
 use model_time::moment::Moment;
 use std::alloc::{AllocError, Global};
-use std::sync::Arc;
 
 /// The most calls that a desk makes.
 const MOST_TURNS: u64 = 1 << 40;
@@ -18,8 +17,8 @@ const MOST_TURNS: u64 = 1 << 40;
 /// A desk over two accounts, of which each call is the next turn of both. It makes few calls more.
 #[derive(Drop)]
 pub struct PairDesk {
-    first: Account,
-    second: Account,
+    first: Box<Account>,
+    second: Box<Account>,
     calls_left: u32,
 }
 
@@ -33,10 +32,9 @@ impl PairDesk {
     ) -> Result<PairDesk, AllocError>
         ensures { IfOk result (λ d. d.calls_left ≡ calls) }
     {
-        let zones = no_zones(alloc)?;
         Ok(PairDesk {
-            first: Account::open(alloc, first, Arc::try_clone(&zones)?)?,
-            second: Account::open(alloc, second, zones)?,
+            first: open_account(alloc, first)?,
+            second: open_account(alloc, second)?,
             calls_left: calls,
         })
     }
@@ -45,7 +43,7 @@ impl PairDesk {
 impl Desk for PairDesk {
     ghost use Rattle.desk_rows.specs.Pair.{pair_shown};
 
-    ghost shown = { λ d. pair_shown d.first d.second d.calls_left };
+    ghost shown = { λ d. pair_shown d.first.value d.second.value d.calls_left };
 
     fn accounts(&self) -> u32 {
         2

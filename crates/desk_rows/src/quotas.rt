@@ -1,5 +1,5 @@
 //! How much an account holds (RFC 8620 section 5.3, `overQuota`).
-use crate::zones::no_zones;
+use crate::accounts::open_account;
 use account_core::account::Account;
 use json_edge::read::read_tree;
 use json_edge::write::tree_text;
@@ -125,8 +125,8 @@ fn add(
 }
 
 /// An account with so many calendars of one name.
-fn filled(alloc: Global, count: u32, name: &str) -> Result<Account, Fail> {
-    let mut account = Account::open(alloc, Text::from_str(alloc, "A1")?, no_zones(alloc)?)?;
+fn filled(alloc: Global, count: u32, name: &str) -> Result<Box<Account>, Fail> {
+    let mut account = open_account(alloc, Text::from_str(alloc, "A1")?)?;
     add(alloc, &mut account, 500, name, count / 500)?;
     add(alloc, &mut account, count % 500, name, 1)?;
     Ok(account)
@@ -258,12 +258,27 @@ fn fifty_thousand_entries_are_the_most(rt: HostRuntime) -> Result<(), Fail> {
     assert_each(&rt, alloc, &mut account, ALL_REFUSED)
 }
 
-/// Asserts that a page is told from state 1, and that none is from state 0.
-fn assert_pages(rt: &impl Abort, alloc: Global, account: &mut Account) -> Result<(), Fail> {
-    let last = changes_since(alloc, "1")?;
-    assert_reply(rt, alloc, account, &last, FIRST_PAGE)?;
-    let beyond = changes_since(alloc, "0")?;
-    assert_refused(rt, account, &beyond, MethodError::CannotCalculateChanges)
+/// Asserts that this page is told from a state.
+fn assert_page(
+    rt: &impl Abort,
+    alloc: Global,
+    account: &mut Account,
+    since: &str,
+    page: &str,
+) -> Result<(), Fail> {
+    let changes = changes_since(alloc, since)?;
+    assert_reply(rt, alloc, account, &changes, page)
+}
+
+/// Asserts that no page is told from a state.
+fn assert_no_page(
+    rt: &impl Abort,
+    alloc: Global,
+    account: &mut Account,
+    since: &str,
+) -> Result<(), Fail> {
+    let changes = changes_since(alloc, since)?;
+    assert_refused(rt, account, &changes, MethodError::CannotCalculateChanges)
 }
 
 // The state behind 4,097 changes tells of those behind state 1, and no longer of those behind state 0.
@@ -271,7 +286,8 @@ fn assert_pages(rt: &impl Abort, alloc: Global, account: &mut Account) -> Result
 fn changes_are_told_of_the_last_4096_states(rt: HostRuntime) -> Result<(), Fail> {
     let alloc = rt.alloc();
     let mut account = filled(alloc, 4097, "n")?;
-    assert_pages(&rt, alloc, &mut account)
+    assert_page(&rt, alloc, &mut account, "1", FIRST_PAGE)?;
+    assert_no_page(&rt, alloc, &mut account, "0")
 }
 
 /// A JSON object of a calendar `a` whose name is a byte longer than that of a calendar `b`, which has `size` bytes.
