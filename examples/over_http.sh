@@ -1,6 +1,7 @@
 #!/usr/bin/env bash
 # Talks to `jmapd stdio` by curl, over TCP on one kept connection: the session object, then a day with calendars, one that is created, read, renamed and
-# destroyed, and what changed meanwhile. The answers are compared with examples/over_http.answers. socat relays one connection of a port to the program's standard streams.
+# destroyed, and what changed meanwhile, and a team's event that is created, moved and fetched by its changes. The answers are compared with
+# examples/over_http.answers, in which NOW stands for the moments at which the event was created and updated. socat relays one connection of a port to the program's standard streams.
 #
 #     examples/over_http.sh [PATH_OF_THE_PROGRAM]        PORT=8080 by default
 set -u
@@ -25,11 +26,12 @@ trap 'kill "$relay" 2>/dev/null' EXIT
 shown='%{stderr}%{http_code} %{content_type}, %{num_connects} new connections\n%{stdout}\n'
 common=(--silent --show-error --max-time 20 --retry 20 --retry-connrefused --retry-delay 1 -H 'Authorization: Bearer t-ann' -w "$shown")
 sent=("${common[@]}" "http://127.0.0.1:$port/.well-known/jmap")
-for request in set get rename changes destroy; do
+for request in set get rename changes destroy event move sync; do
     sent+=(--next "${common[@]}" --data-binary "@examples/$request.json" "http://127.0.0.1:$port/jmap")
 done
 answers=$(curl "${sent[@]}") || exit 1
-if diff <(printf '%s\n' "$answers") examples/over_http.answers; then
+without_moments=$(sed -E 's/"(created|updated)":"[0-9T:-]+Z"/"\1":"NOW"/g' <<<"$answers")
+if diff <(printf '%s\n' "$without_moments") examples/over_http.answers; then
     echo 'examples/over_http.sh: the answers are those of examples/over_http.answers'
 else
     echo 'examples/over_http.sh: other answers than those of examples/over_http.answers'
