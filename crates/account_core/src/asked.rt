@@ -2,7 +2,7 @@
 ghost use Rattle.std.specs.Prelude.{◌≡◌, ◌||◌, IfOk, List, OnOk, ℕ};
 ghost use Rattle.std.specs.BTreeSet.{contains_text};
 ghost use Rattle.std.specs.Str.{bytes_eq};
-ghost use Rattle.account_core.specs.AskedNames.{asks_by_name, is_listed};
+ghost use Rattle.account_core.specs.AskedNames.{asks_by_name, is_asked_name};
 ghost use Rattle.cal_model.specs.Gets.{is_asked_for};
 ghost use Rattle.model_json.specs.Data.{Data};
 
@@ -69,7 +69,7 @@ impl Asked {
 }
 
 fn set_of(alloc: Global, names: &[Text]) -> Result<BTreeSet<String>, AllocError>
-    ensures { IfOk result (λ set. (name : List ℕ) → contains_text set name ≡ is_listed names.now name) }
+    ensures { IfOk result (λ set. (name : List ℕ) → contains_text set name ≡ is_asked_name names.now name) }
 {
     let mut set = BTreeSet::new(alloc);
     for name in names {
