@@ -55,7 +55,7 @@ module _ {site : Site} {x x' : Setting} {served : Served} (s : Serves site MOST_
   left_at end.WriteFault r how = left_same r
   left_at end.PassSpent r how = left_begun how.0.begun
   left_at end.NoMemory r (inl unanswered, open_) = left_begun unanswered.begun
-  left_at end.NoMemory r (inr idle, open_) = left_same idle.2.1
+  left_at end.NoMemory r (inr idle, open_) = left_same idle.2
 
   left : IsLeft s.desk x'.desk
   left = left_at served.end s.rests s.how
@@ -97,13 +97,6 @@ each_turns site t u (v ∷ vs) e = (let rest = each_turns site e.0 u vs e.2 in l
 module _ (i i' : SourceShown) (o o' : SinkShown) (served : Served) where
   abbrev visit : Visit
   visit = record { handed = record { input = i; output = o }; back = record { input = i'; output = o'; served = served } }
-
-  out_of : (c : Option Connections) → IfSome c (λ c. length c.back ≤ length c.handed) → IfSome (option_map (handing_out i o) c) (λ c. length c.back < length c.handed)
-  out_of None h = tt
-  out_of (Some c) h = (let e = length-append c.handed (record { input = i; output = o } ∷ []) in omega (arith, h, e))
-
-  pub one_out : {l m : ListenerShown} → IsBalanced l → m.connections ≡ option_map (handing_out i o) l.connections → HasOneOut m
-  one_out {l} {m} balanced out = subst (λ (c : Option Connections). IfSome c (λ c. length c.back < length c.handed)) (sym out) (out_of l.connections balanced)
 
   told_more : (vs : List Visit) (c : Option Connections) → option_map (taking_back i' o' served) (option_map (handing_out i o) (option_map (with_visits vs) c)) ≡ option_map (with_visits (vs ++ visit ∷ [])) c
   told_more vs None = refl
