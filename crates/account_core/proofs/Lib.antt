@@ -1,5 +1,4 @@
 pub mod Differences
-pub mod Orders
 pub mod Numbers
 pub mod Counting
 pub mod Committing

@@ -90,7 +90,7 @@ fn chosen(
 }
 
 /// A copy of an object with those of its members alone that are asked for, and `id`.
-#[tactic(auto, using(crate::proofs::Orders::rises_filter))]
+#[tactic(auto, using(property_table::proofs::TableLemmas::rises_filter))]
 pub fn select(alloc: Global, properties: &Option<Texts>, object: &Tree) -> Result<Tree, AllocError>
     ensures { IfOk result (λ t. data_of t ≡ selected properties.now object.now) }
 {
