@@ -44,6 +44,11 @@ class Connection:
         with open(f"/proc/{self.program.pid}/schedstat", encoding="ascii") as file:
             return int(file.read().split()[0]) / 1e6
 
+    def faults(self):
+        """The pages that the system has given the program, each at its first use (Linux)."""
+        with open(f"/proc/{self.program.pid}/stat", encoding="ascii") as file:
+            return int(file.read().rpartition(")")[2].split()[7])
+
     def close(self):
         self.program.stdin.close()
         self.program.wait()
@@ -70,28 +75,29 @@ CALLS = {
 }
 
 
-def milliseconds_of(binary, call, times, entries):
-    """The milliseconds of processor that a call takes on an account of so many entries."""
+def spent(binary, call, times, entries):
+    """The milliseconds of processor and the pages that a call takes on an account of so many entries."""
     connection = Connection(binary)
     connection.send(["Core/echo", {}], 1)
     connection.send(create(MOST_OBJECTS), entries // MOST_OBJECTS)
-    before = connection.milliseconds()
+    before, faults = connection.milliseconds(), connection.faults()
     connection.send(call, times)
-    taken = connection.milliseconds() - before
+    taken, given = connection.milliseconds() - before, connection.faults() - faults
     connection.close()
-    return taken / times
+    return taken / times, given / times
 
 
 def main():
     chosen = options(__doc__)
     missed = []
-    print("call                      entries  milliseconds a call  at most")
+    print("call                      entries  milliseconds a call  at most  pages a call")
     for name, (call_at, times, least, most) in CALLS.items():
         figures = []
         for entries in ENTRIES:
             held = max(entries, least)
-            figures.append(min(milliseconds_of(chosen.binary, call_at(held), times, held) for _ in range(chosen.rounds)))
-            print(f"{name:25} {held:7} {figures[-1]:20.4f}  {most:7}")
+            taken, given = min(spent(chosen.binary, call_at(held), times, held) for _ in range(chosen.rounds))
+            figures.append(taken)
+            print(f"{name:25} {held:7} {taken:20.4f}  {most:7} {given:13.1f}")
         growth = max(figures) / min(figures)
         print(f"{name}: the slowest takes {growth:.2f} times as long as the fastest")
         missed += [f"{name} is above {most}"] if max(figures) > most else []

@@ -1,4 +1,3 @@
-pub mod Orders
 pub mod Numbers
 pub mod Counting
 pub mod Committing

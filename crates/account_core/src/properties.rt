@@ -74,7 +74,7 @@ fn chosen(alloc: Global, asked: &Asked, members: &[Member]) -> Result<Vec<Member
 }
 
 /// A copy of an object with those of its members alone that are asked for, and `id`.
-#[tactic(auto, using(crate::proofs::Orders::rises_filter))]
+#[tactic(auto, using(property_table::proofs::TableLemmas::rises_filter))]
 pub fn select(alloc: Global, asked: &Asked, object: &Tree) -> Result<Tree, AllocError>
     ensures { IfOk result (λ t. data_of t ≡ selected asked.now object.now) }
 {

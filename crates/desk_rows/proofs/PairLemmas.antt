@@ -1,6 +1,5 @@
 -- A call on the second account of a pair is a call on a desk.
-use Rattle.std.proofs.Common.{◌≡◌, ◌≢◌, ℕ, ℤ, ◌+◌, ◌-◌, ◌<◌, ◌==◌, ◌^◌, List, [], ◌++◌, Result, Ok, Err, IfOk, OnOk, OnErr, refl, sym, ap, ◌∙◌, subst, arith, append-nil, ne_eqb, if◌then◌else◌}
-use Rattle.cal_model.specs.AddedEntries.{added_signed}
+use Rattle.std.proofs.Common.{◌≡◌, ◌≢◌, ℕ, ℤ, ◌-◌, ◌<◌, ◌==◌, ◌^◌, List, [], ◌++◌, Result, Ok, Err, IfOk, OnOk, OnErr, refl, sym, ap, ◌∙◌, subst, arith, append-nil, ne_eqb, if◌then◌else◌}
 use Rattle.cal_model.specs.Answer.{answer, added}
 use Rattle.model_history.specs.Base.{Base}
 use Rattle.model_batch.specs.Chain.{Called, StaysBeside}
