@@ -39,10 +39,10 @@ abbrev pub with_visits : List Visit → Connections → Connections
 with_visits vs c = record { handed = c.handed ++ map (λ v. v.handed) vs; back = c.back ++ map (λ v. v.back) vs }
 
 -- when each end comes, where so many connections were to be served
-abbrev pub EndHow : ℕ → ListenerShown → ListenerShown → Tools → ℕ → WorkerEnd → Type 0
-EndHow connections l l' u served All = served ≡ connections
-EndHow connections l l' u served AcceptFault = (served < connections) × Rose l.faults l'.faults
-EndHow connections l l' u served PassSpent = (0 < served) × (served ≤ connections) × (u.desk.turns ≡ most_turns)
+abbrev pub WorkerHow : ℕ → ListenerShown → ListenerShown → Tools → ℕ → WorkerEnd → Type 0
+WorkerHow connections l l' u served All = served ≡ connections
+WorkerHow connections l l' u served AcceptFault = (served < connections) × Rose l.faults l'.faults
+WorkerHow connections l l' u served PassSpent = (0 < served) × (served ≤ connections) × (u.desk.turns ≡ most_turns)
 
 -- A worker that was to serve so many connections: the listener was asked for them in order and got each back, served as its own bytes ask for. All that was handed out came back.
 pub record Works (site : Site) (connections : ℕ) (l l' : ListenerShown) (t u : Tools) (done : WorkerDone) : Type 0 where
@@ -51,4 +51,4 @@ pub record Works (site : Site) (connections : ℕ) (l l' : ListenerShown) (t u :
   pub told : l'.connections ≡ option_map (with_visits visits) l.connections
   pub serves : ServesEach site t u visits
   pub later : l.faults ≤ l'.faults
-  pub how : EndHow connections l l' u done.served done.end
+  pub how : WorkerHow connections l l' u done.served done.end

@@ -9,16 +9,16 @@ use std::thread::{Promise, PromisedHandle, Threads};
 
 /// The promise that a job gives an answer that it may give.
 #[derive(Drop)]
-pub struct Kept<J>(pub Snapshot<J>);
+pub struct KeptJob<J>(pub Snapshot<J>);
 
-impl<J: Job> Promise<J::Back> for Kept<J> {
+impl<J: Job> Promise<J::Back> for KeptJob<J> {
     ghost kept_by = { λ promise back. J.may_answer promise.0.value back };
 }
 
 /// A job that was started.
 pub enum Started<J: Job> {
     /// It runs in a thread of its own.
-    Thread(PromisedHandle<J::Back, Kept<J>>),
+    Thread(PromisedHandle<J::Back, KeptJob<J>>),
     /// It was run as it was started.
     Here(J::Back),
 }
@@ -79,7 +79,7 @@ pub trait Spawner {
 fn start_thread<R: Threads, J: Job>(runtime: &R, job: J) -> Started<J>
     ensures { (back : J.Back) → elim result as (λ _. Type 0) [ Thread h ↦ J.may_answer h.promise.0.value back | Here b ↦ back ≡ b ] → J.may_answer job back }
 {
-    let promise = Kept(Snapshot::of(&job));
+    let promise = KeptJob(Snapshot::of(&job));
     match thread::spawn_with(runtime, promise, move || job.go()) {
         Ok(handle) => Started::Thread(handle),
         Err(refused) => Started::Here((refused.value)()),
