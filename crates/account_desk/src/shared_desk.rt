@@ -50,11 +50,7 @@ impl<W: Wait> Model for SharedDesk<W> {
 impl<W: Wait> SharedDesk<W> {
     /// A desk over these accounts, with a pass of each, in their order. It counts its calls on from the greatest number that one of its passes has made.
     /// Takes no memory.
-    pub fn new(
-        runtime: W,
-        accounts: Arc<GatedAccounts>,
-        passes: Vec<Pass<Gated>>,
-    ) -> SharedDesk<W>
+    pub fn new(runtime: W, accounts: Arc<GatedAccounts>, passes: Vec<Pass<Gated>>) -> SharedDesk<W>
         requires of_accounts { map (λ p. p.lock) passes.items ≡ (arc_value accounts).items }
         requires few { length passes.items < 2 ^ 32 }
         ensures { result ≡ (passes.items, greatest_turn passes.items) }

@@ -1,10 +1,10 @@
 -- A worker's connections, one after the other.
-use Rattle.std.proofs.Common.{◌≡◌, ℕ, ℤ, zero, suc, ◌+◌, ◌*◌, ◌<◌, ◌≤◌, List, [], ◌∷◌, ◌++◌, Bool, Option, Some, None, IfSome, IsTrue, length, map, option_map, refl, sym, ap, ◌∙◌, subst, arith, append_assoc, append-nil}
+use Rattle.std.proofs.Common.{◌≡◌, ℕ, ℤ, ◌+◌, ◌*◌, ◌<◌, ◌≤◌, List, [], ◌∷◌, ◌++◌, Bool, Option, Some, None, length, map, option_map, refl, sym, ap, ◌∙◌, subst, arith, append_assoc, append-nil}
 use Rattle.std.proofs.lemmas.List.{length-append, map-append}
 use mathlib.Core.Logic.{inl, inr}
 use Rattle.conn_serve.proofs.Completeness.{How, spent_turns}
 use Rattle.io_edge.specs.Outside.{Rose, SinkShown, SourceShown}
-use Rattle.listen_edge.specs.Listening.{Connection, Connections, HasOneOut, IsBalanced, ListenerShown, Returned, handing_out, taking_back}
+use Rattle.listen_edge.specs.Listening.{Connection, Connections, ListenerShown, Returned, handing_out, taking_back}
 use Rattle.listen_edge.specs.declared.job.WorkerEnd.{WorkerEnd}
 use Rattle.listen_edge.specs.declared.job.WorkerEnd.TheVariants.{AcceptFault}
 use Rattle.model_batch.proofs.Chains.{accounts_stay, turns_counted}

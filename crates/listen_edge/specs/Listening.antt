@@ -1,5 +1,5 @@
 -- What contracts see of where connections come from.
-use Rattle.std.specs.Prelude.{◌≡◌, ◌⊎◌, ℕ, ◌<◌, ◌≤◌, List, [], ◌∷◌, ◌++◌, Option, IfSome, length, option_map}
+use Rattle.std.specs.Prelude.{◌≡◌, ℕ, ◌<◌, ◌≤◌, List, [], ◌∷◌, ◌++◌, Option, IfSome, length, option_map}
 use Rattle.io_edge.specs.Outside.{SinkShown, SourceShown}
 use Rattle.model_connection.specs.declared.served.Served.{Served}
 

@@ -1,5 +1,5 @@
 -- What the forms in memory tell.
-use Rattle.std.specs.Prelude.{◌≤◌, ℕ, zero, suc, List, [], ◌∷◌, length, map}
+use Rattle.std.specs.Prelude.{◌≤◌, ℕ, List, [], ◌∷◌, length, map}
 use native.Mathlib.Omega.{arith}
 use Rattle.listen_edge.specs.declared.memory_listener.MemListener.{MemListener}
 use Rattle.listen_edge.specs.declared.memory_host.MemHost.{MemHost}

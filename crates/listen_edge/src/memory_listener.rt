@@ -88,11 +88,11 @@ impl Listener for MemListener {
     ghost use Rattle.listen_edge.specs.MemoryForms.{no_more_mapped};
 
     ghost shown = { λ l. record {
-        connections = Some (record {
-            handed = map (λ c. record { input = ⟦<MemSource as Source>⟧.shown c.value.input; output = ⟦<MemSink as Sink>⟧.shown c.value.output }) l.handed.items;
-            back = map (λ c. record { input = ⟦<MemSource as Source>⟧.shown c.input; output = ⟦<MemSink as Sink>⟧.shown c.output; served = c.served }) l.back.items;
-        });
-        faults = faults_of l.failing + l.missed;
+      connections = Some (record {
+        handed = map (λ c. record { input = ⟦<MemSource as Source>⟧.shown c.value.input; output = ⟦<MemSink as Sink>⟧.shown c.value.output }) l.handed.items;
+        back = map (λ c. record { input = ⟦<MemSource as Source>⟧.shown c.input; output = ⟦<MemSink as Sink>⟧.shown c.output; served = c.served }) l.back.items;
+      });
+      faults = faults_of l.failing + l.missed;
     } };
 
     fn accept(&mut self) -> Result<(MemSource, MemSink), Failed> {

@@ -82,7 +82,9 @@ where
     ) {
         let stream = output.into_writer();
         let linger = Duration::from_secs(LINGER_SECONDS);
-        if stream.shutdown(Shutdown::Write).is_err() || stream.set_read_timeout(Some(linger)).is_err() {
+        if stream.shutdown(Shutdown::Write).is_err()
+            || stream.set_read_timeout(Some(linger)).is_err()
+        {
             return;
         }
         let mut passed = [0; 16384];

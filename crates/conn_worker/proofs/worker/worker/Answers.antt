@@ -1,4 +1,4 @@
-use Rattle.std.proofs.Common.{◌∙◌, ◌<◌, ◌+◌, ◌≤◌, arith, rules}
+use Rattle.std.proofs.Common.{◌∙◌, ◌<◌, arith, rules}
 use Rattle.conn_worker.proofs.WorkerLemmas.{each_accounts, spent_end, working_on, works_of}
 use Rattle.conn_worker.proofs.worker.worker.Goals as goal
 
