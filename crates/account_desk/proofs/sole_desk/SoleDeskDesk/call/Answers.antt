@@ -1,4 +1,4 @@
-use Rattle.std.proofs.Common.{◌≡◌, ◌<◌, ◌+◌, ℕ, List, [], Result, arith, rules, subst, sym, length, set}
+use Rattle.std.proofs.Common.{◌<◌, ◌+◌, ℕ, List, [], Result, arith, rules, subst, sym, length, set}
 use Rattle.std.proofs.lemmas.List.{get_or_read}
 use Rattle.model_history.specs.Base.{Base, no_base}
 use Rattle.model_batch.specs.Chain.{Called}
