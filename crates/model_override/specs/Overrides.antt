@@ -6,7 +6,7 @@ use Rattle.model_event.specs.Events.{bad_event_properties, is_occupying, length_
 use Rattle.model_event.specs.Values.{is_showing}
 use Rattle.model_json.specs.Data.{Data, Pair, null, truth, text, object, field, lookup, members_of, pairs_of}
 use Rattle.model_json.specs.Edit.{with_pair, without}
-use Rattle.model_json.specs.Parts.{all_some, members_in}
+use Rattle.model_json.specs.Parts.{all_some, as_object, members_in}
 use Rattle.model_json.specs.Patch.{patched}
 use Rattle.model_json.specs.Pointer.{parts}
 use Rattle.model_override.specs.declared.limits.TheConstants.{MAX_OVERRIDES}
@@ -90,10 +90,12 @@ abbrev pub exception_at : List ZoneText → List ℕ → List Pair → List Pair
 exception_at zones key patch alone w =
     option_map (λ span. record { rid = w; replaced = span }) (replaced_by zones key patch alone (is_excluded (lookup (codes "excluded") patch)))
 
+abbrev pub exception_of : List ZoneText → List Pair → List ℕ → List Pair → Option Exception
+exception_of zones alone key patch = option_and_then (exception_at zones key patch alone) (recurrence_id_in key)
+
 -- the exception that an override comes to, none where an event may not have it; `alone` is the event without rules and overrides
-abbrev pub exception_in : List ZoneText → List Pair → Pair → Option Exception
-exception_in zones alone (key, object ms) = option_and_then (exception_at zones key (pairs_of ms) alone) (recurrence_id_in key)
-exception_in zones alone (key, _) = None
+unfoldable pub exception_in : List ZoneText → List Pair → Pair → Option Exception
+exception_in zones alone p = option_and_then (exception_of zones alone p.0) (as_object p.1)
 
 -- All overrides of an event.
 

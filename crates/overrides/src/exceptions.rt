@@ -3,15 +3,16 @@ ghost use Rattle.std.specs.Prelude.{◌≡◌, IfErr, IfOk, Some, codes, if◌th
 ghost use Rattle.model_event.specs.Events.{bad_event_properties};
 ghost use Rattle.model_event.specs.Values.{is_showing};
 ghost use Rattle.model_json.specs.Data.{lookup};
-ghost use Rattle.model_json.specs.Parts.{all_some};
+ghost use Rattle.model_json.specs.Parts.{all_some, members_in};
 ghost use Rattle.model_json.specs.TreeData.{data_of, pair_of};
-ghost use Rattle.model_override.specs.Overrides.{changed_span, changes_in, exception_at, exception_in, exceptions_in, few_members, first_refused, is_excluded, overrides_in, overrides_of, recurrence_id_in, replaced_by, valid_span};
+ghost use Rattle.model_override.specs.Overrides.{changed_at, changed_span, changes_in, exception_at, exception_in, exception_of, exceptions_in, few_members, first_refused, is_excluded, overrides_in, overrides_of, recurrence_id_in, replaced_by, single, span_of, valid_span};
 ghost use Rattle.overrides.specs.Reports.{Reports, ReportsAmong};
 ghost use Rattle.overrides.specs.declared.exceptions.OverrideError.TheVariants.{NoMemory};
 
 use crate::fixed::touches_fixed;
 use crate::occurrence::{changed_at, changes_in, single};
-use event_model::read::{EventError, read_event};
+use crate::part::{are_needed, firsts_of, part_of};
+use event_model::read::{EventError, bad_event_names, read_event};
 use model_event::limits::{FIRST_START, LAST_START};
 use model_json::text::Text;
 use model_json::tree::{Member, Tree, TreeObject};
@@ -69,8 +70,9 @@ pub fn exceptions(
         return Err(OverrideError::BadOverrides);
     };
     let alone = single(alloc, event)?;
+    let bad = bad_event_names(alloc, &alone, zones)?;
     Ok(Exceptions::new(exceptions_among(
-        alloc, &alone, overrides, zones,
+        alloc, &alone, &bad, overrides, zones,
     )?))
 }
 
@@ -107,17 +109,19 @@ fn few_members(members: &[Member]) -> Option<&[Member]>
 #[tactic(auto, using(model_json::proofs::Appending::push_option))]
 fn exceptions_among(
     alloc: Global,
-    alone: &TreeObject,
+    alone: &Tree,
+    bad: &[Text],
     overrides: &[Member],
     zones: &Zones,
 ) -> Result<Vec<Exception>, OverrideError>
-    ensures value { IfOk result (λ v. all_some (exception_in zones.now alone.now) (map pair_of overrides.now) ≡ Some v.items) }
-    ensures err { IfErr result (λ error. ReportsAmong error (first_refused zones.now alone.now (map pair_of overrides.now))) }
+    requires { bad.now ≡ bad_event_properties zones.now (data_of alone.now) }
+    ensures value { IfOk result (λ v. all_some (exception_in zones.now (members_in (data_of alone.now))) (map pair_of overrides.now) ≡ Some v.items) }
+    ensures err { IfErr result (λ error. ReportsAmong error (first_refused zones.now (members_in (data_of alone.now)) (map pair_of overrides.now))) }
 {
     let mut exceptions = Vec::with_capacity(alloc, overrides.len())?;
     for member in overrides {
-        match exception_in(alloc, alone, member, zones)? {
-            Some(exception) => exceptions.push(exception)?,
+        match exception_in(alloc, alone, bad, member, zones)? {
+            Some(Exception { rid, replaced }) => exceptions.push(Exception { rid, replaced })?,
             None => {
                 return Err(OverrideError::BadOverride {
                     key: member.key.copy()?,
@@ -128,47 +132,53 @@ fn exceptions_among(
     Ok(exceptions)
 }
 
-#[tactic(auto, using(model_json::specs::Data::pairs_back))]
+#[tactic(auto, unfolding(model_override::specs::Overrides::exception_in))]
 fn exception_in(
     alloc: Global,
-    alone: &TreeObject,
+    alone: &Tree,
+    bad: &[Text],
     member: &Member,
     zones: &Zones,
 ) -> Result<Option<Exception>, AllocError>
-    ensures { IfOk result (λ x. x ≡ exception_in zones.now alone.now (pair_of member.now)) }
+    requires { bad.now ≡ bad_event_properties zones.now (data_of alone.now) }
+    ensures { IfOk result (λ x. x ≡ exception_in zones.now (members_in (data_of alone.now)) (pair_of member.now)) }
 {
-    match &member.value {
-        Tree::Object(patch) => exception_of(alloc, alone, &member.key, patch, zones),
-        _ => Ok(None),
+    match member.value.as_object() {
+        Some(patch) => exception_of(alloc, alone, bad, &member.key, patch, zones),
+        None => Ok(None),
     }
 }
 
 fn exception_of(
     alloc: Global,
-    alone: &TreeObject,
+    alone: &Tree,
+    bad: &[Text],
     key: &Text,
     patch: &TreeObject,
     zones: &Zones,
 ) -> Result<Option<Exception>, AllocError>
-    ensures { IfOk result (λ x. x ≡ option_and_then (exception_at zones.now key.now patch.now alone.now) (recurrence_id_in key.now)) }
+    requires { bad.now ≡ bad_event_properties zones.now (data_of alone.now) }
+    ensures { IfOk result (λ x. x ≡ exception_of zones.now (members_in (data_of alone.now)) key.now patch.now) }
 {
     match recurrence_id_in(key.as_str().as_bytes()) {
-        Some(rid) => exception_at(alloc, alone, key, patch, zones, rid),
+        Some(rid) => exception_at(alloc, alone, bad, key, patch, zones, rid),
         None => Ok(None),
     }
 }
 
 fn exception_at(
     alloc: Global,
-    alone: &TreeObject,
+    alone: &Tree,
+    bad: &[Text],
     key: &Text,
     patch: &TreeObject,
     zones: &Zones,
     rid: Wall,
 ) -> Result<Option<Exception>, AllocError>
-    ensures { IfOk result (λ x. x ≡ exception_at zones.now key.now patch.now alone.now rid) }
+    requires { bad.now ≡ bad_event_properties zones.now (data_of alone.now) }
+    ensures { IfOk result (λ x. x ≡ exception_at zones.now key.now patch.now (members_in (data_of alone.now)) rid) }
 {
-    match replaced_by(alloc, alone, key, patch, zones)? {
+    match replaced_by(alloc, alone, bad, key, patch, zones)? {
         Some(replaced) => Ok(Some(Exception { rid, replaced })),
         None => Ok(None),
     }
@@ -196,17 +206,19 @@ fn if_showing(wall: Wall) -> Option<Wall>
 // What stands in the place of the occurrence, which is nothing where it is excluded.
 fn replaced_by(
     alloc: Global,
-    alone: &TreeObject,
+    alone: &Tree,
+    bad: &[Text],
     key: &Text,
     patch: &TreeObject,
     zones: &Zones,
 ) -> Result<Option<Option<Span>>, AllocError>
-    ensures { IfOk result (λ r. r ≡ replaced_by zones.now key.now patch.now alone.now (is_excluded (lookup (codes "excluded") patch.now))) }
+    requires { bad.now ≡ bad_event_properties zones.now (data_of alone.now) }
+    ensures { IfOk result (λ r. r ≡ replaced_by zones.now key.now patch.now (members_in (data_of alone.now)) (is_excluded (lookup (codes "excluded") patch.now))) }
 {
     match patch.get("excluded") {
         Some(Tree::Truth(true)) => Ok(Some(None)),
         None | Some(Tree::Truth(false)) | Some(Tree::Null) => {
-            replacement(alloc, alone, key, patch, zones)
+            replacement(alloc, alone, bad, key, patch, zones)
         }
         Some(_) => Ok(None),
     }
@@ -214,15 +226,17 @@ fn replaced_by(
 
 fn replacement(
     alloc: Global,
-    alone: &TreeObject,
+    alone: &Tree,
+    bad: &[Text],
     key: &Text,
     patch: &TreeObject,
     zones: &Zones,
 ) -> Result<Option<Option<Span>>, AllocError>
-    ensures { IfOk result (λ r. r ≡ option_map Some (changed_span zones.now key.now (changes_in patch.now) alone.now)) }
+    requires { bad.now ≡ bad_event_properties zones.now (data_of alone.now) }
+    ensures { IfOk result (λ r. r ≡ option_map Some (changed_span zones.now key.now (changes_in patch.now) (members_in (data_of alone.now)))) }
 {
     let changes = changes_in(patch)?;
-    match changed_span(alloc, alone, key, &changes, zones)? {
+    match changed_span(alloc, alone, bad, key, &changes, zones)? {
         Some(span) => Ok(Some(Some(span))),
         None => Ok(None),
     }
@@ -230,17 +244,41 @@ fn replacement(
 
 fn changed_span(
     alloc: Global,
-    alone: &TreeObject,
+    alone: &Tree,
+    bad: &[Text],
     key: &Text,
     changes: &TreeObject,
     zones: &Zones,
 ) -> Result<Option<Span>, AllocError>
-    ensures { IfOk result (λ s. s ≡ changed_span zones.now key.now changes.now alone.now) }
+    requires { bad.now ≡ bad_event_properties zones.now (data_of alone.now) }
+    ensures { IfOk result (λ s. s ≡ changed_span zones.now key.now changes.now (members_in (data_of alone.now))) }
 {
     if touches_fixed(alloc, changes.members())? {
         return Ok(None);
     }
-    match changed_at(alloc, key, changes, alone.copy()?)? {
+    span_of(alloc, alone, bad, key, changes, zones)
+}
+
+// No more of the event is copied than the changes and the tests of dates look at: a valid event may be large.
+#[tactic(auto, using(crate::proofs::OccurrenceLemmas::fails_beyond, crate::proofs::OccurrenceLemmas::part_tells))]
+fn span_of(
+    alloc: Global,
+    alone: &Tree,
+    bad: &[Text],
+    key: &Text,
+    changes: &TreeObject,
+    zones: &Zones,
+) -> Result<Option<Span>, AllocError>
+    requires { bad.now ≡ bad_event_properties zones.now (data_of alone.now) }
+    ensures { IfOk result (λ s. s ≡ span_of zones.now (changed_at key.now changes.now (members_in (data_of alone.now)))) }
+{
+    let firsts = firsts_of(alloc, changes.members())?;
+    let members = alone.members_in();
+    if !are_needed(&firsts, bad) {
+        return Ok(None);
+    }
+    let part = part_of(alloc, members, &firsts)?;
+    match changed_at(alloc, key, changes, part)? {
         Some(tree) => valid_span(alloc, &tree, zones),
         None => Ok(None),
     }

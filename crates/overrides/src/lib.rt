@@ -4,3 +4,4 @@
 pub mod exceptions;
 mod fixed;
 pub mod occurrence;
+mod part;

@@ -24,14 +24,21 @@ pub fn occurrence_tree(
 ) -> Result<Option<Tree>, AllocError>
     ensures { IfOk result (λ o. IsPatched o (occurrence_in (members_in (data_of event.now)) key.now patch.now)) }
 {
-    let alone = single(alloc, event)?;
+    let alone = single_members(alloc, event)?;
     let changes = changes_in(patch)?;
     changed_at(alloc, key, &changes, alone)
 }
 
 /// A copy of an event without its rules and overrides.
 #[tactic(auto, using(model_json::specs::Data::pairs_back))]
-pub(crate) fn single(alloc: Global, event: &Tree) -> Result<TreeObject, AllocError>
+pub(crate) fn single(alloc: Global, event: &Tree) -> Result<Tree, AllocError>
+    ensures { IfOk result (λ t. members_in (data_of t) ≡ single (members_in (data_of event.now))) }
+{
+    Ok(Tree::Object(single_members(alloc, event)?))
+}
+
+#[tactic(auto, using(model_json::specs::Data::pairs_back))]
+fn single_members(alloc: Global, event: &Tree) -> Result<TreeObject, AllocError>
     ensures { IfOk result (λ o. o ≡ single (members_in (data_of event.now))) }
 {
     match event {
