@@ -25,9 +25,9 @@ use Rattle.property_table.proofs.TableLemmas.{lookup_filter, rises_filter, value
 use Rattle.property_table.specs.Names.{has_name}
 use Rattle.property_table.specs.Table.{Table, failing, given, required_names}
 use Rattle.overrides.proofs.OverrideLemmas.{some_name}
-use Rattle.overrides.proofs.PatchLemmas.{all_is, all_kept, all_out, all_rises, field_kept, placed_members, same_failing, with_kept, with_out}
+use Rattle.overrides.proofs.PatchLemmas.{all_is, all_kept, all_out, all_rises, field_kept, lookup_kept, placed_members, same_failing, with_kept, with_out}
 use Rattle.overrides.proofs.TablePartLemmas.{tested_by_part}
-use Rattle.overrides.specs.Parts.{IsPartOf, IsTestedByPart, all_begin_in, always_needed, begins_in, begins_out, first_of, firsts_of, is_needed, kept, none_begins_in, object_of}
+use Rattle.overrides.specs.Parts.{IsPartOf, IsTestedByPart, all_begin_in, always_needed, are_all_needed, begins_in, begins_out, first_of, firsts_of, is_needed, kept, none_begins_in, object_of, part_with}
 
 -- The first parts of a patch's keys are needed.
 is_first : (n : List ℕ) → has_name (n ∷ []) n ≡ true
@@ -152,7 +152,7 @@ if_both true b s = refl
 if_both false b s = refl
 
 -- all that fails in these members is needed
-abbrev pub fails_in_part : List ZoneText → List (List ℕ) → List Pair → Bool
+abbrev fails_in_part : List ZoneText → List (List ℕ) → List Pair → Bool
 fails_in_part zones firsts ps = list_all (is_needed firsts) (failing (event_table zones) (given ps))
 
 span_if : List ZoneText → Span → List Pair → Option Span
@@ -175,11 +175,11 @@ valid_by_part zones firsts whole event r s h =
     ∙ if_both (fails_in_part zones firsts event) (length (failing (event_table zones) (given part)) == 0) (span_in (object_of part))
     ∙ ap (λ s. if fails_in_part zones firsts event then s else None) (sym (valid_is zones part))
 
-unless : (zones : List ZoneText) (failing_key : Option (List ℕ)) (whole part : Data) (a : Bool) → valid_span zones whole ≡ (if a then valid_span zones part else None)
-    → span_of zones (unless_failing failing_key whole) ≡ (if a then span_of zones (unless_failing failing_key part) else None)
-unless zones None whole part a h = h
-unless zones (Some k) whole part true h = refl
-unless zones (Some k) whole part false h = refl
+unless : (zones : List ZoneText) (failing_key : Option (List ℕ)) (d e : Data) (a : Bool) → valid_span zones d ≡ (if a then valid_span zones e else None)
+    → span_of zones (unless_failing failing_key d) ≡ (if a then span_of zones (unless_failing failing_key e) else None)
+unless zones None d e a h = h
+unless zones (Some k) d e true h = refl
+unless zones (Some k) d e false h = refl
 
 span_by_part : (zones : List ZoneText) (key : List ℕ) (changes event : List Pair) (firsts : List (List ℕ)) → keys_rise event ≡ true → all_begin_in (is_needed firsts) changes ≡ true
     → span_of zones (changed_at key changes event) ≡ (if fails_in_part zones firsts event then span_of zones (changed_at key changes (kept (is_needed firsts) event)) else None)
@@ -198,14 +198,16 @@ span_by_part zones key changes event firsts r t =
     ∙ ap (λ ms. if fails_in_part zones firsts event then span_of zones (unless_failing (first_failing (object_of ms) [] changes) (placed_all (object_of ms) changes)) else None) (with_kept (is_needed firsts) (codes "start") (text key) refl event r)
 
 -- an event that fails beyond the part has no valid occurrence
-pub fails_beyond : (zones : List ZoneText) (key : List ℕ) (changes event : List Pair) → keys_rise event ≡ true → fails_in_part zones (firsts_of changes) event ≡ false → span_of zones (changed_at key changes event) ≡ None
+pub fails_beyond : (zones : List ZoneText) (key : List ℕ) (changes event : List Pair) → keys_rise event ≡ true → are_all_needed (firsts_of changes) (failing (event_table zones) (given event)) ≡ false → span_of zones (changed_at key changes event) ≡ None
+unfolding are_all_needed
 fails_beyond zones key changes event r e =
     span_by_part zones key changes event (firsts_of changes) r (all_needed changes)
     ∙ ap (λ b. if b then span_of zones (changed_at key changes (kept (is_needed (firsts_of changes)) event)) else None) e
 
 -- and else the part tells all
-pub part_tells : (zones : List ZoneText) (key : List ℕ) (changes event : List Pair) → keys_rise event ≡ true → fails_in_part zones (firsts_of changes) event ≡ true
-    → span_of zones (changed_at key changes event) ≡ span_of zones (changed_at key changes (kept (is_needed (firsts_of changes)) event))
+pub part_tells : (zones : List ZoneText) (key : List ℕ) (changes event : List Pair) → keys_rise event ≡ true → are_all_needed (firsts_of changes) (failing (event_table zones) (given event)) ≡ true
+    → span_of zones (changed_at key changes event) ≡ span_of zones (changed_at key changes (part_with (firsts_of changes) event))
+unfolding are_all_needed part_with
 part_tells zones key changes event r e =
     span_by_part zones key changes event (firsts_of changes) r (all_needed changes)
     ∙ ap (λ b. if b then span_of zones (changed_at key changes (kept (is_needed (firsts_of changes)) event)) else None) e

@@ -34,6 +34,14 @@ always_needed = codes "uid" ∷ codes "calendarIds" ∷ codes "start" ∷ codes 
 abbrev pub is_needed : List (List ℕ) → List ℕ → Bool
 is_needed firsts name = has_name always_needed name || has_name firsts name
 
+-- all of these names are needed
+unfoldable pub are_all_needed : List (List ℕ) → List (List ℕ) → Bool
+are_all_needed firsts names = list_all (is_needed firsts) names
+
+-- the members that are needed
+unfoldable pub part_with : List (List ℕ) → List Pair → List Pair
+part_with firsts ps = kept (is_needed firsts) ps
+
 -- the path begins with one of these names, or with none of them; no path does both
 abbrev pub begins_in : (List ℕ → Bool) → List (List ℕ) → Bool
 begins_in f [] = true

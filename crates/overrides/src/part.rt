@@ -1,11 +1,10 @@
 //! The part of an event that a patch looks at.
 ghost use Rattle.std.specs.Prelude.{◌≡◌, IfOk, Some, map};
-ghost use Rattle.std.specs.List.{list_all};
 ghost use Rattle.model_json.specs.ObjectKeys.{HasOrderedKeys};
 ghost use Rattle.model_json.specs.Pointer.{parts};
 ghost use Rattle.model_json.specs.TreeData.{pair_of};
 ghost use Rattle.property_table.specs.Names.{has_name as is_name_of};
-ghost use Rattle.overrides.specs.Parts.{first_of, firsts_of, is_needed, kept};
+ghost use Rattle.overrides.specs.Parts.{are_all_needed, first_of, firsts_of, is_needed, kept, part_with};
 
 use crate::fixed::has_name;
 use model_json::text::Text;
@@ -46,14 +45,14 @@ fn copy_first(parts: &[Text]) -> Result<Option<Text>, AllocError>
 }
 
 /// The members that are needed, where a patch has these first parts.
-#[tactic(auto, using(crate::proofs::OverrideLemmas::kept_rises))]
+#[tactic(auto, using(crate::proofs::OverrideLemmas::kept_rises), unfolding(crate::specs::Parts::part_with))]
 pub(crate) fn part_of(
     alloc: Global,
     members: &[Member],
     firsts: &[Text],
 ) -> Result<TreeObject, AllocError>
     requires { HasOrderedKeys (map pair_of members.now) }
-    ensures { IfOk result (λ o. o ≡ kept (is_needed firsts.now) (map pair_of members.now)) }
+    ensures { IfOk result (λ o. o ≡ part_with firsts.now (map pair_of members.now)) }
 {
     Ok(TreeObject::new(needed_members(alloc, members, firsts)?))
 }
@@ -77,8 +76,9 @@ fn needed_members(
 }
 
 /// Whether all of these names are needed, where a patch has these first parts. Takes no memory.
+#[tactic(auto, unfolding(crate::specs::Parts::are_all_needed))]
 pub(crate) fn are_needed(firsts: &[Text], names: &[Text]) -> bool
-    ensures { result ≡ list_all (is_needed firsts.now) names.now }
+    ensures { result ≡ are_all_needed firsts.now names.now }
 {
     for name in names {
         if !is_needed(firsts, name.as_str()) {
