@@ -256,37 +256,12 @@ fn changed_span(
     if touches_fixed(alloc, changes.members())? {
         return Ok(None);
     }
-    span_of(alloc, alone, key, changes, zones)
-}
-
-fn span_of(
-    alloc: Global,
-    alone: &Tree,
-    key: &Text,
-    changes: &TreeObject,
-    zones: &Zones,
-) -> Result<Option<Span>, AllocError>
-    ensures { IfOk result (λ s. s ≡ span_of zones.now (changed_at key.now changes.now (members_in (data_of alone.now)))) }
-{
-    match changed_at(alloc, key, changes, copy_of_members(alloc, alone)?)? {
-        Some(tree) => valid_span(alloc, &tree, zones),
-        None => Ok(None),
-    }
-}
-
-#[tactic(auto, using(model_json::specs::Data::pairs_back))]
-fn copy_of_members(alloc: Global, alone: &Tree) -> Result<TreeObject, AllocError>
-    ensures { IfOk result (λ o. o ≡ members_in (data_of alone.now)) }
-{
-    match alone {
-        Tree::Object(object) => object.copy(),
-        _ => Ok(TreeObject::new(Vec::new(alloc))),
-    }
+    span_of(alloc, alone, bad, key, changes, zones)
 }
 
 // No more of the event is copied than the changes and the tests of dates look at: a valid event may be large.
 #[tactic(auto, using(crate::proofs::OccurrenceLemmas::fails_beyond, crate::proofs::OccurrenceLemmas::part_tells))]
-pub(crate) fn span_of_part(
+fn span_of(
     alloc: Global,
     alone: &Tree,
     bad: &[Text],
