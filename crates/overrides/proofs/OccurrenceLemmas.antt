@@ -1,18 +1,18 @@
 -- A changed event is valid where its part that the changes look at is, and what fails in the event lies in that part; then both are at the same time.
-use Rattle.std.proofs.Common.{◌≡◌, ℕ, ℤ, pos, List, [], ◌∷◌, ◌++◌, ◌&&◌, ◌||◌, ◌==◌, Bool, true, false, not, Option, Some, None, Result, Ok, Err, codes, filter, length, option_and_then, unwrap_or, if◌then◌else◌, refl, sym, ap, ◌∙◌}
+use Rattle.std.proofs.Common.{◌≡◌, ℕ, pos, List, [], ◌∷◌, ◌++◌, ◌&&◌, ◌||◌, ◌==◌, Bool, true, false, not, Option, Some, None, codes, length, option_and_then, unwrap_or, if◌then◌else◌, refl, sym, ap, ◌∙◌}
 use Rattle.std.proofs.lemmas.Bool.{and_from}
 use Rattle.std.proofs.lemmas.Slice.Eq.{bytes_eq-Decides}
 use Rattle.std.specs.List.{list_all}
 use Rattle.std.specs.Option.{option_map_or}
 use Rattle.std.specs.Str.{bytes_eq}
-use Rattle.model_event.specs.Events.{bad_event_properties, event_table}
+use Rattle.model_event.specs.Events.{event_table}
 use Rattle.model_event.specs.Values.{is_one_of}
 use Rattle.model_json.proofs.EditLemmas.{rises_with}
 use Rattle.model_json.proofs.KeyOrder.{both}
-use Rattle.model_json.specs.Data.{Data, Pair, field, lookup, object, pairs_back, text}
+use Rattle.model_json.specs.Data.{Data, Pair, field, lookup, pairs_back, text}
 use Rattle.model_json.specs.Edit.{with_pair}
 use Rattle.model_json.specs.ObjectKeys.{keys_rise}
-use Rattle.model_json.specs.Parts.{as_text, is_null, members_in, some_of}
+use Rattle.model_json.specs.Parts.{as_text, is_null, some_of}
 use Rattle.model_json.specs.Patch.{first_failing, placed_all, unless_failing}
 use Rattle.model_json.specs.Pointer.{parts}
 use Rattle.model_override.specs.Overrides.{changed_at, span_in, span_of, valid_span}
@@ -23,7 +23,7 @@ use Rattle.model_time.specs.LocalTimes.{local_in}
 use Rattle.property_table.proofs.NameLemmas.{has_append}
 use Rattle.property_table.proofs.TableLemmas.{lookup_filter, rises_filter, value_kept}
 use Rattle.property_table.specs.Names.{has_name}
-use Rattle.property_table.specs.Table.{Table, failing, given, required_names}
+use Rattle.property_table.specs.Table.{failing, given, required_names}
 use Rattle.overrides.proofs.OverrideLemmas.{some_name}
 use Rattle.overrides.proofs.PatchLemmas.{all_is, all_kept, all_out, all_rises, field_kept, lookup_kept, placed_members, same_failing, with_kept, with_out}
 use Rattle.overrides.proofs.TablePartLemmas.{tested_by_part}
@@ -118,7 +118,8 @@ is_part zones firsts whole event r s h =
       inside = λ n e. given_at n whole (kept (is_needed firsts) whole) r part_rises (sym (lookup_kept (is_needed firsts) n e whole r));
       outside = λ n e. given_at n whole event r s (same_outside firsts n whole event r s e h);
       nothing_else = λ n e. none_given n (kept (is_needed firsts) whole) part_rises (not_kept (is_needed firsts) n whole r e);
-      has_required = λ n e. required_in zones firsts n e }
+      has_required = λ n e. required_in zones firsts n e;
+    }
 
 decide : (xs ys : List (List ℕ)) (a : Bool) → (xs ≡ [] → (ys ≡ []) × (a ≡ true)) → (ys ≡ [] → a ≡ true → xs ≡ []) → (length xs == 0) ≡ (a && (length ys == 0))
 decide [] ys a to from = let b = to refl in rw (b.0, b.1) refl
@@ -131,7 +132,8 @@ abbrev span_from : Option Data → Option Data → Option Data → Option Data �
 span_from start duration status free = record {
   start = unwrap_or (option_and_then local_in (option_and_then as_text start)) (pos 0);
   length = unwrap_or (option_and_then duration_in (option_and_then as_text duration)) (length_of 0 0);
-  occupying = not (option_map_or (is_one_of (codes "cancelled" ∷ [])) status false) && not (option_map_or (is_one_of (codes "free" ∷ [])) free false) }
+  occupying = not (option_map_or (is_one_of (codes "cancelled" ∷ [])) status false) && not (option_map_or (is_one_of (codes "free" ∷ [])) free false);
+}
 
 span_is : (d : Data) → span_in d ≡ span_from (field (codes "start") d) (field (codes "duration") d) (field (codes "status") d) (field (codes "freeBusyStatus") d)
 span_is d = refl
@@ -168,7 +170,7 @@ unfolding span_if
 valid_by_part zones firsts whole event r s h =
     let part : List Pair = kept (is_needed firsts) whole in
     let tested : IsTestedByPart (event_table zones) (is_needed firsts) (given whole) (given part) (given event)
-        = tested_by_part (event_table zones) (is_needed firsts) (given whole) (given part) (given event) (is_part zones firsts whole event r s h) in
+    = tested_by_part (event_table zones) (is_needed firsts) (given whole) (given part) (given event) (is_part zones firsts whole event r s h) in
     valid_is zones whole
     ∙ ap (λ b. if b then Some (span_in (object_of whole)) else None) (decide (failing (event_table zones) (given whole)) (failing (event_table zones) (given part)) (fails_in_part zones firsts event) tested.to tested.from)
     ∙ ap (λ s. if (fails_in_part zones firsts event && (length (failing (event_table zones) (given part)) == 0)) then Some s else None) (same_span firsts whole r)
@@ -188,7 +190,7 @@ span_by_part zones key changes event firsts r t =
     let rise : keys_rise moved ≡ true = rises_with (codes "start") (text key) event r in
     let whole : List Pair = placed_members moved changes in
     let same : kept (is_other firsts) whole ≡ kept (is_other firsts) event
-        = all_out (is_other firsts) changes moved (none_other firsts changes t) ∙ with_out (is_other firsts) (codes "start") (text key) refl event in
+    = all_out (is_other firsts) changes moved (none_other firsts changes t) ∙ with_out (is_other firsts) (codes "start") (text key) refl event in
     ap (λ d. span_of zones (unless_failing (first_failing (object_of moved) [] changes) d)) (all_is moved changes)
     ∙ unless zones (first_failing (object_of moved) [] changes) (object_of whole) (object_of (kept (is_needed firsts) whole)) (fails_in_part zones firsts event)
     (valid_by_part zones firsts whole event (all_rises changes moved rise) r same)

@@ -1,11 +1,11 @@
 -- What fails in a whole, by a part of it.
-use Rattle.std.proofs.Common.{◌≡◌, ℕ, List, [], ◌∷◌, ◌&&◌, ◌||◌, Bool, true, false, not, Option, Some, None, is_some, refl, sym, ap, ◌∙◌}
+use Rattle.std.proofs.Common.{◌≡◌, ℕ, List, [], ◌∷◌, ◌&&◌, ◌||◌, Bool, true, false, not, None, is_some, refl, sym, ap, ◌∙◌}
 use Rattle.std.proofs.lemmas.Bool.{and_from}
 use Rattle.std.proofs.lemmas.Slice.Eq.{bytes_eq-Decides}
 use Rattle.std.specs.List.{list_all}
 use Rattle.std.specs.Str.{bytes_eq}
 use Rattle.model_json.proofs.KeyOrder.{both}
-use Rattle.model_json.specs.Data.{Data, Pair, lookup}
+use Rattle.model_json.specs.Data.{Pair, lookup}
 use Rattle.property_table.proofs.NameLemmas.{has_append, has_filter, has_keys}
 use Rattle.property_table.proofs.TableLemmas.{all_failing}
 use Rattle.property_table.specs.Names.{has_name}
@@ -75,4 +75,5 @@ whole_none t f whole part event p none all n false false e h = same_at t whole e
 pub tested_by_part : (t : Table) (f : List ℕ → Bool) (whole part event : List Pair) → IsPartOf t f whole part event → IsTestedByPart t f whole part event
 tested_by_part t f whole part event p = record {
   to = λ none. (nothing (failing t part) (λ n. part_none t f whole part event p none n (f n) refl), all_of f (failing t event) (λ n h. event_in t f whole part event p none n h (f n) refl));
-  from = λ none all. nothing (failing t whole) (λ n. whole_none t f whole part event p none all n (f n) (has_name (failing t event) n) refl refl) }
+  from = λ none all. nothing (failing t whole) (λ n. whole_none t f whole part event p none all n (f n) (has_name (failing t event) n) refl refl);
+}

@@ -58,11 +58,7 @@ impl<T: Drop> From<AllocFailed<T>> for OverrideError {
 /// `BadOverride` names the first override whose key isn't a LocalDateTime in the years 1 to 9998, whose value isn't an
 /// object, whose `excluded` is neither true, false nor null, or which doesn't exclude its occurrence and touches what is
 /// fixed, has a key that fails, or makes an object that isn't a valid event. Takes memory for a copy of the event.
-pub fn exceptions(
-    alloc: Global,
-    event: &Tree,
-    zones: &Zones,
-) -> Result<Exceptions, OverrideError>
+pub fn exceptions(alloc: Global, event: &Tree, zones: &Zones) -> Result<Exceptions, OverrideError>
     ensures value { IfOk result (λ xs. exceptions_in zones.now (data_of event.now) ≡ Some xs) }
     ensures err { IfErr result (λ error. Reports error zones.now (data_of event.now)) }
 {
@@ -71,9 +67,7 @@ pub fn exceptions(
     };
     let alone = single(alloc, event)?;
     let bad = bad_event_names(alloc, &alone, zones)?;
-    Ok(Exceptions::new(exceptions_among(
-        alloc, &alone, &bad, overrides, zones,
-    )?))
+    Ok(Exceptions::new(exceptions_among(alloc, &alone, &bad, overrides, zones)?))
 }
 
 fn overrides_in(event: &Tree) -> Option<&[Member]>
@@ -285,11 +279,7 @@ fn span_of(
 }
 
 #[tactic(auto, using(crate::proofs::OverrideLemmas::no_names, crate::proofs::OverrideLemmas::some_names))]
-fn valid_span(
-    alloc: Global,
-    tree: &Tree,
-    zones: &Zones,
-) -> Result<Option<Span>, AllocError>
+fn valid_span(alloc: Global, tree: &Tree, zones: &Zones) -> Result<Option<Span>, AllocError>
     ensures { IfOk result (λ s. s ≡ valid_span zones.now (data_of tree.now)) }
 {
     match read_event(alloc, tree, zones) {

@@ -80,11 +80,7 @@ pub(crate) fn changed_at(
 }
 
 // The patched tree, none where a key of the patch fails.
-fn patched(
-    alloc: Global,
-    tree: &Tree,
-    patch: &TreeObject,
-) -> Result<Option<Tree>, AllocError>
+fn patched(alloc: Global, tree: &Tree, patch: &TreeObject) -> Result<Option<Tree>, AllocError>
     ensures { IfOk result (λ o. IsPatched o (patched (data_of tree.now) patch.now)) }
 {
     match apply(alloc, tree, patch) {
