@@ -1,0 +1,4 @@
+mod OverrideLemmas
+mod PatchLemmas
+mod TablePartLemmas
+mod OccurrenceLemmas

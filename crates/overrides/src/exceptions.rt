@@ -1,0 +1,294 @@
+//! What the overrides of an event come to.
+ghost use Rattle.std.specs.Prelude.{◌≡◌, IfErr, IfOk, Some, codes, if◌then◌else◌, None, map, option_and_then, option_map};
+ghost use Rattle.model_event.specs.Events.{bad_event_properties};
+ghost use Rattle.model_event.specs.Values.{is_showing};
+ghost use Rattle.model_json.specs.Data.{lookup};
+ghost use Rattle.model_json.specs.Parts.{all_some, members_in};
+ghost use Rattle.model_json.specs.TreeData.{data_of, pair_of};
+ghost use Rattle.model_override.specs.Overrides.{changed_at, changed_span, changes_in, exception_at, exception_in, exception_of, exceptions_in, few_members, first_refused, is_excluded, overrides_in, overrides_of, recurrence_id_in, replaced_by, single, span_of, valid_span};
+ghost use Rattle.overrides.specs.Reports.{Reports, ReportsAmong};
+ghost use Rattle.overrides.specs.declared.exceptions.OverrideError.TheVariants.{NoMemory};
+
+use crate::fixed::touches_fixed;
+use crate::occurrence::{changed_at, changes_in, single};
+use crate::part::{are_needed, firsts_of, part_of};
+use event_model::read::{EventError, bad_event_names, read_event};
+use model_event::limits::{FIRST_START, LAST_START};
+use model_json::text::Text;
+use model_json::tree::{Member, Tree, TreeObject};
+use model_override::limits::MAX_OVERRIDES;
+use model_series::exception::{Exception, Exceptions, Span};
+use model_time::wall::Wall;
+use std::alloc::{AllocError, AllocFailed, Global};
+use time_text::read_local;
+use zone_table::Zones;
+
+/// Why an event may not have its overrides.
+#[derive(Drop)]
+pub enum OverrideError {
+    /// `recurrenceOverrides` isn't an object of at most 128 members.
+    BadOverrides,
+    /// There is an override that the event may not have.
+    BadOverride {
+        /// The key of the first one, in byte order.
+        key: Text,
+    },
+    /// There was no memory.
+    NoMemory,
+}
+
+impl From<AllocError> for OverrideError {
+    ghost from_gives = { λ _ error. error ≡ NoMemory };
+
+    fn from(_: AllocError) -> Self {
+        OverrideError::NoMemory
+    }
+}
+
+impl<T: Drop> From<AllocFailed<T>> for OverrideError {
+    ghost from_gives = { λ _ error. error ≡ NoMemory };
+
+    fn from(_: AllocFailed<T>) -> Self {
+        OverrideError::NoMemory
+    }
+}
+
+/// The exceptions that the overrides of an event come to, in byte order of their keys (RFC 8984 section 4.3.5).
+///
+/// `BadOverride` names the first override whose key isn't a LocalDateTime in the years 1 to 9998, whose value isn't an
+/// object, whose `excluded` is neither true, false nor null, or which doesn't exclude its occurrence and touches what is
+/// fixed, has a key that fails, or makes an object that isn't a valid event. Takes memory for a copy of the event.
+pub fn exceptions(alloc: Global, event: &Tree, zones: &Zones) -> Result<Exceptions, OverrideError>
+    ensures value { IfOk result (λ xs. exceptions_in zones.now (data_of event.now) ≡ Some xs) }
+    ensures err { IfErr result (λ error. Reports error zones.now (data_of event.now)) }
+{
+    let Some(overrides) = overrides_in(event) else {
+        return Err(OverrideError::BadOverrides);
+    };
+    let alone = single(alloc, event)?;
+    let bad = bad_event_names(alloc, &alone, zones)?;
+    Ok(Exceptions::new(exceptions_among(alloc, &alone, &bad, overrides, zones)?))
+}
+
+fn overrides_in(event: &Tree) -> Option<&[Member]>
+    ensures { option_map (λ members. map pair_of members.now) result ≡ overrides_in (data_of event.now) }
+{
+    match event.get("recurrenceOverrides") {
+        Some(overrides) => overrides_of(overrides),
+        None => Some(&[]),
+    }
+}
+
+#[tactic(auto, using(model_json::specs::Data::pairs_back))]
+fn overrides_of(overrides: &Tree) -> Option<&[Member]>
+    ensures { option_map (λ members. map pair_of members.now) result ≡ overrides_of (data_of overrides.now) }
+{
+    match overrides {
+        Tree::Null => Some(&[]),
+        Tree::Object(object) => few_members(object.members()),
+        _ => None,
+    }
+}
+
+fn few_members(members: &[Member]) -> Option<&[Member]>
+    ensures { option_map (λ members. map pair_of members.now) result ≡ few_members (map pair_of members.now) }
+{
+    if members.len() <= MAX_OVERRIDES {
+        Some(members)
+    } else {
+        None
+    }
+}
+
+#[tactic(auto, using(model_json::proofs::Appending::push_option))]
+fn exceptions_among(
+    alloc: Global,
+    alone: &Tree,
+    bad: &[Text],
+    overrides: &[Member],
+    zones: &Zones,
+) -> Result<Vec<Exception>, OverrideError>
+    requires { bad.now ≡ bad_event_properties zones.now (data_of alone.now) }
+    ensures value { IfOk result (λ v. all_some (exception_in zones.now (members_in (data_of alone.now))) (map pair_of overrides.now) ≡ Some v.items) }
+    ensures err { IfErr result (λ error. ReportsAmong error (first_refused zones.now (members_in (data_of alone.now)) (map pair_of overrides.now))) }
+{
+    let mut exceptions = Vec::with_capacity(alloc, overrides.len())?;
+    for member in overrides {
+        match exception_in(alloc, alone, bad, member, zones)? {
+            Some(Exception { rid, replaced }) => exceptions.push(Exception { rid, replaced })?,
+            None => {
+                return Err(OverrideError::BadOverride {
+                    key: member.key.copy()?,
+                });
+            }
+        }
+    }
+    Ok(exceptions)
+}
+
+#[tactic(auto, unfolding(model_override::specs::Overrides::exception_in))]
+fn exception_in(
+    alloc: Global,
+    alone: &Tree,
+    bad: &[Text],
+    member: &Member,
+    zones: &Zones,
+) -> Result<Option<Exception>, AllocError>
+    requires { bad.now ≡ bad_event_properties zones.now (data_of alone.now) }
+    ensures { IfOk result (λ x. x ≡ exception_in zones.now (members_in (data_of alone.now)) (pair_of member.now)) }
+{
+    match member.value.as_object() {
+        Some(patch) => exception_of(alloc, alone, bad, &member.key, patch, zones),
+        None => Ok(None),
+    }
+}
+
+fn exception_of(
+    alloc: Global,
+    alone: &Tree,
+    bad: &[Text],
+    key: &Text,
+    patch: &TreeObject,
+    zones: &Zones,
+) -> Result<Option<Exception>, AllocError>
+    requires { bad.now ≡ bad_event_properties zones.now (data_of alone.now) }
+    ensures { IfOk result (λ x. x ≡ exception_of zones.now (members_in (data_of alone.now)) key.now patch.now) }
+{
+    match recurrence_id_in(key.as_str().as_bytes()) {
+        Some(rid) => exception_at(alloc, alone, bad, key, patch, zones, rid),
+        None => Ok(None),
+    }
+}
+
+fn exception_at(
+    alloc: Global,
+    alone: &Tree,
+    bad: &[Text],
+    key: &Text,
+    patch: &TreeObject,
+    zones: &Zones,
+    rid: Wall,
+) -> Result<Option<Exception>, AllocError>
+    requires { bad.now ≡ bad_event_properties zones.now (data_of alone.now) }
+    ensures { IfOk result (λ x. x ≡ exception_at zones.now key.now patch.now (members_in (data_of alone.now)) rid) }
+{
+    match replaced_by(alloc, alone, bad, key, patch, zones)? {
+        Some(replaced) => Ok(Some(Exception { rid, replaced })),
+        None => Ok(None),
+    }
+}
+
+fn recurrence_id_in(key: &[u8]) -> Option<Wall>
+    ensures { result ≡ recurrence_id_in key.now }
+{
+    match read_local(key) {
+        Some(wall) => if_showing(wall),
+        None => None,
+    }
+}
+
+fn if_showing(wall: Wall) -> Option<Wall>
+    ensures { result ≡ if is_showing wall then Some wall else None }
+{
+    if FIRST_START <= wall.seconds() && wall.seconds() <= LAST_START {
+        Some(wall)
+    } else {
+        None
+    }
+}
+
+// What stands in the place of the occurrence, which is nothing where it is excluded.
+fn replaced_by(
+    alloc: Global,
+    alone: &Tree,
+    bad: &[Text],
+    key: &Text,
+    patch: &TreeObject,
+    zones: &Zones,
+) -> Result<Option<Option<Span>>, AllocError>
+    requires { bad.now ≡ bad_event_properties zones.now (data_of alone.now) }
+    ensures { IfOk result (λ r. r ≡ replaced_by zones.now key.now patch.now (members_in (data_of alone.now)) (is_excluded (lookup (codes "excluded") patch.now))) }
+{
+    match patch.get("excluded") {
+        Some(Tree::Truth(true)) => Ok(Some(None)),
+        None | Some(Tree::Truth(false)) | Some(Tree::Null) => {
+            replacement(alloc, alone, bad, key, patch, zones)
+        }
+        Some(_) => Ok(None),
+    }
+}
+
+fn replacement(
+    alloc: Global,
+    alone: &Tree,
+    bad: &[Text],
+    key: &Text,
+    patch: &TreeObject,
+    zones: &Zones,
+) -> Result<Option<Option<Span>>, AllocError>
+    requires { bad.now ≡ bad_event_properties zones.now (data_of alone.now) }
+    ensures { IfOk result (λ r. r ≡ option_map Some (changed_span zones.now key.now (changes_in patch.now) (members_in (data_of alone.now)))) }
+{
+    let changes = changes_in(patch)?;
+    match changed_span(alloc, alone, bad, key, &changes, zones)? {
+        Some(span) => Ok(Some(Some(span))),
+        None => Ok(None),
+    }
+}
+
+fn changed_span(
+    alloc: Global,
+    alone: &Tree,
+    bad: &[Text],
+    key: &Text,
+    changes: &TreeObject,
+    zones: &Zones,
+) -> Result<Option<Span>, AllocError>
+    requires { bad.now ≡ bad_event_properties zones.now (data_of alone.now) }
+    ensures { IfOk result (λ s. s ≡ changed_span zones.now key.now changes.now (members_in (data_of alone.now))) }
+{
+    if touches_fixed(alloc, changes.members())? {
+        return Ok(None);
+    }
+    span_of(alloc, alone, bad, key, changes, zones)
+}
+
+// No more of the event is copied than the changes and the tests of dates look at: a valid event may be large.
+#[tactic(auto, using(crate::proofs::OccurrenceLemmas::fails_beyond, crate::proofs::OccurrenceLemmas::part_tells))]
+fn span_of(
+    alloc: Global,
+    alone: &Tree,
+    bad: &[Text],
+    key: &Text,
+    changes: &TreeObject,
+    zones: &Zones,
+) -> Result<Option<Span>, AllocError>
+    requires { bad.now ≡ bad_event_properties zones.now (data_of alone.now) }
+    ensures { IfOk result (λ s. s ≡ span_of zones.now (changed_at key.now changes.now (members_in (data_of alone.now)))) }
+{
+    let firsts = firsts_of(alloc, changes.members())?;
+    let members = alone.members_in();
+    if !are_needed(&firsts, bad) {
+        return Ok(None);
+    }
+    let part = part_of(alloc, members, &firsts)?;
+    match changed_at(alloc, key, changes, part)? {
+        Some(tree) => valid_span(alloc, &tree, zones),
+        None => Ok(None),
+    }
+}
+
+#[tactic(auto, using(crate::proofs::OverrideLemmas::no_names, crate::proofs::OverrideLemmas::some_names))]
+fn valid_span(alloc: Global, tree: &Tree, zones: &Zones) -> Result<Option<Span>, AllocError>
+    ensures { IfOk result (λ s. s ≡ valid_span zones.now (data_of tree.now)) }
+{
+    match read_event(alloc, tree, zones) {
+        Ok(event) => Ok(Some(Span {
+            start: event.start(),
+            length: event.length(),
+            occupying: event.is_occupying(),
+        })),
+        Err(EventError::BadEvent { .. }) => Ok(None),
+        Err(EventError::NoMemory) => Err(AllocError),
+    }
+}
