@@ -15,7 +15,7 @@ use Rattle.model_json.specs.ObjectKeys.{keys_rise}
 use Rattle.model_json.specs.Parts.{as_text, is_null, some_of}
 use Rattle.model_json.specs.Patch.{first_failing, placed_all, unless_failing}
 use Rattle.model_json.specs.Pointer.{parts}
-use Rattle.model_override.specs.Overrides.{changed_at, span_in, span_of, valid_span}
+use Rattle.overrides.specs.Overrides.{changed_at, span_in, span_of, valid_span}
 use Rattle.model_series.specs.declared.exception.Span.{Span}
 use Rattle.model_site.specs.TimeZones.{ZoneText}
 use Rattle.model_time.specs.Durations.{duration_in, length_of}
@@ -27,13 +27,13 @@ use Rattle.property_table.specs.Table.{failing, given, required_names}
 use Rattle.overrides.proofs.OverrideLemmas.{some_name}
 use Rattle.overrides.proofs.PatchLemmas.{all_is, all_kept, all_out, all_rises, field_kept, lookup_kept, placed_members, same_failing, with_kept, with_out}
 use Rattle.overrides.proofs.TablePartLemmas.{tested_by_part}
-use Rattle.overrides.specs.Parts.{IsPartOf, IsTestedByPart, all_begin_in, always_needed, are_all_needed, begins_in, begins_out, first_of, firsts_of, is_needed, kept, none_begins_in, object_of, part_with}
+use Rattle.overrides.specs.Parts.{IsPartOf, IsTestedByPart, all_begin_in, always_needed, are_all_needed, begins_in, begins_out, first_part, firsts_of, is_needed, kept, none_begins_in, object_of, part_with}
 
 -- The first parts of a patch's keys are needed.
 is_first : (n : List ℕ) → has_name (n ∷ []) n ≡ true
 is_first n = rw ((bytes_eq-Decides n n).1 refl) refl
 
-first_in : (f : List ℕ → Bool) (found : Option (List (List ℕ))) → ((n : List ℕ) → has_name (some_of (first_of found)) n ≡ true → f n ≡ true) → option_map_or (begins_in f) found true ≡ true
+first_in : (f : List ℕ → Bool) (found : Option (List (List ℕ))) → ((n : List ℕ) → has_name (some_of (first_part found)) n ≡ true → f n ≡ true) → option_map_or (begins_in f) found true ≡ true
 first_in f None h = refl
 first_in f (Some []) h = refl
 first_in f (Some (p ∷ ps)) h = h p (is_first p)
@@ -55,8 +55,8 @@ in_back xs ys n h = has_append xs ys n ∙ or_right (has_name xs n) (has_name ys
 all_in : (f : List ℕ → Bool) (patch : List Pair) → ((n : List ℕ) → has_name (firsts_of patch) n ≡ true → f n ≡ true) → all_begin_in f patch ≡ true
 all_in f [] h = refl
 all_in f (p ∷ patch) h =
-    and_from _ _ (first_in f (parts p.0) (λ n e. h n (in_front (some_of (first_of (parts p.0))) (firsts_of patch) n e)))
-    (all_in f patch (λ n e. h n (in_back (some_of (first_of (parts p.0))) (firsts_of patch) n e)))
+    and_from _ _ (first_in f (parts p.0) (λ n e. h n (in_front (some_of (first_part (parts p.0))) (firsts_of patch) n e)))
+    (all_in f patch (λ n e. h n (in_back (some_of (first_part (parts p.0))) (firsts_of patch) n e)))
 
 all_needed : (patch : List Pair) → all_begin_in (is_needed (firsts_of patch)) patch ≡ true
 all_needed patch = all_in (is_needed (firsts_of patch)) patch (λ n e. or_right (has_name always_needed n) (has_name (firsts_of patch) n) e)

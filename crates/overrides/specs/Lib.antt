@@ -1,2 +1,3 @@
+pub mod Overrides
 pub mod Parts
 pub mod Reports

@@ -16,15 +16,15 @@ kept f ps = filter (λ p. f p.0) ps
 abbrev pub object_of : List Pair → Data
 object_of ps = object (members_of ps)
 
-abbrev pub first_of : Option (List (List ℕ)) → Option (List ℕ)
-first_of None = None
-first_of (Some []) = None
-first_of (Some (p ∷ ps)) = Some p
+abbrev pub first_part : Option (List (List ℕ)) → Option (List ℕ)
+first_part None = None
+first_part (Some []) = None
+first_part (Some (p ∷ ps)) = Some p
 
 -- the first parts of the keys of a patch
 abbrev pub firsts_of : List Pair → List (List ℕ)
 firsts_of [] = []
-firsts_of (p ∷ patch) = some_of (first_of (parts p.0)) ++ firsts_of patch
+firsts_of (p ∷ patch) = some_of (first_part (parts p.0)) ++ firsts_of patch
 
 -- what an event must have, and what says when it is and whether it takes up the time
 abbrev pub always_needed : List (List ℕ)

@@ -3,7 +3,7 @@ ghost use Rattle.std.specs.Prelude.{◌≡◌, IfOk};
 ghost use Rattle.model_json.specs.Parts.{members_in};
 ghost use Rattle.model_json.specs.Patch.{patched};
 ghost use Rattle.model_json.specs.TreeData.{data_of};
-ghost use Rattle.model_override.specs.Overrides.{changed_at, changes_in, occurrence_in, single};
+ghost use Rattle.overrides.specs.Overrides.{changed_at, patch_changes, occurrence_in, single};
 ghost use Rattle.overrides.specs.Reports.{IsPatched};
 
 use model_json::text::Text;
@@ -25,7 +25,7 @@ pub fn occurrence_tree(
     ensures { IfOk result (λ o. IsPatched o (occurrence_in (members_in (data_of event.now)) key.now patch.now)) }
 {
     let alone = single_members(alloc, event)?;
-    let changes = changes_in(patch)?;
+    let changes = patch_changes(patch)?;
     changed_at(alloc, key, &changes, alone)
 }
 
@@ -57,8 +57,8 @@ fn single_of(event: &TreeObject) -> Result<TreeObject, AllocError>
 }
 
 /// A copy of a patch without its `excluded`.
-pub(crate) fn changes_in(patch: &TreeObject) -> Result<TreeObject, AllocError>
-    ensures { IfOk result (λ o. o ≡ changes_in patch.now) }
+pub(crate) fn patch_changes(patch: &TreeObject) -> Result<TreeObject, AllocError>
+    ensures { IfOk result (λ o. o ≡ patch_changes patch.now) }
 {
     let mut changes = patch.copy()?;
     changes.take("excluded");

@@ -4,7 +4,7 @@ ghost use Rattle.model_json.specs.ObjectKeys.{HasOrderedKeys};
 ghost use Rattle.model_json.specs.Pointer.{parts};
 ghost use Rattle.model_json.specs.TreeData.{pair_of};
 ghost use Rattle.property_table.specs.Names.{has_name as is_name_of};
-ghost use Rattle.overrides.specs.Parts.{are_all_needed, first_of, firsts_of, is_needed, kept, part_with};
+ghost use Rattle.overrides.specs.Parts.{are_all_needed, first_part, firsts_of, is_needed, kept, part_with};
 
 use crate::fixed::has_name;
 use model_json::text::Text;
@@ -18,15 +18,15 @@ pub(crate) fn firsts_of(alloc: Global, patch: &[Member]) -> Result<Vec<Text>, Al
 {
     let mut firsts = Vec::new(alloc);
     for member in patch {
-        if let Some(first) = first_of(alloc, &member.key)? {
+        if let Some(first) = first_part(alloc, &member.key)? {
             firsts.push(first)?;
         }
     }
     Ok(firsts)
 }
 
-fn first_of(alloc: Global, key: &Text) -> Result<Option<Text>, AllocError>
-    ensures { IfOk result (λ o. o ≡ first_of (parts key.now)) }
+fn first_part(alloc: Global, key: &Text) -> Result<Option<Text>, AllocError>
+    ensures { IfOk result (λ o. o ≡ first_part (parts key.now)) }
 {
     match Pointer::read(alloc, key) {
         Ok(pointer) => copy_first(pointer.parts()),
@@ -36,7 +36,7 @@ fn first_of(alloc: Global, key: &Text) -> Result<Option<Text>, AllocError>
 }
 
 fn copy_first(parts: &[Text]) -> Result<Option<Text>, AllocError>
-    ensures { IfOk result (λ o. o ≡ first_of (Some parts.now)) }
+    ensures { IfOk result (λ o. o ≡ first_part (Some parts.now)) }
 {
     match parts.first() {
         Some(part) => Ok(Some(part.copy()?)),

@@ -9,7 +9,7 @@ use Rattle.model_json.specs.Edit.{with_pair, without}
 use Rattle.model_json.specs.Parts.{all_some, as_object, members_in}
 use Rattle.model_json.specs.Patch.{patched}
 use Rattle.model_json.specs.Pointer.{parts}
-use Rattle.model_override.specs.declared.limits.TheConstants.{MAX_OVERRIDES}
+use Rattle.overrides.specs.declared.limits.TheConstants.{MAX_OVERRIDES}
 use Rattle.model_series.specs.declared.exception.Exception.{Exception}
 use Rattle.model_series.specs.declared.exception.Span.{Span}
 use Rattle.model_site.specs.TimeZones.{ZoneText}
@@ -23,8 +23,8 @@ abbrev pub single : List Pair → List Pair
 single event = without (codes "recurrenceOverrides") (without (codes "recurrenceRules") event)
 
 -- what a patch changes: `excluded` says whether there is the occurrence at all (section 4.3.6)
-abbrev pub changes_in : List Pair → List Pair
-changes_in patch = without (codes "excluded") patch
+abbrev pub patch_changes : List Pair → List Pair
+patch_changes patch = without (codes "excluded") patch
 
 -- an object with these changes, where it starts at the time of a key
 abbrev pub changed_at : List ℕ → List Pair → List Pair → Result Data (List ℕ)
@@ -33,7 +33,7 @@ changed_at key changes alone = patched (object (members_of (with_pair (codes "st
 -- The object of the occurrence with this recurrence id: the event without rules and overrides, which starts at the recurrence id,
 -- and then the patch; or else the first key of the patch that fails (RFC 8620 section 5.3).
 abbrev pub occurrence_in : List Pair → List ℕ → List Pair → Result Data (List ℕ)
-occurrence_in event key patch = changed_at key (changes_in patch) (single event)
+occurrence_in event key patch = changed_at key (patch_changes patch) (single event)
 
 -- Which overrides an event may have.
 
@@ -84,7 +84,7 @@ changed_span zones key changes alone = if list_any touches_fixed changes then No
 abbrev pub replaced_by : List ZoneText → List ℕ → List Pair → List Pair → Option Bool → Option (Option Span)
 replaced_by zones key patch alone None = None
 replaced_by zones key patch alone (Some true) = Some None
-replaced_by zones key patch alone (Some false) = option_map Some (changed_span zones key (changes_in patch) alone)
+replaced_by zones key patch alone (Some false) = option_map Some (changed_span zones key (patch_changes patch) alone)
 
 abbrev pub exception_at : List ZoneText → List ℕ → List Pair → List Pair → ℤ → Option Exception
 exception_at zones key patch alone w =

@@ -1,4 +1,0 @@
-//! What the overrides of an event say of its occurrences.
-#![tactic(auto)]
-
-pub mod limits;
