@@ -1,4 +1,4 @@
--- Wall seconds: seconds of local time from 1970-01-01T00:00:00, without a time zone (RFC 8984 section 1.4.4).
+-- Wall seconds: seconds of local time from 1970-01-01T00:00:00, without a time zone (RFC 8984 section 1.4.5).
 use Rattle.std.specs.Prelude.{ℕ, ℤ, pos, negsuc, int_le, ◌+ℤ◌, ◌*ℤ◌, ◌&&◌, Bool}
 use Rattle.model_time.specs.Floor.{floor_div, modulo}
 

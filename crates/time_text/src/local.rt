@@ -12,7 +12,7 @@ const FIRST_SECOND: i64 = -62_167_219_200;
 /// The wall second of 9999-12-31T23:59:59.
 const LAST_SECOND: i64 = 253_402_300_799;
 
-/// Reads a LocalDateTime (RFC 8984 section 1.4.4). None where the text is anything else. Takes no memory.
+/// Reads a LocalDateTime (RFC 8984 section 1.4.5). None where the text is anything else. Takes no memory.
 pub fn read_local(text: &[u8]) -> Option<Wall>
     ensures value { result ≡ local_in text.now }
     ensures years { IfSome result (λ w. is_in_years w ≡ true) }
@@ -24,7 +24,7 @@ pub fn read_local(text: &[u8]) -> Option<Wall>
     }
 }
 
-/// Reads a UTCDate (RFC 8984 section 1.4.5). None where the text is anything else. Takes no memory.
+/// Reads a UTCDate (RFC 8984 section 1.4.4). None where the text is anything else. Takes no memory.
 pub fn read_utc(text: &[u8]) -> Option<i64>
     ensures value { result ≡ utc_in text.now }
     ensures years { IfSome result (λ w. is_in_years w ≡ true) }
