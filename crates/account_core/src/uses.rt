@@ -8,7 +8,7 @@ ghost use Rattle.model_history.specs.declared.entry.Kind.TheVariants.{Event as e
 
 use crate::ledger::Ledger;
 use cal_model::view::AccountView;
-use event_model::calendars::names_calendar;
+use single_event::calendars::names_calendar;
 use model_history::entry::{Change, Kind};
 use model_json::tree::Tree;
 

@@ -1,7 +1,7 @@
 //! Rows of the calendars that events name, and of whether events recur.
 use crate::answers::list_of;
-use event_model::calendars::{calendars_of, names_calendar};
-use event_model::recurrence::has_recurrence;
+use single_event::calendars::{calendars_of, names_calendar};
+use single_event::recurrence::has_recurrence;
 use model_json::tree::Tree;
 use std::alloc::{AllocError, Global};
 

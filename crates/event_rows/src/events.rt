@@ -1,7 +1,7 @@
 //! Rows of events: what they mean, or the names of all that is bad in them.
 use crate::answers::{list_of, texts_of, whole, word};
-use event_model::event::Event;
-use event_model::read::{EventError, read_event};
+use single_event::event::Event;
+use single_event::read::{EventError, read_event};
 use json_edge::read::{ReadError, read_tree};
 use model_json::text::Text;
 use model_json::tree::Tree;

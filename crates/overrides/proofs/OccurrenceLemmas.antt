@@ -15,7 +15,7 @@ use Rattle.model_json.specs.ObjectKeys.{keys_rise}
 use Rattle.model_json.specs.Parts.{as_text, is_null, some_of}
 use Rattle.model_json.specs.Patch.{first_failing, placed_all, unless_failing}
 use Rattle.model_json.specs.Pointer.{parts}
-use Rattle.overrides.specs.Overrides.{changed_at, span_in, span_of, valid_span}
+use Rattle.model_recurrence.specs.Overrides.{changed_at, span_in, span_of, valid_span}
 use Rattle.model_series.specs.declared.exception.Span.{Span}
 use Rattle.model_site.specs.TimeZones.{ZoneText}
 use Rattle.model_time.specs.Durations.{duration_in, length_of}

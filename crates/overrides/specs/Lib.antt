@@ -1,3 +1,2 @@
-pub mod Overrides
 pub mod Parts
 pub mod Reports

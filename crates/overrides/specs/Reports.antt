@@ -3,7 +3,7 @@ use Rattle.std.specs.Prelude.{◌≡◌, ℕ, List, Option, Some, None, Result, 
 use Rattle.model_json.specs.Data.{Data}
 use Rattle.model_json.specs.TreeData.{data_of}
 use Rattle.model_json.specs.declared.tree.Tree.{Tree}
-use Rattle.overrides.specs.Overrides.{overrides_in, refused_in}
+use Rattle.model_recurrence.specs.Overrides.{overrides_in, refused_in}
 use Rattle.model_site.specs.TimeZones.{ZoneText}
 use Rattle.overrides.specs.declared.exceptions.OverrideError.{OverrideError}
 use Rattle.overrides.specs.declared.exceptions.OverrideError.TheVariants.{BadOverride, BadOverrides, NoMemory}

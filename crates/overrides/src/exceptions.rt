@@ -5,15 +5,15 @@ ghost use Rattle.model_event.specs.Values.{is_showing};
 ghost use Rattle.model_json.specs.Data.{lookup};
 ghost use Rattle.model_json.specs.Parts.{all_some, members_in};
 ghost use Rattle.model_json.specs.TreeData.{data_of, pair_of};
-ghost use Rattle.overrides.specs.Overrides.{changed_at, changed_span, patch_changes, exception_at, exception_in, exception_of, exceptions_in, few_members, first_refused, is_excluded, overrides_in, overrides_of, recurrence_id_in, replaced_by, single, span_of, valid_span};
+ghost use Rattle.model_recurrence.specs.Overrides.{changed_at, changed_span, patch_changes, exception_at, exception_in, exception_of, exceptions_in, few_members, first_refused, is_excluded, overrides_in, overrides_of, recurrence_id_in, replaced_by, single, span_of, valid_span};
 ghost use Rattle.overrides.specs.Reports.{Reports, ReportsAmong};
 ghost use Rattle.overrides.specs.declared.exceptions.OverrideError.TheVariants.{NoMemory};
 
 use crate::fixed::touches_fixed;
-use crate::limits::MAX_OVERRIDES;
+use model_recurrence::limits::MAX_OVERRIDES;
 use crate::occurrence::{changed_at, patch_changes, single};
 use crate::part::{are_needed, firsts_of, part_of};
-use event_model::read::{EventError, bad_event_names, read_event};
+use single_event::read::{EventError, bad_event_names, read_event};
 use model_event::limits::{FIRST_START, LAST_START};
 use model_json::text::Text;
 use model_json::tree::{Member, Tree, TreeObject};
@@ -126,7 +126,7 @@ fn exceptions_among(
     Ok(exceptions)
 }
 
-#[tactic(auto, unfolding(crate::specs::Overrides::exception_in))]
+#[tactic(auto, unfolding(model_recurrence::specs::Overrides::exception_in))]
 fn exception_in(
     alloc: Global,
     alone: &Tree,

@@ -4,7 +4,7 @@ ghost use Rattle.std.specs.List.{list_any};
 ghost use Rattle.std.specs.Option.{option_map_or};
 ghost use Rattle.model_json.specs.Pointer.{parts};
 ghost use Rattle.model_json.specs.TreeData.{pair_of};
-ghost use Rattle.overrides.specs.Overrides.{first_is_fixed, touches_fixed};
+ghost use Rattle.model_recurrence.specs.Overrides.{first_is_fixed, touches_fixed};
 ghost use Rattle.property_table.specs.Names.{has_name};
 
 use model_json::text::Text;

@@ -3,6 +3,6 @@
 
 pub mod exceptions;
 mod fixed;
-pub mod limits;
+
 pub mod occurrence;
 mod part;

@@ -3,7 +3,7 @@ ghost use Rattle.std.specs.Prelude.{◌≡◌, IfOk};
 ghost use Rattle.model_json.specs.Parts.{members_in};
 ghost use Rattle.model_json.specs.Patch.{patched};
 ghost use Rattle.model_json.specs.TreeData.{data_of};
-ghost use Rattle.overrides.specs.Overrides.{changed_at, patch_changes, occurrence_in, single};
+ghost use Rattle.model_recurrence.specs.Overrides.{changed_at, patch_changes, occurrence_in, single};
 ghost use Rattle.overrides.specs.Reports.{IsPatched};
 
 use model_json::text::Text;

@@ -1,7 +1,7 @@
 use Rattle.std.proofs.Common.{◌≡◌, ◌++◌, drop, map}
 use Rattle.model_event.specs.Events.{calendars_among}
 use Rattle.model_json.specs.TreeData.{pair_of}
-use Rattle.event_model.proofs.calendars.calendars_among.Given as goal
+use Rattle.single_event.proofs.calendars.calendars_among.Given as goal
 
 abbrev pub invariant-loop-member : goal.invariant-loop-member
 invariant-loop-member l = l.calendars.items ++ calendars_among (map pair_of (drop l.member-index l.members)) ≡ calendars_among (map pair_of l.members)

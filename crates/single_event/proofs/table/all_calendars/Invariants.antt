@@ -2,7 +2,7 @@ use Rattle.std.proofs.Common.{◌≡◌, drop, map}
 use Rattle.std.specs.List.{list_all}
 use Rattle.model_event.specs.Events.{is_calendar_member}
 use Rattle.model_json.specs.TreeData.{pair_of}
-use Rattle.event_model.proofs.table.all_calendars.Given as goal
+use Rattle.single_event.proofs.table.all_calendars.Given as goal
 
 abbrev pub invariant-loop-member : goal.invariant-loop-member
 invariant-loop-member l = list_all is_calendar_member (map pair_of (drop l.member-index l.members)) ≡ list_all is_calendar_member (map pair_of l.members)

@@ -1,7 +1,7 @@
 -- What a failure says of an object.
 use Rattle.std.specs.Prelude.{◌≡◌, ℕ, List, []}
-use Rattle.event_model.specs.declared.read.EventError.{EventError}
-use Rattle.event_model.specs.declared.read.EventError.TheVariants.{BadEvent, NoMemory}
+use Rattle.single_event.specs.declared.read.EventError.{EventError}
+use Rattle.single_event.specs.declared.read.EventError.TheVariants.{BadEvent, NoMemory}
 
 -- the bad properties, of which there are some; want of memory says nothing
 abbrev pub Reports : EventError → List (List ℕ) → Type 0

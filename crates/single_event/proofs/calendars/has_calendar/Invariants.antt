@@ -2,7 +2,7 @@ use Rattle.std.proofs.Common.{◌≡◌, ◌==◌, drop, map}
 use Rattle.std.specs.List.{list_any}
 use Rattle.model_event.specs.Events.{calendars_among}
 use Rattle.model_json.specs.TreeData.{pair_of}
-use Rattle.event_model.proofs.calendars.has_calendar.Given as goal
+use Rattle.single_event.proofs.calendars.has_calendar.Given as goal
 
 abbrev pub invariant-loop-member : goal.invariant-loop-member
 invariant-loop-member l = list_any (λ n. n == l.number) (calendars_among (map pair_of (drop l.member-index l.members))) ≡ list_any (λ n. n == l.number) (calendars_among (map pair_of l.members))

@@ -9,7 +9,7 @@ use Rattle.model_json.specs.Edit.{with_pair, without}
 use Rattle.model_json.specs.Parts.{all_some, as_object, members_in}
 use Rattle.model_json.specs.Patch.{patched}
 use Rattle.model_json.specs.Pointer.{parts}
-use Rattle.overrides.specs.declared.limits.TheConstants.{MAX_OVERRIDES}
+use Rattle.model_recurrence.specs.declared.limits.TheConstants.{MAX_OVERRIDES}
 use Rattle.model_series.specs.declared.exception.Exception.{Exception}
 use Rattle.model_series.specs.declared.exception.Span.{Span}
 use Rattle.model_site.specs.TimeZones.{ZoneText}

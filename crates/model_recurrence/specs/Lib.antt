@@ -1,0 +1,4 @@
+pub mod RulesOf
+pub mod Overrides
+pub mod Recurrence
+pub mod OccurrenceIds
