@@ -1,5 +1,5 @@
 -- What an event may have where it may recur, and the occurrences that a client may name (RFC 8984 section 4.3).
-use Rattle.std.specs.Prelude.{ℕ, ℤ, List, ◌∷◌, [], Bool, ◌&&◌, ◌==◌, not, Option, Some, None, Result, Ok, Err, codes, is_some, option_and_then, unwrap_or, if◌then◌else◌}
+use Rattle.std.specs.Prelude.{ℕ, ℤ, List, ◌∷◌, [], Bool, false, ◌&&◌, ◌==◌, not, Option, Some, None, Result, Ok, Err, codes, is_some, option_and_then, unwrap_or, if◌then◌else◌}
 use Rattle.model_event.specs.Events.{event_table, has_recurrence, other_property, start_in}
 use Rattle.model_event.specs.Values.{is_shallow}
 use Rattle.model_history.specs.ObjectId.{id_text}

@@ -10,12 +10,6 @@ use Rattle.model_series.specs.RuleLimits.{are_by_parts, is_end}
 use Rattle.model_series.specs.RuleObjects.{RuleParts, rules_in}
 use Rattle.model_series.specs.declared.rule.Rule.{Rule}
 
-abbrev pub and_first : {x y : Bool} → (x && y) ≡ true → x ≡ true
-and_first {x = x} {y = y} holds = (both x y holds).0
-
-abbrev pub and_second : {x y : Bool} → (x && y) ≡ true → y ≡ true
-and_second {x = x} {y = y} holds = (both x y holds).1
-
 -- the parts keep within the limits of a rule
 abbrev pub is_within_limits : RuleParts → Bool
 is_within_limits p = (nat_le 1 p.interval && nat_le p.interval 1000)
@@ -33,10 +27,10 @@ rule_with p true fits = Some (record {
   by_month = p.by_month;
   by_set = p.by_set;
   end = p.end;
-  interval_in = (leb-true 1 p.interval (and_first (and_first fits)), leb-true p.interval 1000 (and_second (and_first fits)));
-  week_start_in = leb-true (suc p.week_start) 7 (and_first (and_second fits));
-  by_parts_in = and_first (and_second (and_second fits));
-  end_in = and_second (and_second (and_second fits));
+  interval_in = (leb-true 1 p.interval (both _ _ (both _ _ fits).0).0, leb-true p.interval 1000 (both _ _ (both _ _ fits).0).1);
+  week_start_in = leb-true (suc p.week_start) 7 (both _ _ (both _ _ fits).1).0;
+  by_parts_in = (both _ _ (both _ _ (both _ _ fits).1).1).0;
+  end_in = (both _ _ (both _ _ (both _ _ fits).1).1).1;
 })
 
 -- the same, none where the parts pass the limits
