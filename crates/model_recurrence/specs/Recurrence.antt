@@ -1,6 +1,6 @@
 -- What an event may have where it may recur, and the occurrences that a client may name (RFC 8984 section 4.3).
 use Rattle.std.specs.Prelude.{ℕ, ℤ, List, ◌∷◌, [], Bool, false, ◌&&◌, ◌==◌, not, Option, Some, None, Result, Ok, Err, codes, is_some, option_and_then, unwrap_or, if◌then◌else◌}
-use Rattle.model_event.specs.Events.{event_table, has_recurrence, other_property, start_in}
+use Rattle.model_event.specs.Events.{event_table, has_recurrence, start_in}
 use Rattle.model_event.specs.Values.{is_shallow}
 use Rattle.model_history.specs.ObjectId.{id_text}
 use Rattle.model_history.specs.declared.entry.Kind.TheVariants.{Event}
@@ -33,7 +33,7 @@ recurring_event_table zones event = record {
       (codes "recurrenceRules", optional (are_rules event))
       ∷ (codes "recurrenceOverrides", optional (are_overrides zones event))
       ∷ (event_table zones).rows;
-  other = other_property;
+  other = (event_table zones).other;
 }
 
 -- the names of all properties of an object that an event may not have so, in byte order

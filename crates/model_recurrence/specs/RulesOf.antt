@@ -1,7 +1,8 @@
 -- The rules of an event as their type has them (RFC 8984 section 4.3.3).
-use Rattle.std.specs.Prelude.{◌≡◌, ℕ, ℤ, List, [], Bool, true, false, Option, Some, None, codes, nat_le, nat_lt, option_and_then, suc, unwrap_or}
+use Rattle.std.specs.Prelude.{◌≡◌, ◌<◌, ℕ, List, [], Bool, true, false, ◌&&◌, Option, Some, None, codes, nat_le, nat_lt, option_and_then, unwrap_or}
+use Rattle.std.specs.Int.{IsInRange}
 use Rattle.std.proofs.Common.{refl}
-use Rattle.std.proofs.lemmas.Bool.{leb-true}
+use Rattle.std.proofs.lemmas.Bool.{and_parts, leb-true, ltb-true}
 use Rattle.model_event.specs.Events.{start_in}
 use Rattle.model_json.specs.Data.{Data, field}
 use Rattle.model_json.specs.Parts.{all_some}
@@ -9,15 +10,45 @@ use Rattle.model_series.specs.RuleLimits.{are_by_parts, is_end}
 use Rattle.model_series.specs.RuleObjects.{RuleParts, rules_in}
 use Rattle.model_series.specs.declared.rule.Rule.{Rule}
 
--- the rule that has these parts, where they keep within the limits of a rule
-abbrev pub rule_with : (p : RuleParts) → (a b c d e : Bool) → nat_le 1 p.interval ≡ a → nat_le p.interval 1000 ≡ b → nat_lt p.week_start 7 ≡ c
-    → are_by_parts p.frequency p.by_day p.by_month_day p.by_month p.by_set ≡ d → is_end p.end ≡ e → Option Rule
-rule_with p false b c d e least most week parts ending = None
-rule_with p true false c d e least most week parts ending = None
-rule_with p true true false d e least most week parts ending = None
-rule_with p true true true false e least most week parts ending = None
-rule_with p true true true true false least most week parts ending = None
-rule_with p true true true true true least most week parts ending = Some (record {
+abbrev pub is_interval : ℕ → Bool
+is_interval n = nat_le 1 n && nat_le n 1000
+
+abbrev pub has_by_parts : RuleParts → Bool
+has_by_parts p = are_by_parts p.frequency p.by_day p.by_month_day p.by_month p.by_set
+
+abbrev pub ends_within : RuleParts → Bool
+ends_within p = has_by_parts p && is_end p.end
+
+abbrev pub weeks_start_within : RuleParts → Bool
+weeks_start_within p = nat_lt p.week_start 7 && ends_within p
+
+-- the parts keep within the limits of a rule
+abbrev pub is_within_limits : RuleParts → Bool
+is_within_limits p = is_interval p.interval && weeks_start_within p
+
+-- the same, as the type of a rule has it
+pub record IsWithinLimits (p : RuleParts) : Type 0 where
+  pub interval : IsInRange 1 1000 p.interval
+  pub week_start : p.week_start < 7
+  pub by_parts : has_by_parts p ≡ true
+  pub end : is_end p.end ≡ true
+
+abbrev pub limits_of : (p : RuleParts) → is_within_limits p ≡ true → IsWithinLimits p
+limits_of p fits =
+    let first = and_parts (is_interval p.interval) (weeks_start_within p) fits in
+    let bounds = and_parts (nat_le 1 p.interval) (nat_le p.interval 1000) first.0 in
+    let second = and_parts (nat_lt p.week_start 7) (ends_within p) first.1 in
+    let third = and_parts (has_by_parts p) (is_end p.end) second.1 in
+    record {
+      interval = (leb-true 1 p.interval bounds.0, leb-true p.interval 1000 bounds.1);
+      week_start = ltb-true p.week_start 7 second.0;
+      by_parts = third.0;
+      end = third.1;
+    }
+
+-- the rule that has these parts
+abbrev pub rule_by : (p : RuleParts) → IsWithinLimits p → Rule
+rule_by p limits = record {
   frequency = p.frequency;
   interval = p.interval;
   week_start = p.week_start;
@@ -26,16 +57,19 @@ rule_with p true true true true true least most week parts ending = Some (record
   by_month = p.by_month;
   by_set = p.by_set;
   end = p.end;
-  interval_in = (leb-true 1 p.interval least, leb-true p.interval 1000 most);
-  week_start_in = leb-true (suc p.week_start) 7 week;
-  by_parts_in = parts;
-  end_in = ending;
-})
+  interval_in = limits.interval;
+  week_start_in = limits.week_start;
+  by_parts_in = limits.by_parts;
+  end_in = limits.end;
+}
+
+abbrev pub rule_where : (p : RuleParts) → (b : Bool) → is_within_limits p ≡ b → Option Rule
+rule_where p false limits = None
+rule_where p true limits = Some (rule_by p (limits_of p limits))
 
 -- the same, none where the parts pass the limits
 unfoldable pub rule_of : RuleParts → Option Rule
-rule_of p = rule_with p (nat_le 1 p.interval) (nat_le p.interval 1000) (nat_lt p.week_start 7)
-    (are_by_parts p.frequency p.by_day p.by_month_day p.by_month p.by_set) (is_end p.end) refl refl refl refl refl
+rule_of p = rule_where p (is_within_limits p) refl
 
 -- the rules of an event, of which there may be none
 abbrev pub rules_of_event : Data → List Rule
