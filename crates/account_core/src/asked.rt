@@ -2,13 +2,14 @@
 ghost use Rattle.std.specs.Prelude.{◌≡◌, ◌||◌, IfOk, List, OnOk, ℕ};
 ghost use Rattle.std.specs.BTreeSet.{contains_text};
 ghost use Rattle.std.specs.Str.{bytes_eq};
-ghost use Rattle.account_core.specs.AskedNames.{asks_by_name, is_asked_name};
+ghost use Rattle.account_core.specs.AskedNames.{asks_by_name};
 ghost use Rattle.cal_model.specs.Gets.{is_asked_for};
 ghost use Rattle.model_json.specs.Data.{Data};
+ghost use Rattle.property_table.specs.Names.{has_name};
 
 use model_json::lists::Texts;
 use model_json::text::Text;
-use set_methods::texts::copies;
+use object_outcomes::texts::copies;
 use std::alloc::{AllocError, Global};
 use std::collections::BTreeSet;
 use std::marker::Model;
@@ -69,7 +70,7 @@ impl Asked {
 }
 
 fn set_of(alloc: Global, names: &[Text]) -> Result<BTreeSet<String>, AllocError>
-    ensures { IfOk result (λ set. (name : List ℕ) → contains_text set name ≡ is_asked_name names.now name) }
+    ensures { IfOk result (λ set. (name : List ℕ) → contains_text set name ≡ has_name names.now name) }
 {
     let mut set = BTreeSet::new(alloc);
     for name in names {

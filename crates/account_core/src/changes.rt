@@ -31,19 +31,8 @@ pub fn changes(
 ) -> Result<Reply, AllocError>
     ensures { IfOk result (λ r. r ≡ changes_answer (base ledger.now).account_id (ledger_entries ledger.now) kind since.now most.now) }
 {
-    changes_since(ledger.alloc, &ledger.id, &ledger.store, kind, since, most)
-}
-
-fn changes_since(
-    alloc: Global,
-    account: &Text,
-    store: &Store,
-    kind: Kind,
-    since: &Text,
-    most: &Option<Num>,
-) -> Result<Reply, AllocError>
-    ensures { IfOk result (λ r. r ≡ changes_answer account.now (entries store.now) kind since.now most.now) }
-{
+    let alloc = ledger.alloc;
+    let store = &ledger.store;
     if !is_maximum(most) {
         return Ok(refusal(alloc, store, MethodError::InvalidArguments));
     }
@@ -57,7 +46,7 @@ fn changes_since(
         }
         Err(ChangesError::NoMemory) => return Err(AllocError),
     };
-    let arguments = page_tree(alloc, account, store.count(kind), kind, since, &page)?;
+    let arguments = page_tree(alloc, &ledger.id, store.count(kind), kind, since, &page)?;
     Ok(reply(store, arguments, Pairs::new(Vec::new(alloc))))
 }
 

@@ -2,12 +2,13 @@
 ghost use Rattle.std.specs.Prelude.{◌≡◌, [], Some, IfOk, filter, flat_map, is_some, map, not, option_and_then, option_map};
 ghost use Rattle.account_store.specs.Store.{entries};
 ghost use Rattle.cal_model.specs.CreatedIds.{object_with_id};
-ghost use Rattle.cal_model.specs.Gets.{ids_not_found, objects_asked, selected};
+ghost use Rattle.cal_model.specs.Gets.{ids_not_found, object_or_occurrence, objects_asked, selected};
 ghost use Rattle.model_history.specs.History.{changes_of};
 ghost use Rattle.model_json.specs.Parts.{some_of};
 ghost use Rattle.model_json.specs.TreeData.{data_of};
 
 use crate::asked::Asked;
+use crate::occurrences::occurrence_of_id;
 use crate::properties::select;
 use account_store::Store;
 use model_history::entry::Kind;
@@ -34,6 +35,25 @@ fn object_of_id<'a>(store: &'a Store, kind: Kind, id: &Text) -> Option<&'a Tree>
     store.object(kind, read_object_id(kind, id.as_str().as_bytes())?)
 }
 
+// A copy of what an id names, a live object or an occurrence of one, with what is asked for.
+fn find(
+    alloc: Global,
+    store: &Store,
+    kind: Kind,
+    asked: &Asked,
+    id: &Text,
+) -> Result<Option<Tree>, AllocError>
+    ensures { IfOk result (λ o. option_map data_of o ≡ option_map (selected asked.now) (object_or_occurrence (changes_of (entries store.now)) kind id.now)) }
+{
+    if let Some(object) = object_of_id(store, kind, id) {
+        return Ok(Some(select(alloc, asked, object)?));
+    }
+    match occurrence_of_id(alloc, store, kind, id)? {
+        Some(occurrence) => Ok(Some(select(alloc, asked, &occurrence)?)),
+        None => Ok(None),
+    }
+}
+
 /// Copies of objects with those of their members alone that are asked for, and `id`.
 fn select_all(alloc: Global, asked: &Asked, objects: &[&Tree]) -> Result<Vec<Tree>, AllocError>
     ensures { IfOk result (λ v. map data_of v.items ≡ map (selected asked.now) (map (λ t. t.now) objects.now)) }
@@ -54,15 +74,15 @@ fn find_each(
     ids: Vec<Text>,
 ) -> Result<Found, AllocError>
     ensures list { IfOk result (λ found. map data_of found.list.items ≡ map (selected asked.now)
-        (flat_map (λ id. some_of (object_with_id (changes_of (entries store.now)) kind id)) ids.items)) }
+        (flat_map (λ id. some_of (object_or_occurrence (changes_of (entries store.now)) kind id)) ids.items)) }
     ensures missing { IfOk result (λ found. found.missing.items
-        ≡ filter (λ id. not (is_some (object_with_id (changes_of (entries store.now)) kind id))) ids.items) }
+        ≡ filter (λ id. not (is_some (object_or_occurrence (changes_of (entries store.now)) kind id))) ids.items) }
 {
     let mut list = Vec::new(alloc);
     let mut missing = Vec::new(alloc);
     for id in ids {
-        match object_of_id(store, kind, &id) {
-            Some(object) => list.push(select(alloc, asked, object)?)?,
+        match find(alloc, store, kind, asked, &id)? {
+            Some(object) => list.push(object)?,
             None => missing.push(id)?,
         }
     }

@@ -5,7 +5,6 @@ ghost use Rattle.account_store.specs.Store.{entries};
 ghost use Rattle.cal_model.specs.Answer.{answered, get_answer};
 ghost use Rattle.cal_model.specs.Gets.{are_properties, get_response};
 ghost use Rattle.model_history.specs.History.{changes_of};
-ghost use Rattle.model_json.specs.Data.{items_of, list, text};
 ghost use Rattle.model_json.specs.TreeData.{data_of};
 
 use crate::found::{Found, find_all, find_ids};
@@ -19,6 +18,7 @@ use model_history::entry::Kind;
 use model_json::lists::{Pairs, Texts};
 use model_json::text::Text;
 use model_json::tree::{Tree, TreeList};
+use object_outcomes::texts::text_list;
 use std::alloc::{AllocError, Global};
 
 /// Answers a get of objects of a kind. A name that no property of the kind has is told before too many objects.
@@ -104,14 +104,4 @@ fn arguments_tree(
         ("state", state),
     ]?;
     Tree::object(alloc, members)
-}
-
-fn text_list(alloc: Global, texts: Vec<Text>) -> Result<Tree, AllocError>
-    ensures { IfOk result (λ t. data_of t ≡ list (items_of (map text texts.items))) }
-{
-    let mut trees = Vec::with_capacity(alloc, texts.len())?;
-    for text in texts {
-        trees.push(Tree::Text(text))?;
-    }
-    Ok(Tree::List(TreeList::new(trees)))
 }

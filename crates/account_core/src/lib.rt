@@ -7,6 +7,7 @@ mod changes;
 mod found;
 mod get;
 mod ledger;
+mod occurrences;
 mod properties;
 mod reply;
 mod set;

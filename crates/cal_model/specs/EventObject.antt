@@ -56,9 +56,9 @@ abbrev pub has_other_uid : Option Tree → Data → Bool
 has_other_uid None d = false
 has_other_uid (Some before) d = not (same_data (value_or_null (codes "uid") d) (value_or_null (codes "uid") (data_of before)))
 
--- the event is in a calendar that isn't live
-abbrev pub is_in_no_calendar : List Change → Data → Bool
-is_in_no_calendar cs d = not (list_all (λ n. is_some (live_object cs Calendar n)) (calendars_of d))
+-- one of its calendars isn't live
+abbrev pub names_missing_calendar : List Change → Data → Bool
+names_missing_calendar cs d = not (list_all (λ n. is_some (live_object cs Calendar n)) (calendars_of d))
 
 -- a live event is in this calendar
 abbrev pub has_event : List Change → ℕ → Bool

@@ -1,9 +1,11 @@
 -- Gets: the objects that are asked for, and the ids that name none (RFC 8620 section 5.1).
 use Rattle.std.specs.Prelude.{ℕ, List, [], ◌∷◌, ◌||◌, Bool, true, not, Option, Some, None, is_some, length, filter, flat_map, map, codes, nat_lt, if◌then◌else◌}
 use Rattle.std.specs.List.{list_all, list_any}
+use Rattle.std.specs.Option.{option_or}
 use Rattle.std.specs.Str.{bytes_eq}
 use Rattle.cal_model.specs.Calendar.{is_calendar_property}
 use Rattle.cal_model.specs.CreatedIds.{different, object_with_id, resolved_id}
+use Rattle.cal_model.specs.Occurrences.{occurrence_named}
 use Rattle.model_json.specs.Data.{Data, text, list, object, Pair, items_of, members_of}
 use Rattle.model_core.specs.Names.{is_name}
 use Rattle.model_core.specs.declared.limits.TheConstants.{MAX_OBJECTS_IN_GET}
@@ -27,6 +29,10 @@ is_asked_for (Some names) p = bytes_eq p.0 (codes "id") || list_any (λ name. by
 abbrev pub selected : Option (List (List ℕ)) → Tree → Data
 selected properties t = object (members_of (filter (is_asked_for properties) (members_in (data_of t))))
 
+-- the object that an id names: a live one, or an occurrence of one
+abbrev pub object_or_occurrence : List Change → Kind → List ℕ → Option Tree
+object_or_occurrence cs kind id = option_or (object_with_id cs kind id) (occurrence_named cs kind id)
+
 module _ (cs : List Change) (kind : Kind) (created : List (List ℕ × List ℕ)) where
   abbrev pub asked_ids : List (List ℕ) → List (List ℕ)
   asked_ids ids = different (map (resolved_id created) ids)
@@ -34,11 +40,11 @@ module _ (cs : List Change) (kind : Kind) (created : List (List ℕ × List ℕ)
   -- the objects of these ids, or all in order of creation
   abbrev pub objects_asked : Option (List (List ℕ)) → List Tree
   objects_asked None = live_at cs kind
-  objects_asked (Some ids) = flat_map (λ id. some_of (object_with_id cs kind id)) (asked_ids ids)
+  objects_asked (Some ids) = flat_map (λ id. some_of (object_or_occurrence cs kind id)) (asked_ids ids)
 
   abbrev pub ids_not_found : Option (List (List ℕ)) → List (List ℕ)
   ids_not_found None = []
-  ids_not_found (Some ids) = filter (λ id. not (is_some (object_with_id cs kind id))) (asked_ids ids)
+  ids_not_found (Some ids) = filter (λ id. not (is_some (object_or_occurrence cs kind id))) (asked_ids ids)
 
 abbrev pub count_asked : List Change → Kind → Option (List (List ℕ)) → ℕ
 count_asked cs kind None = length (live_at cs kind)

@@ -4,12 +4,12 @@ use Rattle.std.specs.Option.{option_map_or}
 use Rattle.std.specs.Str.{bytes_eq}
 use Rattle.cal_model.specs.Calendar.{bad_properties, calendar_in, stored}
 use Rattle.cal_model.specs.CreatedIds.{object_named, resolved_object, resolved_patch}
-use Rattle.cal_model.specs.EventObject.{event_members, has_event, has_other_uid, is_in_no_calendar}
+use Rattle.cal_model.specs.EventObject.{event_members, has_event, has_other_uid, names_missing_calendar}
+use Rattle.cal_model.specs.Occurrences.{occurrence_named}
 use Rattle.cal_model.specs.Quota.{exceeds_quota, size_of_object}
 use Rattle.cal_model.specs.declared.outcome.Outcome.{Outcome}
 use Rattle.cal_model.specs.declared.outcome.Outcome.TheVariants.{Accepted, Refused}
-use Rattle.cal_model.specs.declared.set_error.SetError.TheVariants.{CalendarHasEvent, InvalidPatch, InvalidProperties, NotBuilt, NotFound, OverQuota, WillDestroy}
-use Rattle.model_event.specs.Events.{bad_event_properties, has_recurrence}
+use Rattle.cal_model.specs.declared.set_error.SetError.TheVariants.{CalendarHasEvent, Forbidden, InvalidPatch, InvalidProperties, NotBuilt, NotFound, OverQuota, WillDestroy}
 use Rattle.model_history.specs.Base.{Base}
 use Rattle.model_history.specs.History.{next_number}
 use Rattle.model_history.specs.ObjectId.{id_text}
@@ -23,6 +23,7 @@ use Rattle.model_json.specs.Patch.{patched}
 use Rattle.model_json.specs.TreeData.{data_of}
 use Rattle.model_json.specs.declared.tree.Tree.{Tree}
 use Rattle.model_json.specs.declared.tree.Tree.TheVariants.{Object}
+use Rattle.model_recurrence.specs.Recurrence.{bad_properties_of_event}
 use Rattle.property_table.specs.Names.{put_name}
 use Rattle.property_table.specs.Table.{given}
 
@@ -84,11 +85,10 @@ module _ (g : Ground) (cs : List Change) where
   -- the bad properties of an event, with those that its account and what it was before make bad
   abbrev pub bad_of_event : Option Tree → Bool → Data → List (List ℕ)
   bad_of_event before names_id d = with_name_if names_id (codes "id") (with_name_if (has_other_uid before d) (codes "uid")
-      (with_name_if (is_in_no_calendar cs d) (codes "calendarIds") (bad_event_properties g.base.zones d)))
+      (with_name_if (names_missing_calendar cs d) (codes "calendarIds") (bad_properties_of_event g.base.zones d)))
 
   abbrev pub stored_event_outcome : ℕ → Option Tree → Bool → List Pair → Outcome
-  stored_event_outcome n before names_id ps = if has_recurrence (object (members_of ps)) then Refused NotBuilt
-      else after_tests cs (put Event n ps) (bad_of_event before names_id (object (members_of ps)))
+  stored_event_outcome n before names_id ps = after_tests cs (put Event n ps) (bad_of_event before names_id (object (members_of ps)))
 
   -- what comes of storing event n with these members, in place of what it was before
   abbrev pub event_outcome : ℕ → Option Tree → Bool → List Pair → Outcome
@@ -116,12 +116,17 @@ module _ (g : Ground) (cs : List Change) where
   destroyed_outcome kind None = Refused NotFound
   destroyed_outcome kind (Some q) = if is_in_use cs kind q.0 then Refused CalendarHasEvent else within_quota cs (removal kind q.0)
 
+  -- an occurrence can't be changed by itself
+  abbrev pub unless_occurrence : Option Tree → Bool → Outcome → Outcome
+  unless_occurrence None is_destroyed o = o
+  unless_occurrence (Some t) is_destroyed o = Refused (if is_destroyed then WillDestroy else Forbidden)
+
   -- the first reason why an operation is refused after these changes, or else the change that it makes, where the request has
   -- created these ids
   abbrev pub outcome_of : Kind → List (List ℕ × List ℕ) → Operation → Outcome
-  outcome_of kind created (update id patch is_destroyed is_repeated) =
-      updated_outcome kind (resolved_patch created kind patch) is_destroyed is_repeated (object_named cs kind id)
-  outcome_of kind created (destroy id) = destroyed_outcome kind (object_named cs kind id)
+  outcome_of kind created (update id patch is_destroyed is_repeated) = unless_occurrence (occurrence_named cs kind id) is_destroyed
+      (updated_outcome kind (resolved_patch created kind patch) is_destroyed is_repeated (object_named cs kind id))
+  outcome_of kind created (destroy id) = unless_occurrence (occurrence_named cs kind id) false (destroyed_outcome kind (object_named cs kind id))
 
 abbrev pub changes_in : Outcome → List Change
 changes_in (Accepted c) = c ∷ []

@@ -2,7 +2,7 @@
 use Rattle.std.specs.Prelude.{ℕ, List, [], ◌∷◌, ◌++◌, codes, map}
 use Rattle.model_json.specs.Data.{Data, Pair, text, list, object, items_of, members_of}
 use Rattle.cal_model.specs.declared.set_error.SetError.{SetError}
-use Rattle.cal_model.specs.declared.set_error.SetError.TheVariants.{NotFound, WillDestroy, InvalidPatch, InvalidProperties, CalendarHasEvent, OverQuota, NotBuilt}
+use Rattle.cal_model.specs.declared.set_error.SetError.TheVariants.{NotFound, WillDestroy, InvalidPatch, InvalidProperties, CalendarHasEvent, Forbidden, OverQuota, NotBuilt}
 
 abbrev pub set_error_type : SetError → List ℕ
 set_error_type NotFound = codes "notFound"
@@ -10,6 +10,7 @@ set_error_type WillDestroy = codes "willDestroy"
 set_error_type (InvalidPatch key) = codes "invalidPatch"
 set_error_type (InvalidProperties properties) = codes "invalidProperties"
 set_error_type CalendarHasEvent = codes "calendarHasEvent"
+set_error_type Forbidden = codes "forbidden"
 set_error_type OverQuota = codes "overQuota"
 set_error_type NotBuilt = codes "notBuilt"
 
@@ -20,6 +21,7 @@ reason (InvalidProperties properties) = (codes "properties", list (items_of (map
 reason NotFound = []
 reason WillDestroy = []
 reason CalendarHasEvent = []
+reason Forbidden = []
 reason OverQuota = []
 reason NotBuilt = []
 

@@ -22,6 +22,8 @@ pub enum SetError {
         /// All of them, in byte order.
         properties: Texts,
     },
+    /// The id names an occurrence of an event, which can't be changed by itself.
+    Forbidden,
     /// A live event is in the calendar that would be destroyed.
     CalendarHasEvent,
     /// The account would have more than it may.
@@ -40,6 +42,7 @@ impl SetError {
             SetError::WillDestroy => "willDestroy",
             SetError::InvalidPatch { .. } => "invalidPatch",
             SetError::InvalidProperties { .. } => "invalidProperties",
+            SetError::Forbidden => "forbidden",
             SetError::CalendarHasEvent => "calendarHasEvent",
             SetError::OverQuota => "overQuota",
             SetError::NotBuilt => "notBuilt",

@@ -10,6 +10,7 @@ use crate::calendar::Calendar;
 use crate::table::CalendarTable;
 use model_json::lists::Texts;
 use model_json::num::Num;
+use model_event::values::copy_at;
 use model_json::text::Text;
 use model_json::tree::Tree;
 use property_table::table::failing_names;
@@ -67,16 +68,6 @@ fn calendar(alloc: Global, tree: &Tree) -> Result<Calendar, AllocError>
         time_zone: copy_at(tree, "timeZone")?,
         resource_zone: copy_at(tree, "resourceZone")?,
     })
-}
-
-// A copy of the text at a key.
-fn copy_at(tree: &Tree, key: &str) -> Result<Option<Text>, AllocError>
-    ensures { IfOk result (λ t. t ≡ text_at key.now (data_of tree.now)) }
-{
-    match tree.text_at(key) {
-        Some(text) => Ok(Some(text.copy()?)),
-        None => Ok(None),
-    }
 }
 
 fn text_or_empty(alloc: Global, tree: &Tree, key: &str) -> Result<Text, AllocError>

@@ -1,4 +1,3 @@
-pub mod Judging
 pub mod Reports
 pub mod Requests
 pub mod Telling

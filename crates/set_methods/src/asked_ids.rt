@@ -2,8 +2,8 @@
 ghost use Rattle.std.specs.Prelude.{◌≡◌, IfOk, map};
 ghost use Rattle.cal_model.specs.CreatedIds.{different, resolved_id};
 
-use crate::created_ids::CreatedIds;
-use crate::texts::note;
+use object_outcomes::created_ids::CreatedIds;
+use object_outcomes::texts::note;
 use model_json::text::Text;
 use std::alloc::{AllocError, Global};
 

@@ -82,7 +82,7 @@ fn created_member(alloc: Global, create: &Member, change: &Change) -> Result<Mem
 }
 
 // Copies of the stored members that the client's object lacks or has with another value.
-#[tactic(auto, using(crate::proofs::ReplyLemmas::field_is))]
+#[tactic(auto, using(object_outcomes::proofs::MemberLemmas::field_is))]
 fn members_beyond(
     alloc: Global,
     client: &Tree,

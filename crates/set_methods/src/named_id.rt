@@ -2,7 +2,7 @@
 ghost use Rattle.std.specs.Prelude.{◌≡◌, IfOk, map, []};
 ghost use Rattle.cal_model.specs.Sets.{ids_named, names_id};
 
-use crate::created_ids::CreatedIds;
+use object_outcomes::created_ids::CreatedIds;
 use model_json::text::Text;
 use std::alloc::{AllocError, Global};
 use std::marker::Model;

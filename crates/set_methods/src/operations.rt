@@ -3,11 +3,11 @@ ghost use Rattle.std.specs.Prelude.{◌≡◌, [], IfOk, map};
 ghost use Rattle.cal_model.specs.Operations.{destroy};
 ghost use Rattle.cal_model.specs.Sets.{updates_after};
 ghost use Rattle.model_json.specs.TreeData.{pair_of};
-ghost use Rattle.set_methods.specs.Judging.{operation_in};
+ghost use Rattle.object_outcomes.specs.Judging.{operation_in};
 
-use crate::created_ids::CreatedIds;
+use object_outcomes::created_ids::CreatedIds;
 use crate::named_id::{NamedId, names_id};
-use crate::operation::Operation;
+use object_outcomes::operation::Operation;
 use model_json::tree::Member;
 use std::alloc::{AllocError, Global};
 

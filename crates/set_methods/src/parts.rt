@@ -4,7 +4,8 @@ ghost use Rattle.cal_model.specs.SetReply.{list_or_null, object_or_null};
 ghost use Rattle.model_json.specs.Edit.{put_all};
 ghost use Rattle.model_json.specs.TreeData.{data_of, pair_of};
 
-use model_json::tree::{Member, Tree, TreeList, TreeObject};
+use model_json::tree::{Member, Tree, TreeList};
+use object_outcomes::objects::object_of;
 use std::alloc::{AllocError, Global};
 
 /// An object of these members, which may stand in any order, or null where there are none.
@@ -15,18 +16,6 @@ pub(crate) fn object_or_null(alloc: Global, members: Vec<Member>) -> Result<Tree
         return Ok(Tree::Null);
     }
     Ok(Tree::Object(object_of(alloc, members)?))
-}
-
-/// An object of these members, which may stand in any order. Of two with one key the later counts.
-#[tactic(auto, using(crate::proofs::ReplyLemmas::put_member_push))]
-pub(crate) fn object_of(alloc: Global, members: Vec<Member>) -> Result<TreeObject, AllocError>
-    ensures { IfOk result (λ o. o ≡ put_all (map pair_of members.items) []) }
-{
-    let mut object = TreeObject::new(Vec::with_capacity(alloc, members.len())?);
-    for member in members {
-        object.put(member.key, member.value)?;
-    }
-    Ok(object)
 }
 
 /// A list of these, or null where there are none. Takes no memory.

@@ -9,7 +9,7 @@ use crate::carry_out::carry_out;
 use crate::planned::{Plan, PlanError};
 use crate::refusal::refusal;
 use crate::request::SetRequest;
-use crate::setting::Setting;
+use object_outcomes::setting::Setting;
 use cal_model::view::AccountView;
 use model_json::lists::Pairs;
 use model_json::text::Text;

@@ -7,7 +7,7 @@ ghost use Rattle.model_json.specs.TreeData.{data_of, pair_of};
 
 use crate::named_id::NamedId;
 use crate::parts::object_or_null;
-use crate::texts::{copies, text_list};
+use object_outcomes::texts::{copies, text_list};
 use cal_model::outcome::Outcome;
 use cal_model::set_error::SetError;
 use model_json::text::Text;
@@ -103,6 +103,7 @@ fn set_error_tree(alloc: Global, error: &SetError) -> Result<Tree, AllocError>
         | SetError::WillDestroy
         | SetError::CalendarHasEvent
         | SetError::OverQuota
+        | SetError::Forbidden
         | SetError::NotBuilt => { Tree::object(alloc, vec![in alloc; ("type", name)]?) }
     }
 }

@@ -4,12 +4,12 @@ ghost use Rattle.cal_model.specs.Operations.{changes_in, created_id, outcomes, o
 ghost use Rattle.cal_model.specs.Sets.{of_each};
 ghost use Rattle.model_json.specs.Data.{Data};
 ghost use Rattle.model_json.specs.TreeData.{pair_of};
-ghost use Rattle.set_methods.specs.Judging.{IsAllowed, ground_in, operation_in};
+ghost use Rattle.object_outcomes.specs.Judging.{IsAllowed, ground_in, operation_in};
 
-use crate::created_ids::CreatedIds;
-use crate::judge::{judge, judge_create};
-use crate::operation::Operation;
-use crate::setting::{Judged, Setting};
+use object_outcomes::created_ids::CreatedIds;
+use object_outcomes::judge::{judge, judge_create};
+use object_outcomes::operation::Operation;
+use object_outcomes::setting::{Judged, Setting};
 use cal_model::outcome::Outcome;
 use cal_model::view::AccountView;
 use model_history::entry::Change;

@@ -1,7 +1,6 @@
 use Rattle.std.proofs.Common.{◌≡◌, filter, flat_map, is_some, map, not}
 use Rattle.account_store.specs.Store.{entries}
-use Rattle.cal_model.specs.CreatedIds.{object_with_id}
-use Rattle.cal_model.specs.Gets.{selected}
+use Rattle.cal_model.specs.Gets.{object_or_occurrence, selected}
 use Rattle.model_history.specs.History.{changes_of}
 use Rattle.model_json.specs.Parts.{some_of}
 use Rattle.model_json.specs.TreeData.{data_of}
@@ -9,6 +8,6 @@ use Rattle.account_core.proofs.found.find_each.Given as goal
 
 abbrev pub invariant-loop-id : goal.invariant-loop-id
 invariant-loop-id l = record {
-  list : map data_of l.list.items ≡ map (selected l.asked) (flat_map (λ id. some_of (object_with_id (changes_of (entries l.store)) l.kind id)) l.yielded);
-  missing : l.missing.items ≡ filter (λ id. not (is_some (object_with_id (changes_of (entries l.store)) l.kind id))) l.yielded;
+  list : map data_of l.list.items ≡ map (selected l.asked) (flat_map (λ id. some_of (object_or_occurrence (changes_of (entries l.store)) l.kind id)) l.yielded);
+  missing : l.missing.items ≡ filter (λ id. not (is_some (object_or_occurrence (changes_of (entries l.store)) l.kind id))) l.yielded;
 }

@@ -4,7 +4,7 @@ use Rattle.cal_model.specs.Operations.{destroy, outcomes}
 use Rattle.cal_model.specs.Sets.{ids_named, updates_after}
 use Rattle.model_history.specs.History.{state_at}
 use Rattle.model_json.specs.TreeData.{pair_of}
-use Rattle.set_methods.specs.Judging.{ground_in, operation_in}
+use Rattle.object_outcomes.specs.Judging.{ground_in, operation_in}
 use Rattle.set_methods.specs.Requests.{objects_in}
 use Rattle.set_methods.proofs.PlanLemmas.{as_many, length-updates_after, set_is}
 use Rattle.set_methods.proofs.carry_out.change_all.Goals as goal

@@ -1,6 +1,6 @@
 use Rattle.std.proofs.Common.{◌≡◌, map, take}
 use Rattle.cal_model.specs.Operations.{destroy}
-use Rattle.set_methods.specs.Judging.{operation_in}
+use Rattle.object_outcomes.specs.Judging.{operation_in}
 use Rattle.set_methods.proofs.operations.destroy_operations.Given as goal
 
 abbrev pub invariant-loop-named : goal.invariant-loop-named

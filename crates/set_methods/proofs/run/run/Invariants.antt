@@ -1,6 +1,6 @@
 use Rattle.std.proofs.Common.{◌≡◌, ◌++◌, drop, flat_map, map, vec_len}
 use Rattle.cal_model.specs.Operations.{changes_in, outcomes}
-use Rattle.set_methods.specs.Judging.{ground_in, operation_in}
+use Rattle.object_outcomes.specs.Judging.{ground_in, operation_in}
 use Rattle.set_methods.proofs.run.run.Given as goal
 
 abbrev pub invariant-loop-operation : goal.invariant-loop-operation

@@ -5,7 +5,7 @@ use Rattle.cal_model.specs.Operations.{changes_in, create_outcome, created_id, o
 use Rattle.cal_model.specs.Sets.{of_each}
 use Rattle.model_json.specs.TreeData.{data_of, pair_of}
 use Rattle.model_json.specs.declared.tree.Member.{Member}
-use Rattle.set_methods.specs.Judging.{ground_in}
+use Rattle.object_outcomes.specs.Judging.{ground_in}
 use Rattle.set_methods.proofs.PlanLemmas.{next_create}
 use Rattle.set_methods.proofs.run.run_creates.Goals as goal
 

@@ -1,0 +1,59 @@
+//! Occurrences of events, which clients name by synthetic ids.
+ghost use Rattle.std.specs.Prelude.{◌≡◌, IfOk, true};
+ghost use Rattle.account_store.specs.Store.{entries};
+ghost use Rattle.cal_model.specs.Occurrences.{occurrence_at, occurrence_named};
+ghost use Rattle.model_history.specs.History.{changes_of};
+ghost use Rattle.model_history.specs.declared.entry.Kind.TheVariants.{Event as event_kind};
+ghost use Rattle.model_time.specs.Walls.{is_in_years};
+
+use account_store::Store;
+use event_model::occurrence::occurrence;
+use event_model::ids::read_occurrence_id;
+use model_history::entry::Kind;
+use model_json::text::Text;
+use model_json::tree::Tree;
+use model_time::wall::Wall;
+use std::alloc::{AllocError, Global};
+
+/// The occurrence of a live event that an id names.
+pub(crate) fn occurrence_of_id(
+    alloc: Global,
+    store: &Store,
+    kind: Kind,
+    id: &Text,
+) -> Result<Option<Tree>, AllocError>
+    ensures { IfOk result (λ o. o ≡ occurrence_named (changes_of (entries store.now)) kind id.now) }
+{
+    match kind {
+        Kind::Calendar => Ok(None),
+        Kind::Event => event_occurrence(alloc, store, id),
+    }
+}
+
+fn event_occurrence(alloc: Global, store: &Store, id: &Text) -> Result<Option<Tree>, AllocError>
+    ensures { IfOk result (λ o. o ≡ occurrence_named (changes_of (entries store.now)) event_kind id.now) }
+{
+    match read_occurrence_id(id.as_str().as_bytes()) {
+        Some((number, rid)) => occurrence_at(alloc, store, number, rid),
+        None => Ok(None),
+    }
+}
+
+// The occurrence of the live event of this number with this recurrence id.
+fn occurrence_at(
+    alloc: Global,
+    store: &Store,
+    number: u64,
+    rid: Wall,
+) -> Result<Option<Tree>, AllocError>
+    requires { is_in_years rid ≡ true }
+    ensures { IfOk result (λ o. o ≡ occurrence_at (changes_of (entries store.now)) (number, rid)) }
+{
+    let Some(event) = store.object(Kind::Event, number) else {
+        return Ok(None);
+    };
+    match occurrence(alloc, number, event, rid)? {
+        Some(members) => Ok(Some(Tree::Object(members))),
+        None => Ok(None),
+    }
+}

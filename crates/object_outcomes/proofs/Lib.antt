@@ -1,0 +1,4 @@
+pub mod CalendarLemmas
+pub mod GivenLemmas
+pub mod MemberLemmas
+pub mod ResolvedLemmas

@@ -1,0 +1,262 @@
+//! What comes of storing an event.
+ghost use Rattle.std.specs.Prelude.{◌≡◌, ◌++◌, [], ◌∷◌, IfOk, OnOk, codes, is_some, map, option_map, unwrap_or};
+ghost use Rattle.std.specs.List.{list_all};
+ghost use Rattle.cal_model.specs.EventObject.{event_members, has_other_uid, names_missing_calendar, moment_created, value_or_null, with_default, with_server_values};
+ghost use Rattle.cal_model.specs.Operations.{bad_of_event, event_outcome, stored_event_outcome, with_name_if};
+ghost use Rattle.model_event.specs.Events.{calendars_among};
+ghost use Rattle.model_history.specs.History.{live_object};
+ghost use Rattle.model_history.specs.ObjectId.{id_text};
+ghost use Rattle.model_history.specs.declared.entry.Kind.TheVariants.{Calendar as calendar_kind, Event as event_kind};
+ghost use Rattle.model_json.specs.Data.{null, text};
+ghost use Rattle.model_json.specs.Edit.{with_pair};
+ghost use Rattle.model_json.specs.SameData.{same_data};
+ghost use Rattle.model_json.specs.TreeData.{data_of, pair_of};
+ghost use Rattle.model_json.specs.declared.tree.Tree.TheVariants.{Object};
+ghost use Rattle.model_time.specs.LocalTimes.{utc_text};
+ghost use Rattle.property_table.specs.Table.{given};
+ghost use Rattle.object_outcomes.specs.Judging.{HasNumber, IsAllowed, ground_in};
+
+use crate::quota::within_quota;
+use crate::setting::{Judged, Setting};
+use crate::uid::supplied_uid;
+use cal_model::set_error::SetError;
+use cal_model::view::AccountView;
+use event_model::names::bad_event_names;
+use model_history::entry::{Change, Kind};
+use model_json::lists::Texts;
+use model_json::text::Text;
+use model_json::tree::{Member, Tree, TreeObject};
+use model_time::moment::Moment;
+use property_table::names::put_name;
+use std::alloc::{AllocError, Global};
+use time_text::{object_id_text, read_object_id, utc_text};
+
+/// What comes of storing an event of this number in place of what it was before. `names_id` says whether the client gives an id
+/// that it may not give.
+pub(crate) fn event_outcome<V: AccountView>(
+    alloc: Global,
+    view: &V,
+    setting: &Setting<'_>,
+    number: u64,
+    before: Option<&Tree>,
+    names_id: bool,
+    object: TreeObject,
+) -> Result<Judged, AllocError>
+    requires { HasNumber (V.history view.now ++ V.staged view.now) event_kind number }
+    ensures exact { IfOk result (λ j. j.outcome ≡ event_outcome (ground_in setting.now) (V.history view.now ++ V.staged view.now) number
+        (option_map (λ t. t.now) before.entry) names_id object) }
+    ensures allowed { IfOk result (IsAllowed (V.history view.now ++ V.staged view.now)) }
+{
+    let given = given(alloc, object)?;
+    let members = with_server_values(alloc, setting, number, before, given)?;
+    stored_outcome(alloc, view, setting, number, before, names_id, members)
+}
+
+// What comes of storing an event of these members.
+fn stored_outcome<V: AccountView>(
+    alloc: Global,
+    view: &V,
+    setting: &Setting<'_>,
+    number: u64,
+    before: Option<&Tree>,
+    names_id: bool,
+    members: TreeObject,
+) -> Result<Judged, AllocError>
+    requires { HasNumber (V.history view.now ++ V.staged view.now) event_kind number }
+    ensures exact { IfOk result (λ j. j.outcome ≡ stored_event_outcome (ground_in setting.now) (V.history view.now ++ V.staged view.now) number
+        (option_map (λ t. t.now) before.entry) names_id members) }
+    ensures allowed { IfOk result (IsAllowed (V.history view.now ++ V.staged view.now)) }
+{
+    let event = Tree::Object(members);
+    let names = bad_names(alloc, view, setting, before, names_id, &event)?;
+    if !names.is_empty() {
+        let properties = Texts::new(names);
+        return Ok(Judged::refused(SetError::InvalidProperties { properties }));
+    }
+    let change = Change {
+        kind: Kind::Event,
+        id: number,
+        object: Some(event),
+    };
+    within_quota(alloc, view, change)
+}
+
+// The names of all properties that are bad, in byte order.
+fn bad_names<V: AccountView>(
+    alloc: Global,
+    view: &V,
+    setting: &Setting<'_>,
+    before: Option<&Tree>,
+    names_id: bool,
+    event: &Tree,
+) -> Result<Vec<Text>, AllocError>
+    ensures { IfOk result (λ v. v.items ≡ bad_of_event (ground_in setting.now) (V.history view.now ++ V.staged view.now)
+        (option_map (λ t. t.now) before.entry) names_id (data_of event.now)) }
+{
+    let mut names = bad_event_names(alloc, event, setting.zones)?;
+    note_if(
+        alloc,
+        names_missing_calendar(view, event),
+        "calendarIds",
+        &mut names,
+    )?;
+    note_if(alloc, has_other_uid(before, event), "uid", &mut names)?;
+    note_if(alloc, names_id, "id", &mut names)?;
+    Ok(names)
+}
+
+fn note_if(alloc: Global, is_bad: bool, name: &str, names: &mut Vec<Text>) -> Result<(), AllocError>
+    ensures { OnOk result (names.new.items ≡ with_name_if is_bad name.now names.old.items) }
+{
+    if is_bad {
+        put_name(names, Text::from_str(alloc, name)?)?;
+    }
+    Ok(())
+}
+
+// Whether a key of `calendarIds` is the id of a calendar that isn't live.
+fn names_missing_calendar<V: AccountView>(view: &V, event: &Tree) -> bool
+    ensures { result ≡ names_missing_calendar (V.history view.now ++ V.staged view.now) (data_of event.now) }
+{
+    match event.object_at("calendarIds") {
+        Some(ids) => !are_live(view, ids.members()),
+        None => false,
+    }
+}
+
+fn are_live<V: AccountView>(view: &V, ids: &[Member]) -> bool
+    ensures { result ≡ list_all (λ n. is_some (live_object (V.history view.now ++ V.staged view.now) calendar_kind n)) (calendars_among (map pair_of ids.now)) }
+{
+    for member in ids {
+        if let Some(number) = read_object_id(Kind::Calendar, member.key.as_str().as_bytes()) {
+            if view.live(Kind::Calendar, number).is_none() {
+                return false;
+            }
+        }
+    }
+    true
+}
+
+fn has_other_uid(before: Option<&Tree>, event: &Tree) -> bool
+    ensures { result ≡ has_other_uid (option_map (λ t. t.now) before.entry) (data_of event.now) }
+{
+    match before {
+        Some(before) => !are_same(event.get("uid"), before.get("uid")),
+        None => false,
+    }
+}
+
+// Whether two values are the same, where none counts as null.
+fn are_same(value: Option<&Tree>, other: Option<&Tree>) -> bool
+    ensures { result ≡ same_data (unwrap_or (option_map (λ t. data_of t.now) value.entry) null) (unwrap_or (option_map (λ t. data_of t.now) other.entry) null) }
+{
+    let null = Tree::Null;
+    value.unwrap_or(&null).same(other.unwrap_or(&null))
+}
+
+// The members that aren't null.
+#[tactic(auto, using(property_table::proofs::TableLemmas::rises_filter))]
+fn given(alloc: Global, object: TreeObject) -> Result<TreeObject, AllocError>
+    ensures { IfOk result (λ o. o ≡ given object) }
+{
+    let members = object.into_members();
+    Ok(TreeObject::new(given_members(alloc, members)?))
+}
+
+fn given_members(alloc: Global, members: Vec<Member>) -> Result<Vec<Member>, AllocError>
+    ensures { IfOk result (λ v. map pair_of v.items ≡ given (map pair_of members.items)) }
+{
+    let mut given = Vec::with_capacity(alloc, members.len())?;
+    for member in members {
+        if !member.value.is_null() {
+            given.push(member)?;
+        }
+    }
+    Ok(given)
+}
+
+// The members that a client gives, with what the server sets or supplies.
+fn with_server_values(
+    alloc: Global,
+    setting: &Setting<'_>,
+    number: u64,
+    before: Option<&Tree>,
+    given: TreeObject,
+) -> Result<TreeObject, AllocError>
+    ensures { IfOk result (λ o. o ≡ with_server_values setting.now.account.now setting.now.moment number (option_map (λ t. t.now) before.entry) given) }
+{
+    let mut members = given;
+    put(
+        alloc,
+        "id",
+        Tree::Text(object_id_text(alloc, Kind::Event, number)?),
+        &mut members,
+    )?;
+    put(
+        alloc,
+        "created",
+        moment_created(alloc, setting.moment, before)?,
+        &mut members,
+    )?;
+    put(
+        alloc,
+        "updated",
+        moment_tree(alloc, setting.moment)?,
+        &mut members,
+    )?;
+    supply(
+        alloc,
+        "@type",
+        Tree::Text(Text::from_str(alloc, "Event")?),
+        &mut members,
+    )?;
+    supply(
+        alloc,
+        "uid",
+        Tree::Text(supplied_uid(alloc, setting.account, number)?),
+        &mut members,
+    )?;
+    Ok(members)
+}
+
+fn put(alloc: Global, key: &str, value: Tree, members: &mut TreeObject) -> Result<(), AllocError>
+    ensures { OnOk result (members.new ≡ with_pair key.now (data_of value) members.old) }
+{
+    members.put(Text::from_str(alloc, key)?, value)
+}
+
+// Puts a value at a key where there is none.
+fn supply(alloc: Global, key: &str, value: Tree, members: &mut TreeObject) -> Result<(), AllocError>
+    ensures { OnOk result (members.new ≡ with_default key.now (data_of value) members.old) }
+{
+    if members.get(key).is_some() {
+        return Ok(());
+    }
+    put(alloc, key, value, members)
+}
+
+fn moment_created(alloc: Global, moment: Moment, before: Option<&Tree>) -> Result<Tree, AllocError>
+    ensures { IfOk result (λ t. data_of t ≡ moment_created moment (option_map (λ t. t.now) before.entry)) }
+{
+    match before {
+        Some(before) => copy_at(before, "created"),
+        None => moment_tree(alloc, moment),
+    }
+}
+
+// A copy of the value at a key, null where there is none.
+fn copy_at(event: &Tree, key: &str) -> Result<Tree, AllocError>
+    ensures { IfOk result (λ t. data_of t ≡ value_or_null key.now (data_of event.now)) }
+{
+    match event.get(key) {
+        Some(value) => value.copy(),
+        None => Ok(Tree::Null),
+    }
+}
+
+// The UTCDate of a moment.
+fn moment_tree(alloc: Global, moment: Moment) -> Result<Tree, AllocError>
+    ensures { IfOk result (λ t. data_of t ≡ text (utc_text moment)) }
+{
+    Ok(Tree::Text(utc_text(alloc, moment.seconds())?))
+}

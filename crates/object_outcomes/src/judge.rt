@@ -1,0 +1,231 @@
+//! What comes of one object of a set.
+ghost use Rattle.std.specs.Prelude.{◌≡◌, ◌++◌, Bool, IfOk, IfSome, Some, if◌then◌else◌, is_some, option_map, true};
+ghost use Rattle.cal_model.specs.CreatedIds.{object_named, resolved_object};
+ghost use Rattle.cal_model.specs.declared.set_error.SetError.TheVariants.{Forbidden, WillDestroy};
+ghost use Rattle.cal_model.specs.Operations.{created_outcome, destroyed_outcome, is_in_use, object_outcome, outcome_of, patched_outcome, updated_outcome};
+ghost use Rattle.model_history.specs.History.{live_object};
+ghost use Rattle.model_json.specs.Parts.{members_in};
+ghost use Rattle.model_json.specs.Patch.{patched};
+ghost use Rattle.model_json.specs.TreeData.{data_of};
+ghost use Rattle.object_outcomes.specs.Judging.{HasNumber, IsAllowed, ground_in, operation_in};
+
+use crate::calendar::calendar_outcome;
+use crate::created_ids::CreatedIds;
+use crate::event::event_outcome;
+use crate::given::{given_at, has_other_id, into_object};
+use crate::occurrences::is_occurrence;
+use crate::operation::Operation;
+use crate::quota::within_quota;
+use crate::resolved::{resolved_object, resolved_patch};
+use crate::setting::{Judged, Setting};
+use cal_model::set_error::SetError;
+use cal_model::view::AccountView;
+use model_history::entry::{Change, Kind};
+use model_json::text::Text;
+use model_json::tree::{Tree, TreeObject};
+use patch_object::{PatchError, apply};
+use std::alloc::{AllocError, Global};
+use time_text::read_object_id;
+
+/// What comes of an update or a destroy after the changes of a view, where the request has created these ids.
+pub fn judge<V: AccountView>(
+    alloc: Global,
+    view: &V,
+    setting: &Setting<'_>,
+    created: &CreatedIds,
+    operation: &Operation<'_>,
+) -> Result<Judged, AllocError>
+    ensures exact { IfOk result (λ j. j.outcome
+        ≡ outcome_of (ground_in setting.now) (V.history view.now ++ V.staged view.now) setting.now.kind created.now (operation_in operation.now)) }
+    ensures allowed { IfOk result (IsAllowed (V.history view.now ++ V.staged view.now)) }
+{
+    match operation {
+        Operation::Update {
+            id,
+            patch,
+            is_destroyed,
+            is_repeated,
+        } => {
+            if is_occurrence(alloc, view, setting.kind, id)? {
+                return Ok(Judged::refused(refusal_of_occurrence(*is_destroyed)));
+            }
+            let patch = resolved_patch(alloc, setting.kind, created, patch)?;
+            update(
+                alloc,
+                view,
+                setting,
+                id,
+                &patch,
+                *is_destroyed,
+                *is_repeated,
+            )
+        }
+        Operation::Destroy(id) => {
+            if is_occurrence(alloc, view, setting.kind, id)? {
+                return Ok(Judged::refused(SetError::Forbidden));
+            }
+            destroy(alloc, view, setting, id)
+        }
+    }
+}
+
+// Why an occurrence isn't changed by itself.
+fn refusal_of_occurrence(is_destroyed: bool) -> SetError
+    ensures { result ≡ if is_destroyed then WillDestroy else Forbidden }
+{
+    if is_destroyed {
+        SetError::WillDestroy
+    } else {
+        SetError::Forbidden
+    }
+}
+
+/// What comes of creating an object of what the client gives, after the changes of a view, where the request has created these ids.
+pub fn judge_create<V: AccountView>(
+    alloc: Global,
+    view: &V,
+    setting: &Setting<'_>,
+    created: &CreatedIds,
+    value: &Tree,
+) -> Result<Judged, AllocError>
+    ensures exact { IfOk result (λ j. j.outcome ≡ created_outcome (ground_in setting.now) (V.history view.now ++ V.staged view.now) setting.now.kind
+        (resolved_object created.now setting.now.kind (members_in (data_of value.now)))) }
+    ensures allowed { IfOk result (IsAllowed (V.history view.now ++ V.staged view.now)) }
+{
+    let object = resolved_object(alloc, setting.kind, created, value)?;
+    let names_id = given_at(&object, "id").is_some();
+    let number = view.created_so_far(setting.kind) + 1;
+    object_outcome(alloc, view, setting, number, None, names_id, object)
+}
+
+// What comes of storing an object that may be put.
+fn object_outcome<V: AccountView>(
+    alloc: Global,
+    view: &V,
+    setting: &Setting<'_>,
+    number: u64,
+    before: Option<&Tree>,
+    names_id: bool,
+    object: TreeObject,
+) -> Result<Judged, AllocError>
+    requires { HasNumber (V.history view.now ++ V.staged view.now) setting.now.kind number }
+    ensures exact { IfOk result (λ j. j.outcome ≡ object_outcome (ground_in setting.now) (V.history view.now ++ V.staged view.now) setting.now.kind number
+        (option_map (λ t. t.now) before.entry) names_id object) }
+    ensures allowed { IfOk result (IsAllowed (V.history view.now ++ V.staged view.now)) }
+{
+    match setting.kind {
+        Kind::Calendar => calendar_outcome(alloc, view, setting, number, names_id, object),
+        Kind::Event => event_outcome(alloc, view, setting, number, before, names_id, object),
+    }
+}
+
+// The live object that an id names, and its number.
+fn named<'a, V: AccountView>(view: &'a V, kind: Kind, id: &Text) -> Option<(u64, &'a Tree)>
+    ensures exact { option_map (λ q. (q.0, q.1.now)) result ≡ object_named (V.history view.now ++ V.staged view.now) kind id.now }
+    ensures live { IfSome result (λ q. is_some (live_object (V.history view.now ++ V.staged view.now) kind q.0) ≡ true) }
+{
+    let number = read_object_id(kind, id.as_str().as_bytes())?;
+    let object = view.live(kind, number)?;
+    Some((number, object))
+}
+
+fn update<V: AccountView>(
+    alloc: Global,
+    view: &V,
+    setting: &Setting<'_>,
+    id: &Text,
+    patch: &TreeObject,
+    is_destroyed: bool,
+    is_repeated: bool,
+) -> Result<Judged, AllocError>
+    ensures exact { IfOk result (λ j. j.outcome
+        ≡ updated_outcome (ground_in setting.now) (V.history view.now ++ V.staged view.now) setting.now.kind patch.now is_destroyed is_repeated
+        (object_named (V.history view.now ++ V.staged view.now) setting.now.kind id.now)) }
+    ensures allowed { IfOk result (IsAllowed (V.history view.now ++ V.staged view.now)) }
+{
+    match named(view, setting.kind, id) {
+        None => Ok(Judged::refused(SetError::NotFound)),
+        Some((number, object)) => {
+            if is_destroyed {
+                Ok(Judged::refused(SetError::WillDestroy))
+            } else if is_repeated {
+                let key = Text::from_string(String::new(alloc));
+                Ok(Judged::refused(SetError::InvalidPatch { key }))
+            } else {
+                patch_object(alloc, view, setting, number, object, patch)
+            }
+        }
+    }
+}
+
+// What comes of patching an object that is there.
+fn patch_object<V: AccountView>(
+    alloc: Global,
+    view: &V,
+    setting: &Setting<'_>,
+    number: u64,
+    object: &Tree,
+    patch: &TreeObject,
+) -> Result<Judged, AllocError>
+    requires { HasNumber (V.history view.now ++ V.staged view.now) setting.now.kind number }
+    ensures exact { IfOk result (λ j. j.outcome
+        ≡ patched_outcome (ground_in setting.now) (V.history view.now ++ V.staged view.now) setting.now.kind number object.now (patched (data_of object.now) patch.now)) }
+    ensures allowed { IfOk result (IsAllowed (V.history view.now ++ V.staged view.now)) }
+{
+    match apply(alloc, object, patch) {
+        Ok(tree) => {
+            let patched = into_object(alloc, tree);
+            let names_id = has_other_id(alloc, setting.kind, number, &patched)?;
+            object_outcome(
+                alloc,
+                view,
+                setting,
+                number,
+                Some(object),
+                names_id,
+                patched,
+            )
+        }
+        Err(PatchError::InvalidPatch { key }) => Ok(Judged::refused(SetError::InvalidPatch {
+            key,
+        })),
+        Err(PatchError::NoMemory) => Err(AllocError),
+    }
+}
+
+fn destroy<V: AccountView>(
+    alloc: Global,
+    view: &V,
+    setting: &Setting<'_>,
+    id: &Text,
+) -> Result<Judged, AllocError>
+    ensures exact { IfOk result (λ j. j.outcome
+        ≡ destroyed_outcome (ground_in setting.now) (V.history view.now ++ V.staged view.now) setting.now.kind
+        (object_named (V.history view.now ++ V.staged view.now) setting.now.kind id.now)) }
+    ensures allowed { IfOk result (IsAllowed (V.history view.now ++ V.staged view.now)) }
+{
+    match named(view, setting.kind, id) {
+        None => Ok(Judged::refused(SetError::NotFound)),
+        Some((number, _)) => {
+            if is_in_use(view, setting.kind, number) {
+                return Ok(Judged::refused(SetError::CalendarHasEvent));
+            }
+            let change = Change {
+                kind: setting.kind,
+                id: number,
+                object: None,
+            };
+            within_quota(alloc, view, change)
+        }
+    }
+}
+
+// Whether this is a calendar in which events are.
+fn is_in_use<V: AccountView>(view: &V, kind: Kind, number: u64) -> bool
+    ensures { result ≡ is_in_use (V.history view.now ++ V.staged view.now) kind number }
+{
+    match kind {
+        Kind::Calendar => view.has_event(number),
+        Kind::Event => false,
+    }
+}

@@ -1,0 +1,52 @@
+//! The room of an account.
+ghost use Rattle.std.specs.Prelude.{◌≡◌, ◌++◌, IfOk, not};
+ghost use Rattle.cal_model.specs.Operations.{within_quota};
+ghost use Rattle.cal_model.specs.Quota.{exceeds_quota, size_of_object};
+ghost use Rattle.object_outcomes.specs.Judging.{HasNumber, IsAllowed};
+
+use crate::setting::Judged;
+use cal_model::limits::{MAX_ENTRIES, MAX_OBJECT_BYTES};
+use cal_model::outcome::Outcome;
+use cal_model::set_error::SetError;
+use cal_model::view::AccountView;
+use json_edge::write::tree_text;
+use model_history::entry::Change;
+use std::alloc::{AllocError, Global};
+
+/// The change of an object that may be put, where the account has room for it.
+pub(crate) fn within_quota<V: AccountView>(
+    alloc: Global,
+    view: &V,
+    change: Change,
+) -> Result<Judged, AllocError>
+    requires { HasNumber (V.history view.now ++ V.staged view.now) change.kind change.id }
+    ensures exact { IfOk result (λ j. j.outcome ≡ within_quota (V.history view.now ++ V.staged view.now) change) }
+    ensures allowed { IfOk result (IsAllowed (V.history view.now ++ V.staged view.now)) }
+{
+    let size = size_of_change(alloc, &change)?;
+    if !has_room(view, size) {
+        return Ok(Judged {
+            outcome: Outcome::Refused(SetError::OverQuota),
+            size,
+        });
+    }
+    Ok(Judged {
+        outcome: Outcome::Accepted(change),
+        size,
+    })
+}
+
+fn size_of_change(alloc: Global, change: &Change) -> Result<usize, AllocError>
+    ensures { IfOk result (λ n. n ≡ size_of_object change.now.object) }
+{
+    match &change.object {
+        Some(object) => Ok(tree_text(alloc, object)?.len()),
+        None => Ok(0),
+    }
+}
+
+fn has_room<V: AccountView>(view: &V, size: usize) -> bool
+    ensures { result ≡ not (exceeds_quota (V.history view.now ++ V.staged view.now) size) }
+{
+    view.count() < MAX_ENTRIES && size <= MAX_OBJECT_BYTES - view.text()
+}

@@ -1,7 +1,0 @@
-use Rattle.std.proofs.Common.{◌≡◌, [], map}
-use Rattle.model_json.specs.Edit.{put_all}
-use Rattle.model_json.specs.TreeData.{pair_of}
-use Rattle.set_methods.proofs.parts.object_of.Given as goal
-
-abbrev pub invariant-loop-member : goal.invariant-loop-member
-invariant-loop-member l = l.object ≡ put_all (map pair_of l.yielded) []

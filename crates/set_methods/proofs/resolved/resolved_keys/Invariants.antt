@@ -1,7 +1,0 @@
-use Rattle.std.proofs.Common.{◌≡◌, map, take}
-use Rattle.cal_model.specs.CreatedIds.{resolved_id}
-use Rattle.model_json.specs.TreeData.{pair_of}
-use Rattle.set_methods.proofs.resolved.resolved_keys.Given as goal
-
-abbrev pub invariant-loop-member : goal.invariant-loop-member
-invariant-loop-member l = map pair_of l.resolved.items ≡ map (λ p. (resolved_id l.created p.0, p.1)) (map pair_of (take l.member-index l.members))

@@ -1,7 +1,0 @@
-use Rattle.std.proofs.Common.{◌≡◌, map}
-use Rattle.model_json.specs.Data.{text}
-use Rattle.model_json.specs.TreeData.{data_of}
-use Rattle.set_methods.proofs.texts.text_list.Given as goal
-
-abbrev pub invariant-loop-text : goal.invariant-loop-text
-invariant-loop-text l = map data_of l.trees.items ≡ map text l.yielded
