@@ -1,7 +1,9 @@
 //! Synthetic ids (draft JMAP for Calendars).
-ghost use Rattle.std.specs.Prelude.{◌≡◌, ◌++◌, ◌<◌, IfOk, OnOk, filter, length, string_bytes, true};
+ghost use Rattle.std.specs.Prelude.{◌≡◌, ◌++◌, ◌&&◌, ◌-◌, ◌==◌, ◌≤◌, IfOk, OnOk, filter, length, nat_le, slice_index, string_bytes, true};
 ghost use Rattle.std.specs.Str.{IsAscii};
-ghost use Rattle.model_recurrence.specs.OccurrenceIds.{compact_in, is_no_separator, occurrence_id_in, occurrence_id_text, separated};
+ghost use Rattle.model_history.specs.ObjectId.{object_number};
+ghost use Rattle.model_history.specs.declared.entry.Kind.TheVariants.{Event};
+ghost use Rattle.model_recurrence.specs.OccurrenceIds.{both_of, compact_in, event_part, time_part, is_no_separator, occurrence_id_in, occurrence_id_text, separated};
 ghost use Rattle.model_time.specs.LocalTimes.{local_in};
 ghost use Rattle.model_time.specs.Walls.{is_in_years};
 
@@ -18,12 +20,44 @@ use time_text::{local_text, read_local, read_object_id};
 pub fn read_occurrence_id(id: &[u8]) -> Option<(u64, Wall)>
     ensures { result ≡ occurrence_id_in id.now }
 {
-    if id.len() < 16 || id[id.len() - 16] != b'_' {
-        return None;
+    if has_mark(id) { named_by(id) } else { None }
+}
+
+// Whether a `_` stands before the last 15 bytes.
+fn has_mark(id: &[u8]) -> bool
+    ensures { result ≡ (nat_le 16 (length id.now) && (slice_index id.now (length id.now - 16) == 95)) }
+{
+    id.len() >= 16 && id[id.len() - 16] == b'_'
+}
+
+fn named_by(id: &[u8]) -> Option<(u64, Wall)>
+    requires { 16 ≤ length id.now }
+    ensures { result ≡ both_of (object_number Event (event_part id.now)) (compact_in (time_part id.now)) }
+{
+    both_of(event_number(id), recurrence_id(id))
+}
+
+fn event_number(id: &[u8]) -> Option<u64>
+    requires { 16 ≤ length id.now }
+    ensures { result ≡ object_number Event (event_part id.now) }
+{
+    read_object_id(Kind::Event, &id[..id.len() - 16])
+}
+
+fn recurrence_id(id: &[u8]) -> Option<Wall>
+    requires { 16 ≤ length id.now }
+    ensures { result ≡ compact_in (time_part id.now) }
+{
+    compact_in(&id[id.len() - 15..])
+}
+
+fn both_of(number: Option<u64>, wall: Option<Wall>) -> Option<(u64, Wall)>
+    ensures { result ≡ both_of number wall }
+{
+    match (number, wall) {
+        (Some(number), Some(wall)) => Some((number, wall)),
+        _ => None,
     }
-    let number = read_object_id(Kind::Event, &id[..id.len() - 16])?;
-    let wall = compact_in(&id[id.len() - 15..])?;
-    Some((number, wall))
 }
 
 fn compact_in(time: &[u8]) -> Option<Wall>
@@ -37,7 +71,6 @@ fn compact_in(time: &[u8]) -> Option<Wall>
 }
 
 // Reads `YYYYMMDDThhmmss` as it is with its separators.
-#[tactic(auto, using(crate::proofs::IdLemmas::separated_bytes))]
 fn read_separated(t: &[u8]) -> Option<Wall>
     requires { length t.now ≡ 15 }
     ensures { result ≡ local_in (separated t.now) }
@@ -50,7 +83,6 @@ fn read_separated(t: &[u8]) -> Option<Wall>
 }
 
 /// The synthetic id of the occurrence of an event with a recurrence id in the years 0 to 9999.
-#[tactic(auto, using(model_recurrence::proofs::OccurrenceIdLemmas::local_is_ascii))]
 pub fn occurrence_id_text(alloc: Global, number: u64, wall: Wall) -> Result<Text, AllocError>
     requires { is_in_years wall ≡ true }
     ensures { IfOk result (λ t. t ≡ occurrence_id_text number wall) }

@@ -5,8 +5,7 @@ ghost use Rattle.model_json.specs.Edit.{with_pair};
 ghost use Rattle.model_json.specs.Parts.{as_object, members_in};
 ghost use Rattle.model_json.specs.TreeData.{data_of};
 ghost use Rattle.model_recurrence.specs.Overrides.{few_members, is_excluded, occurrence_in, overrides_of};
-ghost use Rattle.model_recurrence.specs.Recurrence.{has_occurrence, is_given_by_rules, occurrence_members, override_at, seen_as, with_occurrence_ids};
-ghost use Rattle.model_time.specs.LocalTimes.{local_text};
+ghost use Rattle.model_recurrence.specs.Recurrence.{has_occurrence_at, is_given_by_rules, is_there, occurrence_at, occurrence_members, occurrence_seen, override_at, seen_as, with_ids};
 ghost use Rattle.model_time.specs.Walls.{is_in_years};
 
 use crate::dates::{day_of, second_of, start_of};
@@ -36,30 +35,61 @@ pub fn occurrence(
     requires { is_in_years rid ≡ true }
     ensures { IfOk result (λ o. o ≡ occurrence_members number rid (data_of event.now)) }
 {
-    let key = local_text(alloc, rid)?;
-    if !has_occurrence(alloc, event, rid, &key)? {
-        return Ok(None);
-    }
-    match override_at(event, &key) {
-        Some(patch) => seen_as(alloc, number, event, rid, &key, patch),
-        None => seen_as(alloc, number, event, rid, &key, &TreeObject::new(Vec::new(alloc))),
+    let ids = OccurrenceIds {
+        id: occurrence_id_text(alloc, number, rid)?,
+        key: local_text(alloc, rid)?,
+        event: object_id_text(alloc, Kind::Event, number)?,
+    };
+    occurrence_at(alloc, &ids, event, rid)
+}
+
+// The texts that name an occurrence.
+#[derive(Drop)]
+struct OccurrenceIds {
+    // Its synthetic id.
+    id: Text,
+    // Its recurrence id.
+    key: Text,
+    // The id of its event.
+    event: Text,
+}
+
+fn occurrence_at(
+    alloc: Global,
+    ids: &OccurrenceIds,
+    event: &Tree,
+    rid: Wall,
+) -> Result<Option<TreeObject>, AllocError>
+    requires { is_in_years rid ≡ true }
+    ensures { IfOk result (λ o. o ≡ occurrence_at ids.now.id ids.now.key ids.now.event (data_of event.now) rid) }
+{
+    if has_occurrence_at(alloc, &ids.key, event, rid)? {
+        occurrence_seen(alloc, ids, event)
+    } else {
+        Ok(None)
     }
 }
 
-fn has_occurrence(
-    alloc: Global,
-    event: &Tree,
-    rid: Wall,
-    key: &Text,
-) -> Result<bool, AllocError>
-    requires years { is_in_years rid ≡ true }
-    requires key { key.now ≡ local_text rid }
-    ensures { IfOk result (λ b. b ≡ has_occurrence (data_of event.now) rid) }
+fn has_occurrence_at(alloc: Global, key: &Text, event: &Tree, rid: Wall) -> Result<bool, AllocError>
+    requires { is_in_years rid ≡ true }
+    ensures { IfOk result (λ b. b ≡ has_occurrence_at key.now (data_of event.now) rid) }
 {
     if !has_recurrence(event) {
         return Ok(false);
     }
-    match override_at(event, key) {
+    is_there(alloc, override_at(event, key), event, rid)
+}
+
+fn is_there(
+    alloc: Global,
+    patch: Option<&TreeObject>,
+    event: &Tree,
+    rid: Wall,
+) -> Result<bool, AllocError>
+    requires { is_in_years rid ≡ true }
+    ensures { IfOk result (λ b. b ≡ is_there (option_map (λ p. p.now) patch.entry) (is_given_by_rules (data_of event.now) rid)) }
+{
+    match patch {
         Some(patch) => Ok(!is_taken_out(patch)),
         None => is_given_by_rules(alloc, event, rid),
     }
@@ -114,20 +144,30 @@ fn override_among<'a>(overrides: &'a TreeObject, key: &Text) -> Option<&'a TreeO
     }
 }
 
+// The object of an occurrence that there is.
+fn occurrence_seen(
+    alloc: Global,
+    ids: &OccurrenceIds,
+    event: &Tree,
+) -> Result<Option<TreeObject>, AllocError>
+    ensures { IfOk result (λ o. o ≡ occurrence_seen ids.now.id ids.now.key ids.now.event (data_of event.now)) }
+{
+    match override_at(event, &ids.key) {
+        Some(patch) => seen_as(alloc, ids, event, patch),
+        None => seen_as(alloc, ids, event, &TreeObject::new(Vec::new(alloc))),
+    }
+}
+
 fn seen_as(
     alloc: Global,
-    number: u64,
+    ids: &OccurrenceIds,
     event: &Tree,
-    rid: Wall,
-    key: &Text,
     patch: &TreeObject,
 ) -> Result<Option<TreeObject>, AllocError>
-    requires years { is_in_years rid ≡ true }
-    requires key { key.now ≡ local_text rid }
-    ensures { IfOk result (λ o. o ≡ seen_as number rid (occurrence_in (members_in (data_of event.now)) key.now patch.now)) }
+    ensures { IfOk result (λ o. o ≡ seen_as ids.now.id ids.now.key ids.now.event (occurrence_in (members_in (data_of event.now)) ids.now.key patch.now)) }
 {
-    match occurrence_tree(alloc, event, key, patch)? {
-        Some(tree) => Ok(Some(with_occurrence_ids(alloc, number, rid, key, into_members(alloc, tree))?)),
+    match occurrence_tree(alloc, event, &ids.key, patch)? {
+        Some(tree) => Ok(Some(with_ids(alloc, ids, into_members(alloc, tree))?)),
         None => Ok(None),
     }
 }
@@ -142,25 +182,26 @@ fn into_members(alloc: Global, tree: Tree) -> TreeObject
     }
 }
 
-fn with_occurrence_ids(
+fn with_ids(
     alloc: Global,
-    number: u64,
-    rid: Wall,
-    key: &Text,
+    ids: &OccurrenceIds,
     mut object: TreeObject,
 ) -> Result<TreeObject, AllocError>
-    requires years { is_in_years rid ≡ true }
-    requires key { key.now ≡ local_text rid }
-    ensures { IfOk result (λ o. o ≡ with_occurrence_ids number rid object) }
+    ensures { IfOk result (λ o. o ≡ with_ids ids.now.id ids.now.key ids.now.event object) }
 {
-    put_text(alloc, &mut object, "id", occurrence_id_text(alloc, number, rid)?)?;
-    put_text(alloc, &mut object, "recurrenceId", key.copy()?)?;
-    put_text(alloc, &mut object, "baseEventId", object_id_text(alloc, Kind::Event, number)?)?;
+    put_text(alloc, &mut object, "id", &ids.id)?;
+    put_text(alloc, &mut object, "recurrenceId", &ids.key)?;
+    put_text(alloc, &mut object, "baseEventId", &ids.event)?;
     Ok(object)
 }
 
-fn put_text(alloc: Global, object: &mut TreeObject, name: &str, value: Text) -> Result<(), AllocError>
-    ensures { OnOk result (object.new ≡ with_pair name.now (text value) object.old) }
+fn put_text(
+    alloc: Global,
+    object: &mut TreeObject,
+    name: &str,
+    value: &Text,
+) -> Result<(), AllocError>
+    ensures { OnOk result (object.new ≡ with_pair name.now (text value.now) object.old) }
 {
-    object.put(Text::from_str(alloc, name)?, Tree::Text(value))
+    object.put(Text::from_str(alloc, name)?, Tree::Text(value.copy()?))
 }

@@ -26,7 +26,7 @@ pub(crate) struct RecurringEventTable<'a> {
 
 impl PropertyTable for RecurringEventTable<'_> {
     ghost use Rattle.model_json.specs.TreeData.{data_of};
-ghost use Rattle.model_event.specs.Events.{event_table};
+    ghost use Rattle.model_event.specs.Events.{event_table};
     ghost use Rattle.model_recurrence.specs.Recurrence.{recurring_event_table};
 
     ghost table = { λ t. recurring_event_table t.zones.now (data_of t.event.now) };
@@ -59,12 +59,7 @@ fn passes(
 }
 
 // The test of an event by itself.
-fn passes_alone(
-    alloc: Global,
-    zones: &Zones,
-    name: &str,
-    value: &Tree,
-) -> Result<bool, AllocError>
+fn passes_alone(alloc: Global, zones: &Zones, name: &str, value: &Tree) -> Result<bool, AllocError>
     ensures { IfOk result (λ b. b ≡ test_at (event_table zones.now) name.now (Some (data_of value.now))) }
 {
     EventTable { alloc, zones }.passes(name, value)
@@ -94,13 +89,13 @@ fn are_overrides(
     may_have_overrides(alloc, zones, event)
 }
 
-#[tactic(auto, using(crate::proofs::OverrideLemmas::refused_are_none))]
 fn may_have_overrides(alloc: Global, zones: &Zones, event: &Tree) -> Result<bool, AllocError>
     ensures { IfOk result (λ b. b ≡ is_some (exceptions_in zones.now (data_of event.now))) }
 {
     match exceptions(alloc, event, zones) {
         Ok(_) => Ok(true),
+        Err(OverrideError::BadOverrides) => Ok(false),
+        Err(OverrideError::BadOverride { .. }) => Ok(false),
         Err(OverrideError::NoMemory) => Err(AllocError),
-        Err(OverrideError::BadOverrides | OverrideError::BadOverride { .. }) => Ok(false),
     }
 }
