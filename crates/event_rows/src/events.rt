@@ -1,11 +1,11 @@
 //! Rows of events: what they mean, or the names of all that is bad in them.
 use crate::answers::{list_of, texts_of, whole, word};
-use single_event::event::Event;
-use single_event::read::{EventError, read_event};
 use json_edge::read::{ReadError, read_tree};
 use model_json::text::Text;
 use model_json::tree::Tree;
 use model_time::wall::Wall;
+use single_event::event::Event;
+use single_event::read::{EventError, read_event};
 use std::alloc::{AllocError, Global};
 use time_text::{is_in_years, local_text};
 use zone_table::{ZoneError, Zones};
@@ -36,6 +36,14 @@ pub fn read(alloc: Global, zones: &Zones, event: &Tree) -> Result<Tree, AllocErr
 
 /// The same of the plain event with these members laid over it, none where they are no object.
 pub fn read_over(alloc: Global, zones: &Zones, members: Tree) -> Result<Option<Tree>, AllocError> {
+    match over_plain(alloc, members)? {
+        Some(event) => Ok(Some(read(alloc, zones, &event)?)),
+        None => Ok(None),
+    }
+}
+
+/// The plain event with these members laid over it, none where they are no object.
+pub fn over_plain(alloc: Global, members: Tree) -> Result<Option<Tree>, AllocError> {
     let plain = match read_tree(alloc, PLAIN_EVENT.as_bytes()) {
         Ok(plain) => plain,
         Err(ReadError::NotJson | ReadError::NotWhole) => return Ok(None),
@@ -43,8 +51,7 @@ pub fn read_over(alloc: Global, zones: &Zones, members: Tree) -> Result<Option<T
     };
     match (plain, members) {
         (Tree::Object(plain), Tree::Object(members)) => {
-            let event = Tree::Object(plain.with_all(alloc, members)?);
-            Ok(Some(read(alloc, zones, &event)?))
+            Ok(Some(Tree::Object(plain.with_all(alloc, members)?)))
         }
         _ => Ok(None),
     }

@@ -5,6 +5,7 @@ mod answers;
 mod calendars;
 mod events;
 mod finds;
+mod recurring;
 
 use model_json::tree::Tree;
 use row_table::line::tree_in;
@@ -25,6 +26,8 @@ fn came_of(alloc: Global, zones: &Zones, line: &str) -> Result<Option<Tree>, All
         "recurs" => Ok(Some(calendars::recurs(&value))),
         "calendars" => calendars::named(alloc, &value),
         "find" => Ok(Some(finds::found(alloc, &value)?)),
+        "bad" => recurring::bad(alloc, zones, value),
+        "occurrence" => recurring::named(alloc, &value),
         _ => events::read_over(alloc, zones, value),
     }
 }
@@ -38,7 +41,10 @@ fn parts_of(line: &str) -> (&str, &str) {
 }
 
 fn is_question(word: &str) -> bool {
-    matches!(word, "whole" | "recurs" | "calendars" | "find")
+    matches!(
+        word,
+        "whole" | "recurs" | "calendars" | "find" | "bad" | "occurrence"
+    )
 }
 
 /// What came of a row, where it isn't what the table has.

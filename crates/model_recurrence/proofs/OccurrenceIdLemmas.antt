@@ -2,12 +2,14 @@
 use Rattle.std.proofs.Common.{◌≡◌, ◌<◌, ◌+◌, ◌-◌, ◌/◌, ◌%◌, ◌^◌, ◌==◌, ℕ, ℤ, suc, List, [], ◌∷◌, ◌++◌, true, Some, drop, take, length, nat_le, nat_lt, slice_index, unsigned_abs, arith, refl, ap, ◌∙◌}
 use Rattle.std.specs.Prelude.{filter}
 use Rattle.std.proofs.lemmas.Bool.Decides.{nat_tests}
+use Rattle.std.proofs.lemmas.Str.Ascii.{IsAscii-cons, IsAscii-nil}
+use Rattle.std.specs.Str.{IsAscii}
 use Rattle.model_history.specs.ObjectId.{id_text, object_number}
 use Rattle.model_history.specs.declared.entry.Kind.TheVariants.{Event}
 use Rattle.model_recurrence.specs.OccurrenceIds.{IsReadBack, compact_in, compact_text, event_part, is_no_separator, occurrence_id_in, separated, time_part}
 use Rattle.model_time.specs.CivilDay.{day_of_month, month_of, year_of}
 use Rattle.model_time.specs.Forms.{two}
-use Rattle.model_time.specs.LocalTimes.{local_in}
+use Rattle.model_time.specs.LocalTimes.{local_in, local_text}
 use Rattle.model_time.specs.Walls.{day_of_wall, is_in_years, second_of_wall}
 use Rattle.time_text.proofs.DateLemmas.{day_in_month, four_digit_year, month_in_year}
 use Rattle.time_text.proofs.NumberLemmas.{decimal_back}
@@ -48,10 +50,12 @@ all_kept a b m d h n s ha hb hm hd hh hn hs =
     date_kept a b m d (84 ∷ two h ++ 58 ∷ two n ++ 58 ∷ two s) ha hb hm hd
     ∙ ap (λ ys. two a ++ two b ++ two m ++ two d ++ ys) (clock_kept h n s hh hn hs)
 
-compact_is : (w : ℤ) → is_in_years w ≡ true
+-- what holds of the text of numbers of two digits holds of a time that is written
+by_fields : (w : ℤ) → is_in_years w ≡ true → (P : ℕ → ℕ → ℕ → ℕ → ℕ → ℕ → ℕ → Type 0)
+    → ((a b m d h n s : ℕ) → a < 100 → b < 100 → m < 100 → d < 100 → h < 100 → n < 100 → s < 100 → P a b m d h n s)
     → (let day = day_of_wall w in let s = second_of_wall w in let y = unsigned_abs (year_of day) in
-    compact_text w ≡ compact (y / 100) (y % 100) (month_of day) (day_of_month day) (s / 3600) (s / 60 % 60) (s % 60))
-compact_is w h =
+    P (y / 100) (y % 100) (month_of day) (day_of_month day) (s / 3600) (s / 60 % 60) (s % 60))
+by_fields w h P holds =
     let day = day_of_wall w in let s = second_of_wall w in let y = unsigned_abs (year_of day) in
     let years = four_digit_year w h in
     let hs = second_bound w in
@@ -62,7 +66,31 @@ compact_is w h =
     let hh : s / 3600 < 100 = omega arith in
     let hn : s / 60 % 60 < 100 = omega arith in
     let hc : s % 60 < 100 = omega arith in
-    all_kept (y / 100) (y % 100) (month_of day) (day_of_month day) (s / 3600) (s / 60 % 60) (s % 60) ha hb hm hd hh hn hc
+    holds (y / 100) (y % 100) (month_of day) (day_of_month day) (s / 3600) (s / 60 % 60) (s % 60) ha hb hm hd hh hn hc
+
+compact_is : (w : ℤ) → is_in_years w ≡ true
+    → (let day = day_of_wall w in let s = second_of_wall w in let y = unsigned_abs (year_of day) in
+    compact_text w ≡ compact (y / 100) (y % 100) (month_of day) (day_of_month day) (s / 3600) (s / 60 % 60) (s % 60))
+compact_is w h = by_fields w h (λ a b m d h n s. filter is_no_separator (written a b m d h n s) ≡ compact a b m d h n s) all_kept
+
+-- A written time is ASCII.
+
+two_is_ascii : (n : ℕ) (xs : List ℕ) → n < 100 → IsAscii xs → IsAscii (two n ++ xs)
+two_is_ascii n xs h rest = IsAscii-cons (48 + n / 10) ((48 + n % 10) ∷ xs) (omega arith) (IsAscii-cons (48 + n % 10) xs (omega arith) rest)
+
+written_is_ascii : (a b m d h n s : ℕ) → a < 100 → b < 100 → m < 100 → d < 100 → h < 100 → n < 100 → s < 100 → IsAscii (written a b m d h n s)
+written_is_ascii a b m d h n s ha hb hm hd hh hn hs =
+    let seconds : List ℕ = 58 ∷ two s in let minutes : List ℕ = 58 ∷ two n ++ seconds in let hours : List ℕ = 84 ∷ two h ++ minutes in
+    let days : List ℕ = 45 ∷ two d ++ hours in let months : List ℕ = 45 ∷ two m ++ days in
+    two_is_ascii a (two b ++ months) ha (two_is_ascii b months hb
+    (IsAscii-cons 45 (two m ++ days) (omega arith) (two_is_ascii m days hm
+    (IsAscii-cons 45 (two d ++ hours) (omega arith) (two_is_ascii d hours hd
+    (IsAscii-cons 84 (two h ++ minutes) (omega arith) (two_is_ascii h minutes hh
+    (IsAscii-cons 58 (two n ++ seconds) (omega arith) (two_is_ascii n seconds hn
+    (IsAscii-cons 58 (two s) (omega arith) (two_is_ascii s [] hs IsAscii-nil)))))))))))
+
+pub local_is_ascii : (w : ℤ) → is_in_years w ≡ true → IsAscii (local_text w)
+local_is_ascii w h = by_fields w h (λ a b m d h n s. IsAscii (written a b m d h n s)) written_is_ascii
 
 separated_is : (a b m d h n s : ℕ) → compact_in (compact a b m d h n s) ≡ local_in (written a b m d h n s)
 unfolding separated

@@ -55,20 +55,28 @@ abbrev pub is_there : Option (List Pair) → Bool → Bool
 is_there None given_by_rules = given_by_rules
 is_there (Some patch) given_by_rules = not (unwrap_or (is_excluded (lookup (codes "excluded") patch)) false)
 
--- the event has an occurrence of its own id with this recurrence id
+-- the event has an occurrence of its own id with this recurrence id, whose LocalDateTime is the key
+abbrev pub has_occurrence_at : List ℕ → Data → ℤ → Bool
+has_occurrence_at key d w = has_recurrence d && is_there (override_at key d) (is_given_by_rules d w)
+
 abbrev pub has_occurrence : Data → ℤ → Bool
-has_occurrence d w = has_recurrence d && is_there (override_at (local_text w) d) (is_given_by_rules d w)
+has_occurrence d w = has_occurrence_at (local_text w) d w
 
 -- what a client sees of an occurrence beside its own object (draft JMAP for Calendars): its synthetic id, its recurrence id and its event
-abbrev pub with_occurrence_ids : ℕ → ℤ → List Pair → List Pair
-with_occurrence_ids n w ps = with_pair (codes "baseEventId") (text (id_text Event n)) (with_pair (codes "recurrenceId") (text (local_text w))
-    (with_pair (codes "id") (text (occurrence_id_text n w)) ps))
+abbrev pub with_ids : List ℕ → List ℕ → List ℕ → List Pair → List Pair
+with_ids id key event ps = with_pair (codes "baseEventId") (text event) (with_pair (codes "recurrenceId") (text key) (with_pair (codes "id") (text id) ps))
 
-abbrev pub seen_as : ℕ → ℤ → Result Data (List ℕ) → Option (List Pair)
-seen_as n w (Ok d) = Some (with_occurrence_ids n w (members_in d))
-seen_as n w (Err key) = None
+abbrev pub seen_as : List ℕ → List ℕ → List ℕ → Result Data (List ℕ) → Option (List Pair)
+seen_as id key event (Ok d) = Some (with_ids id key event (members_in d))
+seen_as id key event (Err pointer) = None
+
+-- the object of an occurrence that there is, as a client sees it
+abbrev pub occurrence_seen : List ℕ → List ℕ → List ℕ → Data → Option (List Pair)
+occurrence_seen id key event d = seen_as id key event (occurrence_in (members_in d) key (unwrap_or (override_at key d) []))
+
+abbrev pub occurrence_at : List ℕ → List ℕ → List ℕ → Data → ℤ → Option (List Pair)
+occurrence_at id key event d w = if has_occurrence_at key d w then occurrence_seen id key event d else None
 
 -- the occurrence of event n with this recurrence id, as a client sees it
 abbrev pub occurrence_members : ℕ → ℤ → Data → Option (List Pair)
-occurrence_members n w d =
-    if has_occurrence d w then seen_as n w (occurrence_in (members_in d) (local_text w) (unwrap_or (override_at (local_text w) d) [])) else None
+occurrence_members n w d = occurrence_at (occurrence_id_text n w) (local_text w) (id_text Event n) d w

@@ -1,6 +1,7 @@
 -- The rules of an event as their type has them (RFC 8984 section 4.3.3).
-use Rattle.std.specs.Prelude.{◌≡◌, ◌<◌, ℕ, List, [], Bool, true, false, ◌&&◌, Option, Some, None, codes, nat_le, nat_lt, option_and_then, unwrap_or}
+use Rattle.std.specs.Prelude.{◌≡◌, ◌<◌, ℕ, ℤ, List, [], Bool, true, false, ◌&&◌, Option, Some, None, codes, nat_le, nat_lt, option_and_then, unwrap_or}
 use Rattle.std.specs.Int.{IsInRange}
+use Rattle.std.specs.Option.{option_map_or}
 use Rattle.std.proofs.Common.{refl}
 use Rattle.std.proofs.lemmas.Bool.{and_parts, leb-true, ltb-true}
 use Rattle.model_event.specs.Events.{start_in}
@@ -71,6 +72,10 @@ rule_where p true limits = Some (rule_by p (limits_of p limits))
 unfoldable pub rule_of : RuleParts → Option Rule
 rule_of p = rule_where p (is_within_limits p) refl
 
+-- the rules that a value means for a series that starts at this wall second; none where it means none
+abbrev pub rules_meant : ℤ → Data → List Rule
+rules_meant start d = unwrap_or (option_and_then (all_some rule_of) (rules_in start d)) []
+
 -- the rules of an event, of which there may be none
 abbrev pub rules_of_event : Data → List Rule
-rules_of_event d = unwrap_or (option_and_then (all_some rule_of) (option_and_then (rules_in (start_in d)) (field (codes "recurrenceRules") d))) []
+rules_of_event d = option_map_or (rules_meant (start_in d)) (field (codes "recurrenceRules") d) []

@@ -57,7 +57,8 @@ impl<T: Drop> From<AllocFailed<T>> for OverrideError {
 ///
 /// `BadOverride` names the first override whose key isn't a LocalDateTime in the years 1 to 9998, whose value isn't an
 /// object, whose `excluded` is neither true, false nor null, or which doesn't exclude its occurrence and touches what is
-/// fixed, has a key that fails, or makes an object that isn't a valid event. Takes memory for a copy of the event.
+/// fixed, has a key that fails, or makes an object that isn't a valid event. Takes memory for a copy of the event, where it
+/// has overrides.
 pub fn exceptions(alloc: Global, event: &Tree, zones: &Zones) -> Result<Exceptions, OverrideError>
     ensures value { IfOk result (λ xs. exceptions_in zones.now (data_of event.now) ≡ Some xs) }
     ensures err { IfErr result (λ error. Reports error zones.now (data_of event.now)) }
@@ -65,6 +66,9 @@ pub fn exceptions(alloc: Global, event: &Tree, zones: &Zones) -> Result<Exceptio
     let Some(overrides) = overrides_in(event) else {
         return Err(OverrideError::BadOverrides);
     };
+    if overrides.is_empty() {
+        return Ok(Exceptions::new(Vec::new(alloc)));
+    }
     let alone = single(alloc, event)?;
     let bad = bad_event_names(alloc, &alone, zones)?;
     Ok(Exceptions::new(exceptions_among(alloc, &alone, &bad, overrides, zones)?))

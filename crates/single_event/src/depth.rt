@@ -8,7 +8,7 @@ use model_event::limits::MAX_DEPTH;
 use model_json::tree::{Member, Tree};
 
 /// Whether a value nests as deep as one of an event may, and not deeper.
-pub(crate) fn is_shallow(value: &Tree) -> bool
+pub fn is_shallow(value: &Tree) -> bool
     ensures { result ≡ is_shallow (data_of value.now) }
 {
     nests_within(value, MAX_DEPTH)

@@ -2,9 +2,9 @@
 #![tactic(auto)]
 
 pub mod calendars;
-mod depth;
+pub mod depth;
 pub mod event;
 pub mod read;
 pub mod recurrence;
-mod table;
+pub mod table;
 mod times;

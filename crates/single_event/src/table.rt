@@ -28,7 +28,7 @@ use zone_table::Zones;
 
 /// The properties of an event where these time zones are known.
 #[derive(Clone, Copy)]
-pub(crate) struct EventTable<'a> {
+pub struct EventTable<'a> {
     pub alloc: Global,
     pub zones: &'a Zones,
 }

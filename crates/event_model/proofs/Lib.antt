@@ -1,0 +1,3 @@
+mod DateLemmas
+mod IdLemmas
+mod OverrideLemmas
