@@ -1,5 +1,5 @@
 //! Synthetic ids (draft JMAP for Calendars).
-ghost use Rattle.std.specs.Prelude.{◌≡◌, ◌++◌, ◌&&◌, ◌-◌, ◌==◌, ◌≤◌, IfOk, OnOk, filter, length, nat_le, slice_index, string_bytes, true};
+ghost use Rattle.std.specs.Prelude.{◌≡◌, ◌++◌, ◌&&◌, ◌-◌, ◌==◌, ◌≤◌, IfOk, IfSome, OnOk, filter, length, nat_le, slice_index, string_bytes, true};
 ghost use Rattle.std.specs.Str.{IsAscii};
 ghost use Rattle.model_history.specs.ObjectId.{object_number};
 ghost use Rattle.model_history.specs.declared.entry.Kind.TheVariants.{Event};
@@ -16,9 +16,10 @@ use time_text::{local_text, read_local, read_object_id};
 /// The number of the event and the recurrence id that a synthetic id names: an event's id, `_`, and the recurrence id as
 /// `YYYYMMDDThhmmss`.
 ///
-/// None where the text is anything else. Takes no memory.
+/// None where the text is anything else. The recurrence id lies in the years 0 to 9999. Takes no memory.
 pub fn read_occurrence_id(id: &[u8]) -> Option<(u64, Wall)>
-    ensures { result ≡ occurrence_id_in id.now }
+    ensures value { result ≡ occurrence_id_in id.now }
+    ensures years { IfSome result (λ q. is_in_years q.1 ≡ true) }
 {
     if has_mark(id) { named_by(id) } else { None }
 }
@@ -32,7 +33,8 @@ fn has_mark(id: &[u8]) -> bool
 
 fn named_by(id: &[u8]) -> Option<(u64, Wall)>
     requires { 16 ≤ length id.now }
-    ensures { result ≡ both_of (object_number Event (event_part id.now)) (compact_in (time_part id.now)) }
+    ensures value { result ≡ both_of (object_number Event (event_part id.now)) (compact_in (time_part id.now)) }
+    ensures years { IfSome result (λ q. is_in_years q.1 ≡ true) }
 {
     both_of(event_number(id), recurrence_id(id))
 }
@@ -46,13 +48,16 @@ fn event_number(id: &[u8]) -> Option<u64>
 
 fn recurrence_id(id: &[u8]) -> Option<Wall>
     requires { 16 ≤ length id.now }
-    ensures { result ≡ compact_in (time_part id.now) }
+    ensures value { result ≡ compact_in (time_part id.now) }
+    ensures years { IfSome result (λ w. is_in_years w ≡ true) }
 {
     compact_in(&id[id.len() - 15..])
 }
 
 fn both_of(number: Option<u64>, wall: Option<Wall>) -> Option<(u64, Wall)>
-    ensures { result ≡ both_of number wall }
+    requires { IfSome wall (λ w. is_in_years w ≡ true) }
+    ensures value { result ≡ both_of number wall }
+    ensures years { IfSome result (λ q. is_in_years q.1 ≡ true) }
 {
     match (number, wall) {
         (Some(number), Some(wall)) => Some((number, wall)),
@@ -61,7 +66,8 @@ fn both_of(number: Option<u64>, wall: Option<Wall>) -> Option<(u64, Wall)>
 }
 
 fn compact_in(time: &[u8]) -> Option<Wall>
-    ensures { result ≡ compact_in time.now }
+    ensures value { result ≡ compact_in time.now }
+    ensures years { IfSome result (λ w. is_in_years w ≡ true) }
 {
     if time.len() == 15 {
         read_separated(time)
@@ -73,7 +79,8 @@ fn compact_in(time: &[u8]) -> Option<Wall>
 // Reads `YYYYMMDDThhmmss` as it is with its separators.
 fn read_separated(t: &[u8]) -> Option<Wall>
     requires { length t.now ≡ 15 }
-    ensures { result ≡ local_in (separated t.now) }
+    ensures value { result ≡ local_in (separated t.now) }
+    ensures years { IfSome result (λ w. is_in_years w ≡ true) }
 {
     let local = [
         t[0], t[1], t[2], t[3], b'-', t[4], t[5], b'-', t[6], t[7], t[8], t[9], t[10], b':', t[11],
