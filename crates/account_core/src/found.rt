@@ -2,6 +2,7 @@
 ghost use Rattle.std.specs.Prelude.{◌≡◌, [], Some, IfOk, filter, flat_map, is_some, map, not, option_and_then, option_map};
 ghost use Rattle.account_store.specs.Store.{entries};
 ghost use Rattle.cal_model.specs.CreatedIds.{object_with_id};
+ghost use Rattle.cal_model.specs.Occurrences.{occurrence_named};
 ghost use Rattle.cal_model.specs.Gets.{ids_not_found, object_or_occurrence, objects_asked, selected};
 ghost use Rattle.model_history.specs.History.{changes_of};
 ghost use Rattle.model_json.specs.Parts.{some_of};
@@ -35,22 +36,19 @@ fn object_of_id<'a>(store: &'a Store, kind: Kind, id: &Text) -> Option<&'a Tree>
     store.object(kind, read_object_id(kind, id.as_str().as_bytes())?)
 }
 
-// A copy of what an id names, a live object or an occurrence of one, with what is asked for.
-fn find(
-    alloc: Global,
-    store: &Store,
+// What an id names, where this is the occurrence that it names. Takes no memory.
+fn object_or_occurrence<'a>(
+    store: &'a Store,
     kind: Kind,
-    asked: &Asked,
     id: &Text,
-) -> Result<Option<Tree>, AllocError>
-    ensures { IfOk result (λ o. option_map data_of o ≡ option_map (selected asked.now) (object_or_occurrence (changes_of (entries store.now)) kind id.now)) }
+    occurrence: &'a Option<Tree>,
+) -> Option<&'a Tree>
+    requires { occurrence.now ≡ occurrence_named (changes_of (entries store.now)) kind id.now }
+    ensures { option_map (λ t. t.now) result ≡ object_or_occurrence (changes_of (entries store.now)) kind id.now }
 {
-    if let Some(object) = object_of_id(store, kind, id) {
-        return Ok(Some(select(alloc, asked, object)?));
-    }
-    match occurrence_of_id(alloc, store, kind, id)? {
-        Some(occurrence) => Ok(Some(select(alloc, asked, &occurrence)?)),
-        None => Ok(None),
+    match object_of_id(store, kind, id) {
+        Some(object) => Some(object),
+        None => occurrence.as_ref(),
     }
 }
 
@@ -81,8 +79,9 @@ fn find_each(
     let mut list = Vec::new(alloc);
     let mut missing = Vec::new(alloc);
     for id in ids {
-        match find(alloc, store, kind, asked, &id)? {
-            Some(object) => list.push(object)?,
+        let occurrence = occurrence_of_id(alloc, store, kind, &id)?;
+        match object_or_occurrence(store, kind, &id, &occurrence) {
+            Some(object) => list.push(select(alloc, asked, object)?)?,
             None => missing.push(id)?,
         }
     }
