@@ -7,8 +7,8 @@ ghost use Rattle.model_history.specs.declared.entry.Kind.TheVariants.{Event as e
 ghost use Rattle.model_time.specs.Walls.{is_in_years};
 
 use account_store::Store;
-use event_model::occurrence::occurrence;
 use event_model::ids::read_occurrence_id;
+use event_model::occurrence::occurrence;
 use model_history::entry::Kind;
 use model_json::text::Text;
 use model_json::tree::Tree;

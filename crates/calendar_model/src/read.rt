@@ -8,9 +8,9 @@ ghost use Rattle.model_json.specs.TreeData.{data_of};
 
 use crate::calendar::Calendar;
 use crate::table::CalendarTable;
+use model_event::values::copy_at;
 use model_json::lists::Texts;
 use model_json::num::Num;
-use model_event::values::copy_at;
 use model_json::text::Text;
 use model_json::tree::Tree;
 use property_table::table::failing_names;

@@ -5,8 +5,8 @@ ghost use Rattle.model_history.specs.declared.entry.Kind.TheVariants.{Event as e
 ghost use Rattle.model_time.specs.Walls.{is_in_years};
 
 use cal_model::view::AccountView;
-use event_model::occurrence::occurrence;
 use event_model::ids::read_occurrence_id;
+use event_model::occurrence::occurrence;
 use model_history::entry::Kind;
 use model_json::text::Text;
 use model_time::wall::Wall;
@@ -27,7 +27,11 @@ pub(crate) fn is_occurrence<V: AccountView>(
     }
 }
 
-fn is_event_occurrence<V: AccountView>(alloc: Global, view: &V, id: &Text) -> Result<bool, AllocError>
+fn is_event_occurrence<V: AccountView>(
+    alloc: Global,
+    view: &V,
+    id: &Text,
+) -> Result<bool, AllocError>
     ensures { IfOk result (λ b. b ≡ is_some (occurrence_named (V.history view.now ++ V.staged view.now) event_kind id.now)) }
 {
     match read_occurrence_id(id.as_str().as_bytes()) {

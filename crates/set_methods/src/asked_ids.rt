@@ -2,9 +2,9 @@
 ghost use Rattle.std.specs.Prelude.{◌≡◌, IfOk, map};
 ghost use Rattle.cal_model.specs.CreatedIds.{different, resolved_id};
 
+use model_json::text::Text;
 use object_outcomes::created_ids::CreatedIds;
 use object_outcomes::texts::note;
-use model_json::text::Text;
 use std::alloc::{AllocError, Global};
 
 /// The ids asked for, where `#key` stands for the created id of that key, each once in order of first mention.

@@ -11,17 +11,17 @@ ghost use Rattle.set_methods.specs.Telling.{IsCreated};
 
 use crate::arguments::arguments;
 use crate::created::new_ids;
-use object_outcomes::created_ids::CreatedIds;
 use crate::named_id::ids_named;
 use crate::operations::{destroy_operations, update_operations};
 use crate::planned::Plan;
 use crate::request::SetRequest;
 use crate::run::{Creates, run, run_creates};
-use object_outcomes::setting::Setting;
 use crate::told::Told;
 use cal_model::view::AccountView;
 use model_json::lists::Pairs;
 use model_json::tree::Tree;
+use object_outcomes::created_ids::CreatedIds;
+use object_outcomes::setting::Setting;
 use std::alloc::{AllocError, Global};
 
 /// Carries out a set that isn't refused: creates, then updates, then destroys (RFC 8620 section 5.3).

@@ -5,10 +5,10 @@ ghost use Rattle.cal_model.specs.Sets.{updates_after};
 ghost use Rattle.model_json.specs.TreeData.{pair_of};
 ghost use Rattle.object_outcomes.specs.Judging.{operation_in};
 
-use object_outcomes::created_ids::CreatedIds;
 use crate::named_id::{NamedId, names_id};
-use object_outcomes::operation::Operation;
 use model_json::tree::Member;
+use object_outcomes::created_ids::CreatedIds;
+use object_outcomes::operation::Operation;
 use std::alloc::{AllocError, Global};
 
 /// The updates of a set, each with whether its object is among those to be destroyed, and whether one before it names the

@@ -9,11 +9,11 @@ use crate::carry_out::carry_out;
 use crate::planned::{Plan, PlanError};
 use crate::refusal::refusal;
 use crate::request::SetRequest;
-use object_outcomes::setting::Setting;
 use cal_model::view::AccountView;
 use model_json::lists::Pairs;
 use model_json::text::Text;
 use model_time::moment::Moment;
+use object_outcomes::setting::Setting;
 use std::alloc::Global;
 use zone_table::Zones;
 

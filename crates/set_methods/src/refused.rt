@@ -7,11 +7,11 @@ ghost use Rattle.model_json.specs.TreeData.{data_of, pair_of};
 
 use crate::named_id::NamedId;
 use crate::parts::object_or_null;
-use object_outcomes::texts::{copies, text_list};
 use cal_model::outcome::Outcome;
 use cal_model::set_error::SetError;
 use model_json::text::Text;
 use model_json::tree::{Member, Tree};
+use object_outcomes::texts::{copies, text_list};
 use std::alloc::{AllocError, Global};
 
 /// What is told of the creates or updates that were refused, under the texts of the call.

@@ -6,15 +6,15 @@ ghost use Rattle.model_json.specs.Data.{Data};
 ghost use Rattle.model_json.specs.TreeData.{pair_of};
 ghost use Rattle.object_outcomes.specs.Judging.{IsAllowed, ground_in, operation_in};
 
-use object_outcomes::created_ids::CreatedIds;
-use object_outcomes::judge::{judge, judge_create};
-use object_outcomes::operation::Operation;
-use object_outcomes::setting::{Judged, Setting};
 use cal_model::outcome::Outcome;
 use cal_model::view::AccountView;
 use model_history::entry::Change;
 use model_json::text::Text;
 use model_json::tree::Member;
+use object_outcomes::created_ids::CreatedIds;
+use object_outcomes::judge::{judge, judge_create};
+use object_outcomes::operation::Operation;
+use object_outcomes::setting::{Judged, Setting};
 use std::alloc::{AllocError, Global};
 use time_text::object_id_text;
 
