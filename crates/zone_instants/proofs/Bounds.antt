@@ -1,5 +1,5 @@
 -- How far an instant lies from its wall second.
-use Rattle.std.proofs.Common.{◌≡◌, ◌∙◌, ℕ, ℤ, pos, neg_ℤ, ◌+◌, ◌*◌, ◌≤◌, ◌+ℤ◌, ◌-ℤ◌, ◌*ℤ◌, ◌≤ℤ◌, ◌<ℤ◌, not, Bool, true, false, int_lt, nat_le, Option, Some, None, List, [], ◌∷◌, cond, if◌then◌else◌, refl, sym, ap, arith, length}
+use Rattle.std.proofs.Common.{◌≡◌, ◌∙◌, ℕ, ℤ, pos, neg_ℤ, ◌+◌, ◌*◌, ◌≤◌, ◌+ℤ◌, ◌-ℤ◌, ◌*ℤ◌, ◌≤ℤ◌, ◌<ℤ◌, not, Bool, true, false, int_lt, nat_le, Option, Some, None, List, [], ◌∷◌, cond, if◌then◌else◌, refl, sym, ap, arith, length, IfSome}
 use Rattle.std.specs.Int.{int_min}
 use Rattle.std.specs.Prelude.{option_map, option_and_then, ◌&&◌, ◌==◌}
 use Rattle.std.proofs.lemmas.Int.{ints, clamps}
@@ -76,3 +76,7 @@ dst_near (Some d) = d.offset.in_range
 -- a rule that jiff holds has such offsets
 pub rule_near : (tz : TimeZone) → HasNearOffsets (tz_view tz)
 rule_near tz = (tz.std_offset.in_range, dst_near tz.dst)
+
+pub near_some : (tz : TimeZone) (w : ℤ) (o : Option ℤ) → o ≡ instant_in (tz_view tz) w → IfSome o (λ t. IsWithin 93599 (t -ℤ w))
+near_some tz w None e = tt
+near_some tz w (Some t) e = instant_near (tz_view tz) w t (rule_near tz) (sym e)

@@ -38,7 +38,7 @@ ahead-is : (std dst : Offset) (w : ℤ × ℤ) (at : ℤ) → shown_of (ambiguou
 ahead-is std dst w at = simp shown_if
 
 by-is : (std dst : Offset) (w : ℤ × ℤ) (at : ℤ) → shown_of (ambiguous_by std dst w at) ≡ shown_by std.seconds dst.seconds w at
-by-is std dst w at = simp (shown_if, behind-is, ahead-is)
+by-is std dst w at = simp shown_if
 
 at_by-is : (std : Offset) (d : Dst) (dt : DateTime) → shown_of (ambiguous_at_by std (Some d) dt) ≡ shown_by std.seconds (dst_view d).seconds (change_at dt.date.year (dst_view d).start, change_at dt.date.year (dst_view d).finish) (civil_nanos dt)
 at_by-is std d dt =

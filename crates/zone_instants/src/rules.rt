@@ -1,5 +1,6 @@
 //! The rules of time zones.
 ghost use Rattle.std.specs.Prelude.{◌≡◌, ◌↔◌, option_map, IsSome, IsTrue};
+ghost use Rattle.std.specs.Str.{bytes_eq};
 ghost use Rattle.jiff_tz.specs.PosixText.{tz_view};
 ghost use Rattle.model_site.specs.TimeZones.{has_zone};
 ghost use Rattle.model_window.specs.ZoneRules.{listed_rule, rule_of, utc_rule};
@@ -24,12 +25,18 @@ fn utc() -> TimeZone
     }
 }
 
+fn is_named(zone: &Zone, name: &Text) -> bool
+    ensures { result ≡ bytes_eq zone.now.0 name.now }
+{
+    zone.name().as_str() == name.as_str()
+}
+
 // The rule of the first zone of a name.
 fn listed_rule(zones: &[Zone], name: &Text) -> Option<TimeZone>
     ensures { option_map tz_view result ≡ listed_rule zones.now name.now }
 {
     for zone in zones {
-        if zone.name().as_str() == name.as_str() {
+        if is_named(zone, name) {
             return Some(*zone.rule());
         }
     }
