@@ -1,0 +1,7 @@
+//! The busy periods of a window.
+#![tactic(auto)]
+
+mod busy;
+mod periods;
+
+pub use busy::Busy;
