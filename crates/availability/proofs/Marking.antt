@@ -1,26 +1,21 @@
 -- What the occurrences of a series add to the busy instants.
-use Rattle.std.proofs.Common.{not, set, ◌&&◌, ◌||◌, ◌≡◌, ℕ, zero, suc, ◌+◌, ◌<◌, ◌≤◌, ◌⊎◌, inl, inr, Bool, true, false, refl, sym, ap, ◌∙◌, arith, ℤ, pos, ◌≤ℤ◌, ◌<ℤ◌, ◌-ℤ◌, int_lt, int_le, List, [], ◌∷◌, ◌++◌, length, drop, take, take_all, get_or, slice_get, Option, Some, add-one, append_assoc}
+use Rattle.std.proofs.Common.{◌&&◌, ◌||◌, ◌≡◌, ℕ, zero, suc, ◌+◌, ◌≤◌, ◌⊎◌, inl, inr, Bool, true, refl, sym, ap, ◌∙◌, arith, ℤ, int_lt, List, [], ◌∷◌, length, take, take_all, slice_get, Option, Some}
 use Rattle.std.specs.List.{list_any}
-use Rattle.std.specs.Prelude.{remove, Result, Ok, Err, OnOk, OnErr}
-use Rattle.std.specs.Option.{option_map_or}
-use Rattle.std.proofs.lemmas.List.{drop_all, drop_more, take_more, set_split}
 use Rattle.std.proofs.lemmas.List.Folds.{list_any_more}
-use Rattle.std.proofs.lemmas.Int.{by_lt_z, ints, clamps}
 use Rattle.std.proofs.lemmas.Option.{get_or_from_slice_get, slice_get_within}
 use Rattle.jiff_core.proofs.SignedLemmas.{signed_arith}
 use Rattle.jiff_core.specs.Calendar.{IsWithin}
-use Rattle.availability.specs.Merging.{common, hull, is_reached, is_touched, limits, merged, with_period}
 use Rattle.model_series.specs.declared.occurrence.Occurrence.{Occurrence}
 use Rattle.model_series.specs.declared.series.Series.{Series}
 use Rattle.model_series.specs.Occurrences.{IsOccurrence}
 use Rattle.model_window.specs.declared.period.Period.{Period}
 use Rattle.model_window.specs.declared.window.Window.{Window}
-use Rattle.model_window.specs.BusyPeriods.{are_runs, covers, is_busy, occupies, IsOccupied}
+use Rattle.model_window.specs.BusyPeriods.{covers, is_busy, occupies, IsOccupied}
 use Rattle.model_window.specs.Windows.{is_within, meets, span_at, IsMeeting}
 use Rattle.occurrence_windows.specs.Listing.{IsListOf}
 use Rattle.occurrence_windows.proofs.Meeting.{AreInstants, showing_near, shows, some_holds}
-use Rattle.rule_expand.proofs.Places.{and_both, is_late, late_is}
-use Rattle.rule_expand.proofs.Sets.{both_and, int_le_is, is_int_le, not_true, or_cases, or_left, or_right, same_truth}
+use Rattle.rule_expand.proofs.Places.{and_both, is_late}
+use Rattle.rule_expand.proofs.Sets.{both_and, or_cases, or_left, or_right}
 use Rattle.availability.proofs.Runs.{covers_is, or_join}
 
 -- one more occurrence

@@ -1,26 +1,10 @@
 -- The place of one more period, and the merging from there on.
-use Rattle.std.proofs.Common.{not, set, ◌&&◌, ◌||◌, ◌≡◌, ℕ, zero, suc, ◌+◌, ◌<◌, ◌≤◌, ◌⊎◌, inl, inr, Bool, true, false, refl, sym, ap, ◌∙◌, arith, ℤ, pos, ◌≤ℤ◌, ◌<ℤ◌, ◌-ℤ◌, int_lt, int_le, List, [], ◌∷◌, ◌++◌, length, drop, take, take_all, get_or, slice_get, Option, Some, add-one, append_assoc}
-use Rattle.std.specs.List.{list_any}
-use Rattle.std.specs.Prelude.{remove, Result, Ok, Err, OnOk, OnErr}
-use Rattle.std.specs.Option.{option_map_or}
+use Rattle.std.proofs.Common.{not, set, ◌≡◌, ℕ, zero, suc, ◌+◌, ◌<◌, ◌≤◌, Bool, true, false, refl, sym, ap, ◌∙◌, arith, int_lt, List, [], ◌∷◌, ◌++◌, length, drop, take, get_or, add-one, append_assoc}
+use Rattle.std.specs.Prelude.{remove}
 use Rattle.std.proofs.lemmas.List.{drop_all, drop_more, take_more, set_split}
-use Rattle.std.proofs.lemmas.List.Folds.{list_any_more}
-use Rattle.std.proofs.lemmas.Int.{by_lt_z, ints, clamps}
-use Rattle.std.proofs.lemmas.Option.{slice_get-get_or}
-use Rattle.jiff_core.proofs.SignedLemmas.{signed_arith}
-use Rattle.jiff_core.specs.Calendar.{IsWithin}
-use Rattle.availability.specs.Merging.{common, hull, is_reached, is_touched, limits, merged, with_period}
-use Rattle.model_series.specs.declared.occurrence.Occurrence.{Occurrence}
-use Rattle.model_series.specs.declared.series.Series.{Series}
-use Rattle.model_series.specs.Occurrences.{IsOccurrence}
+use Rattle.availability.specs.Merging.{hull, is_reached, is_touched, merged, with_period}
 use Rattle.model_window.specs.declared.period.Period.{Period}
-use Rattle.model_window.specs.declared.window.Window.{Window}
-use Rattle.model_window.specs.BusyPeriods.{are_runs, covers, is_busy, occupies, IsOccupied}
-use Rattle.model_window.specs.Windows.{is_within, meets, span_at, IsMeeting}
-use Rattle.occurrence_windows.specs.Listing.{IsListOf}
-use Rattle.occurrence_windows.proofs.Meeting.{AreInstants, showing_near, shows, some_holds}
-use Rattle.rule_expand.proofs.Places.{and_both, is_late, late_is}
-use Rattle.rule_expand.proofs.Sets.{both_and, int_le_is, is_int_le, not_true, or_cases, or_left, or_right, same_truth}
+use Rattle.rule_expand.proofs.Places.{late_is}
 use Rattle.availability.proofs.Runs.{int_lt_not, merged_last, merged_more, merged_stop, period_here, period_last, period_pass}
 
 not_is : (b : Bool) → not b ≡ true → b ≡ false

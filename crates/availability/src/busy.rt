@@ -90,12 +90,7 @@ impl Busy {
     ///
     /// An instant of the window is busy afterwards where it was before, and where an occurrence takes it up. For want of memory
     /// some of the occurrences may be left out.
-    pub fn add(
-        &mut self,
-        alloc: Global,
-        series: &Series,
-        rule: &TimeZone,
-    ) -> Result<(), AllocError>
+    pub fn add(&mut self, alloc: Global, series: &Series, rule: &TimeZone) -> Result<(), AllocError>
         ensures window { self.new.window ≡ self.old.window }
         ensures busy { OnOk result ((u : ℤ) → is_busy self.new.periods.items u ≡ true
             ↔ ((is_busy self.old.periods.items u ≡ true)

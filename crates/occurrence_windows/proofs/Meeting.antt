@@ -1,5 +1,5 @@
 -- Occurrences that meet a window.
-use Rattle.std.proofs.Common.{◌≡◌, ℕ, ◌+◌, ◌*◌, ◌≤◌, inl, inr, Bool, true, false, refl, sym, ap, arith, ℤ, pos, ◌≤ℤ◌, ◌<ℤ◌, ◌+ℤ◌, ◌-ℤ◌, int_lt, Option, Some, None, IsTrue}
+use Rattle.std.proofs.Common.{◌≡◌, ℕ, ◌*◌, ◌≤◌, inl, inr, Bool, true, false, refl, sym, ap, arith, ℤ, pos, ◌≤ℤ◌, ◌<ℤ◌, ◌+ℤ◌, ◌-ℤ◌, int_lt, Option, Some, None, IsTrue}
 use Rattle.std.specs.Prelude.{option_map, is_some}
 use Rattle.std.specs.Option.{option_map_or}
 use Rattle.std.proofs.lemmas.Int.{by_lt_z}
@@ -12,7 +12,7 @@ use Rattle.model_series.specs.Occurrences.{IsOccurrence}
 use Rattle.model_series.specs.SeriesLimits.{wall_seconds}
 use Rattle.model_window.specs.declared.period.Period.{Period}
 use Rattle.model_window.specs.declared.window.Window.{Window}
-use Rattle.model_window.specs.Windows.{HasMeeting, IsMeeting, period_of, span_at, is_within, meets}
+use Rattle.model_window.specs.Windows.{IsMeeting, period_of, span_at, is_within, meets}
 use Rattle.occurrence_windows.specs.Bounds.{first_wall, last_wall}
 use Rattle.occurrence_windows.specs.Listing.{IsAfter}
 use Rattle.occurrence_windows.proofs.Walking.{after_trans, beyond, after_by, after_cases, sooner_after}

@@ -1,13 +1,12 @@
 -- What occurrences of a series keep: there is one of a start and a recurrence id, and how long they last.
-use Rattle.std.proofs.Common.{◌≡◌, ◌∙◌, ℕ, zero, suc, ◌+◌, ◌*◌, ◌≤◌, ◌<◌, ℤ, pos, ◌≤ℤ◌, ◌⊎◌, inl, inr, Bool, true, false, not, ◌&&◌, ◌||◌, nat_le, List, [], ◌∷◌, length, slice_get, Option, Some, None, refl, sym, ap, arith}
-use Rattle.std.specs.List.{list_all, list_any}
+use Rattle.std.proofs.Common.{◌≡◌, ◌∙◌, ℕ, zero, suc, ◌+◌, ◌≤◌, ◌<◌, ℤ, inl, inr, Bool, true, false, not, nat_le, List, [], ◌∷◌, length, slice_get, Option, Some, None, refl, sym, ap, arith}
 use Rattle.std.specs.Ordering.{int_eq}
 use Rattle.std.proofs.lemmas.Bool.Decides.{Decides-int_eq, nat_tests}
 use Rattle.std.proofs.lemmas.Option.{slice_get_within}
 use Rattle.jiff_core.proofs.SignedLemmas.{signed_arith}
 use Rattle.jiff_core.specs.Calendar.{IsWithin}
 use Rattle.jiff_tz.specs.declared.posix.TimeZone.{TimeZone}
-use Rattle.jiff_tz.specs.PosixText.{TzText, tz_view}
+use Rattle.jiff_tz.specs.PosixText.{tz_view}
 use Rattle.model_event.specs.Values.{is_showing}
 use Rattle.model_series.specs.declared.exception.Exception.{Exception}
 use Rattle.model_series.specs.declared.exception.Span.{Span}
@@ -22,7 +21,7 @@ use Rattle.occurrence_windows.proofs.Meeting.{AreInstants, AreSingle, IsShowing}
 use Rattle.rule_expand.proofs.Least.{by_lt}
 use Rattle.rule_expand.proofs.Places.{and_both}
 use Rattle.rule_expand.proofs.Regular.{named_near}
-use Rattle.rule_expand.proofs.Sets.{int_le_is, or_left, or_right, not_true}
+use Rattle.rule_expand.proofs.Sets.{int_le_is, or_left, or_right}
 use Rattle.zone_instants.proofs.Bounds.{instant_near, rule_near}
 use Rattle.zone_instants.proofs.Shown.{instant-none}
 
@@ -67,16 +66,16 @@ pub single : (s : Series) → AreSingle (IsOccurrence s)
 unfolding span_of
 single s a b m n e f = elim m [
   | inl own ↦ elim n [
-      | inl other ↦ λ i. record { rid = f i; start = e i; length = (own.length ∙ sym other.length) i; occupying = (own.occupying ∙ sym other.occupying) i }
-      | inr put ↦ let named = names s.exceptions put.0 put.1.0 a.rid put.1.1.0 (rid_of put.1.0 b put.1.1.1 ∙ sym f) in let free = own.free in cc
-    ]
+    | inl other ↦ λ i. record { rid = f i; start = e i; length = (own.length ∙ sym other.length) i; occupying = (own.occupying ∙ sym other.occupying) i }
+    | inr put ↦ let named = names s.exceptions put.0 put.1.0 a.rid put.1.1.0 (rid_of put.1.0 b put.1.1.1 ∙ sym f) in let free = own.free in cc
+  ]
   | inr set ↦ elim n [
-      | inl other ↦ let named = names s.exceptions set.0 set.1.0 b.rid set.1.1.0 (rid_of set.1.0 a set.1.1.1 ∙ f) in let free = other.free in cc
-      | inr put ↦
-          let same = same_item s.exceptions set.0 put.0 set.1.0 put.1.0 s.exceptions_distinct set.1.1.0 put.1.1.0 (rid_of set.1.0 a set.1.1.1 ∙ f ∙ sym (rid_of put.1.0 b put.1.1.1)) in
-          let spans = spans_same set.1.0 put.1.0 a b same set.1.1.1 put.1.1.1 in
-          λ i. record { rid = f i; start = e i; length = (spans i).length; occupying = (spans i).occupying }
-    ]
+    | inl other ↦ let named = names s.exceptions set.0 set.1.0 b.rid set.1.1.0 (rid_of set.1.0 a set.1.1.1 ∙ f) in let free = other.free in cc
+    | inr put ↦
+        let same = same_item s.exceptions set.0 put.0 set.1.0 put.1.0 s.exceptions_distinct set.1.1.0 put.1.1.0 (rid_of set.1.0 a set.1.1.1 ∙ f ∙ sym (rid_of put.1.0 b put.1.1.1)) in
+        let spans = spans_same set.1.0 put.1.0 a b same set.1.1.1 put.1.1.1 in
+        λ i. record { rid = f i; start = e i; length = (spans i).length; occupying = (spans i).occupying }
+  ]
 ]
 
 pub rids_near : (s : Series) (o : Occurrence) → IsOccurrence s o → IsWithin 400000000000 o.start → IsWithin 400000000000 o.rid
@@ -125,9 +124,9 @@ pub lasts_more : (xs : List Exception) (i n m : ℕ) (d : Exception) → n ≤ m
 lasts_more xs i n m d le at here old k x lt e = by_lt k i
     (λ below. up_to_more n m x.replaced le (old k x below e))
     (λ above. let same : k ≡ i = omega (arith, above, lt) in
-        let e2 = rw same at e in
-        let is : d ≡ x = cc in
-        rw is at here)
+    let e2 = rw same at e in
+    let is : d ≡ x = cc in
+    rw is at here)
 
 pub lasts_all : (xs : List Exception) (i n : ℕ) → length xs ≤ i → ((k : ℕ) (x : Exception) → k < i → slice_get xs k ≡ Some x → lasts_up_to n x.replaced ≡ true)
     → (k : ℕ) (x : Exception) → slice_get xs k ≡ Some x → lasts_up_to n x.replaced ≡ true

@@ -128,7 +128,8 @@ pub fn matches_window(series: &Series, rule: &TimeZone, window: Window) -> bool
         window,
         first_wall(window, longest(series)),
         None,
-    ).is_some()
+    )
+    .is_some()
 }
 
 fn copied(o: &Occurrence) -> Occurrence

@@ -1,12 +1,9 @@
 -- How far an instant lies from its wall second.
-use Rattle.std.proofs.Common.{◌≡◌, ◌∙◌, ℕ, ℤ, pos, neg_ℤ, ◌+◌, ◌*◌, ◌≤◌, ◌+ℤ◌, ◌-ℤ◌, ◌*ℤ◌, ◌≤ℤ◌, ◌<ℤ◌, not, Bool, true, false, int_lt, nat_le, Option, Some, None, List, [], ◌∷◌, cond, if◌then◌else◌, refl, sym, ap, arith, length, IfSome}
-use Rattle.std.specs.Int.{int_min}
-use Rattle.std.specs.Prelude.{option_map, option_and_then, ◌&&◌, ◌==◌}
+use Rattle.std.proofs.Common.{◌≡◌, ℤ, ◌-ℤ◌, not, Bool, true, false, int_lt, Option, Some, None, if◌then◌else◌, refl, sym, arith, IfSome}
+use Rattle.std.specs.Prelude.{option_map}
 use Rattle.std.proofs.lemmas.Int.{ints, clamps}
-use Rattle.std.proofs.lemmas.Bool.Decides.{nat_tests}
 use Rattle.jiff_core.proofs.SignedLemmas.{signed_arith}
 use Rattle.jiff_core.specs.Calendar.{IsWithin}
-use Rattle.jiff_tz.specs.declared.posix.Day.{Day}
 use Rattle.jiff_tz.specs.declared.posix.Dst.{Dst}
 use Rattle.jiff_tz.specs.declared.posix.TimeZone.{TimeZone}
 use Rattle.jiff_tz.specs.PosixText.{TzText, DstText, tz_view, dst_view}

@@ -1,5 +1,5 @@
 -- The first zone of a name in a list.
-use Rattle.std.proofs.Common.{◌≡◌, ◌∙◌, ℕ, zero, suc, ◌+◌, ◌≤◌, Bool, true, false, List, [], ◌∷◌, length, drop, slice_get, Option, Some, None, refl, sym, ap, arith}
+use Rattle.std.proofs.Common.{◌≡◌, ◌∙◌, ℕ, ◌+◌, ◌≤◌, true, false, List, [], ◌∷◌, length, drop, slice_get, Some, None, refl, sym, ap}
 use Rattle.std.specs.Str.{bytes_eq}
 use Rattle.std.proofs.lemmas.List.{drop_all, drop_more}
 use Rattle.std.proofs.lemmas.Option.{slice_get_within, get_or_from_slice_get}

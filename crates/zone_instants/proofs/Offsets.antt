@@ -1,12 +1,12 @@
 -- The offsets that a rule's text can give.
-use Rattle.std.proofs.Common.{◌≡◌, ◌∙◌, ℕ, ℤ, pos, neg_ℤ, ◌+◌, ◌*◌, ◌≤◌, ◌+ℤ◌, ◌-ℤ◌, ◌≤ℤ◌, not, Bool, true, false, nat_le, Option, Some, None, List, [], ◌∷◌, cond, if◌then◌else◌, refl, sym, ap, subst, arith, length}
+use Rattle.std.proofs.Common.{◌≡◌, ℕ, ℤ, pos, ◌+◌, ◌*◌, ◌≤◌, ◌+ℤ◌, ◌-ℤ◌, not, Bool, true, false, nat_le, Option, Some, None, List, if◌then◌else◌, refl, ap, subst, arith, length}
 use Rattle.std.specs.Prelude.{option_and_then, ◌==◌}
 use Rattle.std.proofs.lemmas.Bool.Decides.{nat_tests}
 use Rattle.jiff_core.proofs.SignedLemmas.{signed_arith}
 use Rattle.jiff_core.specs.Calendar.{IsWithin}
 use Rattle.jiff_tz.specs.PosixText.{TzText, DstText}
 use Rattle.jiff_tz.specs.PosixReader.{Read, at_most, begins, begins_name, signed_by, read_byte, read_sign, read_up_to_two, read_exactly_two, read_sixty, read_after_minute, read_minutes, read_offset, read_abbreviation, read_day_time, read_dst, read_tz, read_whole, tz_text}
-use Rattle.zone_instants.proofs.Bounds.{IsNearDst, HasNearOffsets, instant_near}
+use Rattle.zone_instants.proofs.Bounds.{HasNearOffsets, instant_near}
 use Rattle.model_window.specs.Clocks.{instant_in}
 
 after : {A B : Type 0} (o : Option A) (f : A → Option B) (y : B) → option_and_then f o ≡ Some y → (x : A) × ((o ≡ Some x) × (f x ≡ Some y))
@@ -42,23 +42,23 @@ sixty text p h = let x = after (read_byte 58 text) (λ rest. at_most 59 (read_ex
 after_minute : (m p : ℕ × List ℕ) → m.0 ≤ 59 → read_after_minute m ≡ Some p → p.0 ≤ 3599
 after_minute m p le h = by_bool (begins 58 m.1)
     (λ t. let k = rw t at h in
-        let x = after (read_sixty m.1) (λ s. Some (m.0 * 60 + s.0, s.1)) p k in
-        let s = sixty m.1 x.0 x.1.0 in
-        let e = ap (λ (q : ℕ × List ℕ). q.0) (same (m.0 * 60 + x.0.0, x.0.1) p x.1.1) in
-        omega (arith, s, e, le))
+    let x = after (read_sixty m.1) (λ s. Some (m.0 * 60 + s.0, s.1)) p k in
+    let s = sixty m.1 x.0 x.1.0 in
+    let e = ap (λ (q : ℕ × List ℕ). q.0) (same (m.0 * 60 + x.0.0, x.0.1) p x.1.1) in
+    omega (arith, s, e, le))
     (λ f. let k = rw f at h in
-        let e = ap (λ (q : ℕ × List ℕ). q.0) (same (m.0 * 60, m.1) p k) in
-        omega (arith, e, le))
+    let e = ap (λ (q : ℕ × List ℕ). q.0) (same (m.0 * 60, m.1) p k) in
+    omega (arith, e, le))
 
 minutes : (text : List ℕ) (p : ℕ × List ℕ) → read_minutes text ≡ Some p → p.0 ≤ 3599
 unfolding read_minutes
 minutes text p h = by_bool (begins 58 text)
     (λ t. let k = rw t at h in
-        let x = after (read_sixty text) read_after_minute p k in
-        after_minute x.0 p (sixty text x.0 x.1.0) x.1.1)
+    let x = after (read_sixty text) read_after_minute p k in
+    after_minute x.0 p (sixty text x.0 x.1.0) x.1.1)
     (λ f. let k = rw f at h in
-        let e = ap (λ (q : ℕ × List ℕ). q.0) (same (0, text) p k) in
-        omega (arith, e))
+    let e = ap (λ (q : ℕ × List ℕ). q.0) (same (0, text) p k) in
+    omega (arith, e))
 
 signed_near : (b : Bool) (n k : ℕ) → n ≤ k → IsWithin k (signed_by b n)
 signed_near true n k h = omega (arith, signed_arith, h)
@@ -79,11 +79,11 @@ offset_near text p h =
 dst_offset : (std : ℤ) (text : List ℕ) (q : ℤ × List ℕ) → IsWithin 89999 std → (if begins 44 text then Some (std +ℤ pos 3600, text) else read_offset text) ≡ Some q → IsWithin 93599 q.0
 dst_offset std text q near h = by_bool (begins 44 text)
     (λ t. let k = rw t at h in
-        let s = ap (λ (p : ℤ × List ℕ). p.0) (same (std +ℤ pos 3600, text) q k) in
-        (omega (arith, signed_arith, near, s), omega (arith, signed_arith, near, s)))
+    let s = ap (λ (p : ℤ × List ℕ). p.0) (same (std +ℤ pos 3600, text) q k) in
+    (omega (arith, signed_arith, near, s), omega (arith, signed_arith, near, s)))
     (λ f. let k = rw f at h in
-        let s = offset_near text q k in
-        (omega (arith, signed_arith, s), omega (arith, signed_arith, s)))
+    let s = offset_near text q k in
+    (omega (arith, signed_arith, s), omega (arith, signed_arith, s)))
 
 dst_near : (std : ℤ) (text : List ℕ) (p : DstText × List ℕ) → IsWithin 89999 std → read_dst std text ≡ Some p → IsWithin 93599 p.0.seconds
 unfolding read_dst
@@ -106,13 +106,13 @@ tz_near text p h =
     let std = offset_near name.0.1 offset.0 offset.1.0 in
     let wide : IsWithin 93599 offset.0.0 = (omega (arith, signed_arith, std), omega (arith, signed_arith, std)) in
     by_bool (begins_name offset.0.1)
-        (λ t. let k = rw t at offset.1.1 in
-            let dst = after (read_dst offset.0.0 offset.0.1) _ p k in
-            let e = ap (λ (q : TzText × List ℕ). q.0) (same (tz_text name.0.0 offset.0.0 (Some dst.0.0), dst.0.1) p dst.1.1) in
-            subst (λ (z : TzText). HasNearOffsets z) e (wide, dst_near offset.0.0 offset.0.1 dst.0 std dst.1.0))
-        (λ f. let k = rw f at offset.1.1 in
-            let e = ap (λ (q : TzText × List ℕ). q.0) (same (tz_text name.0.0 offset.0.0 None, offset.0.1) p k) in
-            subst (λ (z : TzText). HasNearOffsets z) e (wide, tt))
+    (λ t. let k = rw t at offset.1.1 in
+    let dst = after (read_dst offset.0.0 offset.0.1) _ p k in
+    let e = ap (λ (q : TzText × List ℕ). q.0) (same (tz_text name.0.0 offset.0.0 (Some dst.0.0), dst.0.1) p dst.1.1) in
+    subst (λ (z : TzText). HasNearOffsets z) e (wide, dst_near offset.0.0 offset.0.1 dst.0 std dst.1.0))
+    (λ f. let k = rw f at offset.1.1 in
+    let e = ap (λ (q : TzText × List ℕ). q.0) (same (tz_text name.0.0 offset.0.0 None, offset.0.1) p k) in
+    subst (λ (z : TzText). HasNearOffsets z) e (wide, tt))
 
 -- a rule that is read has offsets of less than 26 hours
 pub text_near : (text : List ℕ) (tz : TzText) → read_whole text ≡ Some tz → HasNearOffsets tz

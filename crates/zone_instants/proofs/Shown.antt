@@ -1,6 +1,4 @@
-use Rattle.std.proofs.Common.{◌≡◌, ◌∙◌, ℕ, ℤ, pos, ◌+ℤ◌, ◌-ℤ◌, ◌*ℤ◌, not, Bool, true, false, int_lt, Option, Some, None, List, cond, if◌then◌else◌, refl, sym, ap, arith, ◌<ℤ◌, ◌≤ℤ◌, unsigned_abs}
-use Rattle.std.specs.Prelude.{Result, option_map}
-use Rattle.std.proofs.lemmas.Int.{ints}
+use Rattle.std.proofs.Common.{◌≡◌, ◌∙◌, ℤ, pos, ◌-ℤ◌, ◌*ℤ◌, Bool, true, false, Option, Some, None, if◌then◌else◌, refl, ap, arith}
 use Rattle.jiff_core.specs.declared.Offset.{Offset}
 use Rattle.jiff_core.specs.declared.civil.datetime.DateTime.{DateTime}
 use Rattle.jiff_core.specs.DateTime.{civil_nanos}
@@ -9,18 +7,16 @@ use Rattle.jiff_tz.specs.declared.posix.TimeZone.{TimeZone}
 use Rattle.jiff_tz.specs.declared.posix.DayTime.{DayTime}
 use Rattle.jiff_tz.specs.declared.posix.Dst.{Dst}
 use Rattle.jiff_tz.specs.declared.ambiguous.AmbiguousOffset.{AmbiguousOffset}
-use Rattle.jiff_tz.specs.declared.ambiguous.AmbiguousOffset.TheVariants.{Unambiguous, Gap, Fold}
-use Rattle.jiff_tz.specs.Ambiguous.{compatible_offset}
-use Rattle.jiff_tz.specs.PosixText.{TzText, DstText, tz_view, dst_view, day_time_view}
-use Rattle.jiff_tz.specs.PosixRule.{rule_nanos, ambiguous_at, ambiguous_at_by, ambiguous_by, ambiguous_behind, ambiguous_ahead, in_window, in_span, saturating_add, saturating_sub, shift_between}
+use Rattle.jiff_tz.specs.PosixText.{TzText, tz_view, dst_view, day_time_view}
+use Rattle.jiff_tz.specs.PosixRule.{rule_nanos, ambiguous_at, ambiguous_at_by, ambiguous_by, ambiguous_behind, ambiguous_ahead}
 use Rattle.jiff_core.specs.Date.{epoch_day}
 use Rattle.jiff_core.proofs.DateTimeLemmas.{civil_nanos-parts, time_nanos_bound}
-use Rattle.model_time.specs.CivilDay.{year_of, IsDateOf}
+use Rattle.model_time.specs.CivilDay.{year_of}
 use Rattle.model_time.specs.Walls.{day_of_wall}
 use Rattle.civil_days.proofs.JiffLemmas.{IsDateOf_later}
 use Rattle.civil_days.proofs.DateLemmas.{one_date}
 use Rattle.model_event.specs.Values.{is_showing}
-use Rattle.model_window.specs.Clocks.{Shown, Once, Twice, Never, change_at, shown_behind, shown_ahead, shown_by, shown_at, instant_in, instant_of}
+use Rattle.model_window.specs.Clocks.{change_at, shown_behind, shown_ahead, shown_by, shown_at, instant_in, instant_of}
 use Rattle.zone_instants.specs.Offsets.{shown_of}
 
 shown_if : (b : Bool) (x y : AmbiguousOffset) → shown_of (if b then x else y) ≡ (if b then shown_of x else shown_of y)
@@ -43,7 +39,7 @@ by-is std dst w at = simp shown_if
 at_by-is : (std : Offset) (d : Dst) (dt : DateTime) → shown_of (ambiguous_at_by std (Some d) dt) ≡ shown_by std.seconds (dst_view d).seconds (change_at dt.date.year (dst_view d).start, change_at dt.date.year (dst_view d).finish) (civil_nanos dt)
 at_by-is std d dt =
     rw (change-is dt.date.year d.rule.start, change-is dt.date.year d.rule.end)
-        (by-is std d.offset (change_at dt.date.year (day_time_view d.rule.start), change_at dt.date.year (day_time_view d.rule.end)) (civil_nanos dt))
+    (by-is std d.offset (change_at dt.date.year (day_time_view d.rule.start), change_at dt.date.year (day_time_view d.rule.end)) (civil_nanos dt))
 
 at-is_by : (tz : TimeZone) (o : Option Dst) (dt : DateTime) → tz.dst ≡ o → shown_of (ambiguous_at_by tz.std_offset o dt) ≡ shown_at (tz_view tz) dt.date.year (civil_nanos dt)
 unfolding shown_at

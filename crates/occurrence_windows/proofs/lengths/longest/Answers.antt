@@ -1,4 +1,3 @@
-use Rattle.std.proofs.Common.{◌≤◌}
 use Rattle.occurrence_windows.proofs.Series.{longest_lasts}
 use Rattle.occurrence_windows.proofs.lengths.longest.Goals as goal
 

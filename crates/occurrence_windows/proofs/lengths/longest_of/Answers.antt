@@ -1,4 +1,4 @@
-use Rattle.std.proofs.Common.{◌≡◌, ◌≤◌, ◌<◌, ℕ, arith, length, refl}
+use Rattle.std.proofs.Common.{arith, length, refl}
 use Rattle.std.proofs.lemmas.Option.{slice_get_read}
 use Rattle.occurrence_windows.proofs.Series.{lasts_more, lasts_all, short_at}
 use Rattle.occurrence_windows.proofs.lengths.longest_of.Goals as goal

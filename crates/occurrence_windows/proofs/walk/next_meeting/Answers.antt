@@ -1,4 +1,4 @@
-use Rattle.std.proofs.Common.{arith, ◌∙◌, sym, ◌≤ℤ◌, ◌<ℤ◌}
+use Rattle.std.proofs.Common.{◌∙◌, sym}
 use Rattle.jiff_tz.specs.PosixText.{tz_view}
 use Rattle.model_series.specs.Occurrences.{IsOccurrence}
 use Rattle.model_window.specs.Clocks.{instant_in}
