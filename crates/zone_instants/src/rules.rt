@@ -1,5 +1,6 @@
 //! The rules of time zones.
 ghost use Rattle.std.specs.Prelude.{◌≡◌, ◌↔◌, option_map, IsSome, IsTrue};
+ghost use Rattle.std.specs.List.{list_any};
 ghost use Rattle.std.specs.Str.{bytes_eq};
 ghost use Rattle.jiff_tz.specs.PosixText.{tz_view};
 ghost use Rattle.model_site.specs.TimeZones.{has_zone};
@@ -33,7 +34,8 @@ fn is_named(zone: &Zone, name: &Text) -> bool
 
 // The rule of the first zone of a name.
 fn listed_rule(zones: &[Zone], name: &Text) -> Option<TimeZone>
-    ensures { option_map tz_view result ≡ listed_rule zones.now name.now }
+    ensures rule { option_map tz_view result ≡ listed_rule zones.now name.now }
+    ensures there { IsSome result ↔ IsTrue (list_any (λ z. bytes_eq z.0 name.now) zones.now) }
 {
     for zone in zones {
         if is_named(zone, name) {
@@ -46,7 +48,8 @@ fn listed_rule(zones: &[Zone], name: &Text) -> Option<TimeZone>
 /// The rule of the zone of a name, as `jiff` reads it, or `None` where no zone has the name. `Etc/UTC` always is there.
 /// Takes no memory.
 pub fn rule_of(zones: &Zones, name: &Text) -> Option<TimeZone>
-    ensures { option_map tz_view result ≡ rule_of zones.now name.now }
+    ensures rule { option_map tz_view result ≡ rule_of zones.now name.now }
+    ensures there { IsSome result ↔ IsTrue (has_zone zones.now name.now) }
 {
     if name.as_str() == UTC {
         return Some(utc());
