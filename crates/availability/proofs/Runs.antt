@@ -46,7 +46,7 @@ pub record IsRun (low high : ℤ) (p : Period) (ps : List Period) : Type 0 where
   pub within : p.to ≤ℤ high
   pub rest : are_runs p.to high ps ≡ true
 
-run_of : (low high : ℤ) (p : Period) (ps : List Period) → are_runs low high (p ∷ ps) ≡ true → IsRun low high p ps
+pub run_of : (low high : ℤ) (p : Period) (ps : List Period) → are_runs low high (p ∷ ps) ≡ true → IsRun low high p ps
 unfolding are_runs
 run_of low high p ps h =
     let a = and_both (int_lt low p.from) _ h in

@@ -1,5 +1,5 @@
 -- The first zone of a name in a list.
-use Rattle.std.proofs.Common.{◌≡◌, ◌∙◌, ℕ, ◌+◌, ◌≤◌, true, false, List, [], ◌∷◌, length, drop, take, take_all, get_or, slice_get, ◌||◌, Some, None, refl, sym, ap, zero, suc, Bool, Option}
+use Rattle.std.proofs.Common.{◌≡◌, ◌∙◌, ℕ, ◌+◌, ◌≤◌, true, false, List, [], ◌∷◌, length, drop, take, take_all, get_or, slice_get, ◌||◌, Some, None, refl, sym, ap, zero, suc, Bool}
 use Rattle.std.specs.List.{list_any}
 use Rattle.std.proofs.lemmas.List.Folds.{list_any_more}
 use Rattle.std.specs.Str.{bytes_eq}
