@@ -4,26 +4,26 @@ use Rattle.std.proofs.lemmas.Int.{by_lt_z}
 use Rattle.jiff_core.proofs.SignedLemmas.{signed_arith}
 use Rattle.availability.proofs.Runs.{covers_is, is_covers, run_of}
 use Rattle.model_window.specs.declared.period.Period.{Period}
-use Rattle.model_window.specs.BusyPeriods.{are_runs, covers, is_busy}
+use Rattle.model_window.specs.BusyPeriods.{are_runs, lies_in, is_busy}
 use Rattle.rule_expand.proofs.Sets.{or_cases, or_left, or_right, same_truth}
 
 busy_late : (low high u : ℤ) (ps : List Period) → are_runs low high ps ≡ true → is_busy ps u ≡ true → low <ℤ u
 busy_late low high u [] r h = cc
 busy_late low high u (p ∷ ps) r h =
     let x = run_of low high p ps r in
-    elim (or_cases (covers u p) (is_busy ps u) h) [
+    elim (or_cases (lies_in u p) (is_busy ps u) h) [
       | inl here ↦ let y = covers_is u p here in omega (arith, signed_arith, x.after, y.0)
       | inr rest ↦ let y = busy_late p.to high u ps x.rest rest in omega (arith, signed_arith, x.after, x.full, y)
     ]
 
 -- the first instant of the first period is the first that is busy
 begins : (low high : ℤ) (p : Period) (ps : List Period) → are_runs low high (p ∷ ps) ≡ true → is_busy (p ∷ ps) p.from ≡ true
-begins low high p ps r = let x = run_of low high p ps r in or_left (covers p.from p) _ (is_covers p.from p (omega (arith, signed_arith)) x.full)
+begins low high p ps r = let x = run_of low high p ps r in or_left (lies_in p.from p) _ (is_covers p.from p (omega (arith, signed_arith)) x.full)
 
 none_before : (low high u : ℤ) (p : Period) (ps : List Period) → are_runs low high (p ∷ ps) ≡ true → is_busy (p ∷ ps) u ≡ true → p.from ≤ℤ u
 none_before low high u p ps r h =
     let x = run_of low high p ps r in
-    elim (or_cases (covers u p) (is_busy ps u) h) [
+    elim (or_cases (lies_in u p) (is_busy ps u) h) [
       | inl here ↦ (covers_is u p here).0
       | inr rest ↦ let y = busy_late p.to high u ps x.rest rest in omega (arith, signed_arith, x.full, y)
     ]
@@ -32,7 +32,7 @@ none_before low high u p ps r h =
 ended : (low high : ℤ) (p : Period) (ps : List Period) → are_runs low high (p ∷ ps) ≡ true → is_busy (p ∷ ps) p.to ≡ true → ⊥
 ended low high p ps r h =
     let x = run_of low high p ps r in
-    elim (or_cases (covers p.to p) (is_busy ps p.to) h) [
+    elim (or_cases (lies_in p.to p) (is_busy ps p.to) h) [
       | inl here ↦ let y = covers_is p.to p here in omega (arith, signed_arith, y.1)
       | inr rest ↦ let y = busy_late p.to high p.to ps x.rest rest in omega (arith, signed_arith, y)
     ]
@@ -41,14 +41,14 @@ ends_by : (low high : ℤ) (p q : Period) (ps qs : List Period) → are_runs low
 ends_by low high p q ps qs r e same =
     let x = run_of low high p ps r in
     by_lt_z p.to q.to
-    (λ lt. absurd (ended low high p ps r (same ∙ or_left (covers p.to q) _ (is_covers p.to q (omega (arith, signed_arith, x.full, e)) lt))))
+    (λ lt. absurd (ended low high p ps r (same ∙ or_left (lies_in p.to q) _ (is_covers p.to q (omega (arith, signed_arith, x.full, e)) lt))))
     (λ le. le)
 
 rest_busy : (low high u : ℤ) (p q : Period) (ps qs : List Period) → are_runs low high (p ∷ ps) ≡ true → p.to ≡ q.to → is_busy (p ∷ ps) u ≡ is_busy (q ∷ qs) u → is_busy ps u ≡ true → is_busy qs u ≡ true
 rest_busy low high u p q ps qs r f same h =
     let x = run_of low high p ps r in
     let late = busy_late p.to high u ps x.rest h in
-    elim (or_cases (covers u q) (is_busy qs u) (sym same ∙ or_right (covers u p) _ h)) [
+    elim (or_cases (lies_in u q) (is_busy qs u) (sym same ∙ or_right (lies_in u p) _ h)) [
       | inl here ↦ let y = covers_is u q here in absurd (omega (arith, signed_arith, late, y.1, f))
       | inr rest ↦ rest
     ]

@@ -5,7 +5,7 @@ use Rattle.std.proofs.lemmas.Int.{by_lt_z, ints, clamps}
 use Rattle.jiff_core.proofs.SignedLemmas.{signed_arith}
 use Rattle.availability.specs.Merging.{common, hull, merged, with_period}
 use Rattle.model_window.specs.declared.period.Period.{Period}
-use Rattle.model_window.specs.BusyPeriods.{are_runs, covers, is_busy}
+use Rattle.model_window.specs.BusyPeriods.{are_runs, lies_in, is_busy}
 use Rattle.rule_expand.proofs.Places.{and_both, is_late, late_is}
 use Rattle.rule_expand.proofs.Sets.{both_and, int_le_is, is_int_le, not_true, or_cases, or_left, or_right, same_truth}
 
@@ -98,26 +98,26 @@ pub or_join : (a b d : Bool) → ((a || b) || d) ≡ (a || (b || d))
 or_join true b d = refl
 or_join false b d = refl
 
-pub covers_is : (u : ℤ) (p : Period) → covers u p ≡ true → (p.from ≤ℤ u) × (u <ℤ p.to)
+pub covers_is : (u : ℤ) (p : Period) → lies_in u p ≡ true → (p.from ≤ℤ u) × (u <ℤ p.to)
 covers_is u p h = let x = and_both (int_le p.from u) _ h in (int_le_is p.from u x.0, late_is u p.to x.1)
 
-pub is_covers : (u : ℤ) (p : Period) → p.from ≤ℤ u → u <ℤ p.to → covers u p ≡ true
+pub is_covers : (u : ℤ) (p : Period) → p.from ≤ℤ u → u <ℤ p.to → lies_in u p ≡ true
 is_covers u p h k = both_and (int_le p.from u) _ (is_int_le p.from u h) (is_late u p.to k)
 
-covers_hull : (u : ℤ) (p s : Period) → p.from <ℤ p.to → s.from <ℤ s.to → s.from ≤ℤ p.to → p.from ≤ℤ s.to → covers u (hull p s) ≡ (covers u s || covers u p)
-covers_hull u p s a b d e = same_truth (covers u (hull p s)) (covers u s || covers u p)
+lies_in_hull : (u : ℤ) (p s : Period) → p.from <ℤ p.to → s.from <ℤ s.to → s.from ≤ℤ p.to → p.from ≤ℤ s.to → lies_in u (hull p s) ≡ (lies_in u s || lies_in u p)
+lies_in_hull u p s a b d e = same_truth (lies_in u (hull p s)) (lies_in u s || lies_in u p)
     (λ h. let x = covers_is u (hull p s) h in
     by_lt_z u s.from
-    (λ early. or_right (covers u s) (covers u p) (is_covers u p (omega (arith, ints, clamps, x.0, early)) (omega (arith, ints, clamps, d, early))))
+    (λ early. or_right (lies_in u s) (lies_in u p) (is_covers u p (omega (arith, ints, clamps, x.0, early)) (omega (arith, ints, clamps, d, early))))
     (λ late. by_lt_z u s.to
-    (λ inside. or_left (covers u s) (covers u p) (is_covers u s late inside))
-    (λ past. or_right (covers u s) (covers u p) (is_covers u p (omega (arith, ints, clamps, e, past)) (omega (arith, ints, clamps, x.1, past))))))
-    (λ h. elim (or_cases (covers u s) (covers u p) h) [
+    (λ inside. or_left (lies_in u s) (lies_in u p) (is_covers u s late inside))
+    (λ past. or_right (lies_in u s) (lies_in u p) (is_covers u p (omega (arith, ints, clamps, e, past)) (omega (arith, ints, clamps, x.1, past))))))
+    (λ h. elim (or_cases (lies_in u s) (lies_in u p) h) [
       | inl l ↦ let x = covers_is u s l in is_covers u (hull p s) (omega (arith, ints, clamps, x.0)) (omega (arith, ints, clamps, x.1))
       | inr r ↦ let x = covers_is u p r in is_covers u (hull p s) (omega (arith, ints, clamps, x.0)) (omega (arith, ints, clamps, x.1))
     ])
 
-merged_busy : (low high u : ℤ) (s : Period) (ps : List Period) → s.from <ℤ s.to → s.from ≤ℤ low → are_runs low high ps ≡ true → is_busy (merged s ps) u ≡ (covers u s || is_busy ps u)
+merged_busy : (low high u : ℤ) (s : Period) (ps : List Period) → s.from <ℤ s.to → s.from ≤ℤ low → are_runs low high ps ≡ true → is_busy (merged s ps) u ≡ (lies_in u s || is_busy ps u)
 merged_busy low high u s [] b le h = ap (λ x. is_busy x u) (merged_last s)
 merged_busy low high u s (p ∷ ps) b le h =
     let r = run_of low high p ps h in
@@ -125,41 +125,41 @@ merged_busy low high u s (p ∷ ps) b le h =
     (λ stop. ap (λ x. is_busy x u) (merged_stop s p ps stop))
     (λ touch. ap (λ x. is_busy x u) (merged_more s p ps touch)
     ∙ merged_busy p.to high u (hull p s) ps (omega (arith, ints, clamps, b, r.full)) (omega (arith, ints, clamps, r.full)) r.rest
-    ∙ ap (λ x. x || is_busy ps u) (covers_hull u p s r.full b (omega (arith, signed_arith, le, r.after, r.full)) touch)
-    ∙ or_join (covers u s) (covers u p) (is_busy ps u))
+    ∙ ap (λ x. x || is_busy ps u) (lies_in_hull u p s r.full b (omega (arith, signed_arith, le, r.after, r.full)) touch)
+    ∙ or_join (lies_in u s) (lies_in u p) (is_busy ps u))
 
-pub busy_with : (low high u : ℤ) (s : Period) (ps : List Period) → s.from <ℤ s.to → are_runs low high ps ≡ true → is_busy (with_period s ps) u ≡ (covers u s || is_busy ps u)
+pub busy_with : (low high u : ℤ) (s : Period) (ps : List Period) → s.from <ℤ s.to → are_runs low high ps ≡ true → is_busy (with_period s ps) u ≡ (lies_in u s || is_busy ps u)
 busy_with low high u s [] b h = ap (λ x. is_busy x u) (period_last s)
 busy_with low high u s (p ∷ ps) b h =
     let r = run_of low high p ps h in
     by_lt_z p.to s.from
-    (λ past. ap (λ x. is_busy x u) (period_pass s p ps past) ∙ ap (λ x. covers u p || x) (busy_with p.to high u s ps b r.rest) ∙ or_swap (covers u p) (covers u s) (is_busy ps u))
+    (λ past. ap (λ x. is_busy x u) (period_pass s p ps past) ∙ ap (λ x. lies_in u p || x) (busy_with p.to high u s ps b r.rest) ∙ or_swap (lies_in u p) (lies_in u s) (is_busy ps u))
     (λ near. ap (λ x. is_busy x u) (period_here s p ps near) ∙ by_lt_z s.to p.from
     (λ stop. ap (λ x. is_busy x u) (merged_stop s p ps stop))
     (λ touch. ap (λ x. is_busy x u) (merged_more s p ps touch)
     ∙ merged_busy p.to high u (hull p s) ps (omega (arith, ints, clamps, b, r.full)) (omega (arith, ints, clamps, r.full)) r.rest
-    ∙ ap (λ x. x || is_busy ps u) (covers_hull u p s r.full b near touch)
-    ∙ or_join (covers u s) (covers u p) (is_busy ps u)))
+    ∙ ap (λ x. x || is_busy ps u) (lies_in_hull u p s r.full b near touch)
+    ∙ or_join (lies_in u s) (lies_in u p) (is_busy ps u)))
 
 int_lt_both : (a b : Bool) → (a ≡ true → b ≡ true → ⊥) → (a && b) ≡ false
 int_lt_both true b h = not_true b (h refl)
 int_lt_both false b h = refl
 
 -- the part of a period in the window
-common_empty : (u : ℤ) (p w : Period) → int_le (common p w).to (common p w).from ≡ true → (covers u w && covers u p) ≡ false
-common_empty u p w e = int_lt_both (covers u w) (covers u p) (λ h k.
+common_empty : (u : ℤ) (p w : Period) → int_le (common p w).to (common p w).from ≡ true → (lies_in u w && lies_in u p) ≡ false
+common_empty u p w e = int_lt_both (lies_in u w) (lies_in u p) (λ h k.
     let le = int_le_is (common p w).to (common p w).from e in
     let x = covers_is u w h in
     let y = covers_is u p k in
     omega (arith, ints, clamps, x, y, le))
 
-common_covers : (u : ℤ) (p w : Period) → covers u (common p w) ≡ (covers u w && covers u p)
-common_covers u p w = same_truth (covers u (common p w)) (covers u w && covers u p)
+common_covers : (u : ℤ) (p w : Period) → lies_in u (common p w) ≡ (lies_in u w && lies_in u p)
+common_covers u p w = same_truth (lies_in u (common p w)) (lies_in u w && lies_in u p)
     (λ h. let x = covers_is u (common p w) h in
-    both_and (covers u w) (covers u p)
+    both_and (lies_in u w) (lies_in u p)
     (is_covers u w (omega (arith, ints, clamps, x.0)) (omega (arith, ints, clamps, x.1)))
     (is_covers u p (omega (arith, ints, clamps, x.0)) (omega (arith, ints, clamps, x.1))))
-    (λ h. let z = and_both (covers u w) (covers u p) h in
+    (λ h. let z = and_both (lies_in u w) (lies_in u p) h in
     let x = covers_is u w z.0 in
     let y = covers_is u p z.1 in
     is_covers u (common p w) (omega (arith, ints, clamps, x.0, y.0)) (omega (arith, ints, clamps, x.1, y.1)))
@@ -174,8 +174,8 @@ or_turned true false = refl
 or_turned false true = refl
 or_turned false false = refl
 
-pub marks_nothing : (p w : Period) (ps : List Period) → int_le (common p w).to (common p w).from ≡ true → (u : ℤ) → is_busy ps u ≡ (is_busy ps u || (covers u w && covers u p))
-marks_nothing p w ps e = λ u. or_none (is_busy ps u) (covers u w && covers u p) (common_empty u p w e)
+pub marks_nothing : (p w : Period) (ps : List Period) → int_le (common p w).to (common p w).from ≡ true → (u : ℤ) → is_busy ps u ≡ (is_busy ps u || (lies_in u w && lies_in u p))
+marks_nothing p w ps e = λ u. or_none (is_busy ps u) (lies_in u w && lies_in u p) (common_empty u p w e)
 
 pub int_le_not : (a b : ℤ) → int_le a b ≡ false → b <ℤ a
 int_le_not a b h = grind (arith, signed_arith)
@@ -184,10 +184,10 @@ pub marks_runs : (p w : Period) (ps : List Period) → int_le (common p w).to (c
 marks_runs p w ps e h = runs_with (w.from -ℤ pos 1) w.to (common p w) ps (omega (arith, ints, clamps)) (int_le_not (common p w).to (common p w).from e) (omega (arith, ints, clamps)) h
 
 pub marks_busy : (p w : Period) (ps : List Period) → int_le (common p w).to (common p w).from ≡ false → are_runs (w.from -ℤ pos 1) w.to ps ≡ true
-    → (u : ℤ) → is_busy (with_period (common p w) ps) u ≡ (is_busy ps u || (covers u w && covers u p))
+    → (u : ℤ) → is_busy (with_period (common p w) ps) u ≡ (is_busy ps u || (lies_in u w && lies_in u p))
 marks_busy p w ps e h = λ u.
     busy_with (w.from -ℤ pos 1) w.to u (common p w) ps (int_le_not (common p w).to (common p w).from e) h
-    ∙ or_turned (covers u (common p w)) (is_busy ps u)
+    ∙ or_turned (lies_in u (common p w)) (is_busy ps u)
     ∙ ap (λ b. is_busy ps u || b) (common_covers u p w)
 
 pub runs_either : {E : Type 0} (r : Result (Unit {0}) E) (low high : ℤ) (s : Period) (old next : List Period) → OnOk r (next ≡ with_period s old) → OnErr r (next ≡ old)

@@ -13,9 +13,9 @@ abbrev pub common : Period → Period → Period
 common p q = record { from = int_max p.from q.from; to = int_min p.to q.to }
 
 -- the first period begins by the end of the one that comes
-abbrev pub is_touched : Period → List Period → Bool
-is_touched s [] = false
-is_touched s (p ∷ ps) = not (int_lt s.to p.from)
+abbrev pub touches_first : Period → List Period → Bool
+touches_first s [] = false
+touches_first s (p ∷ ps) = not (int_lt s.to p.from)
 
 -- the first period, if there is one, doesn't end before the one that comes
 abbrev pub is_reached : Period → List Period → Bool

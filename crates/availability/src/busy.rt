@@ -4,7 +4,7 @@ ghost use Rattle.jiff_core.specs.Calendar.{IsWithin};
 ghost use Rattle.jiff_tz.specs.PosixText.{tz_view};
 ghost use Rattle.availability.specs.Merging.{limits};
 ghost use Rattle.model_series.specs.SeriesLimits.{wall_seconds};
-ghost use Rattle.model_window.specs.BusyPeriods.{are_runs, covers, is_busy, occupies, IsOccupied};
+ghost use Rattle.model_window.specs.BusyPeriods.{are_runs, lies_in, is_busy, occupies, IsOccupied};
 ghost use Rattle.model_window.specs.Clocks.{instant_in};
 
 use crate::periods::{add_period, common_of, is_empty};
@@ -60,7 +60,7 @@ impl Busy {
     // Adds what a period has of the window.
     fn mark(&mut self, p: Period) -> Result<(), AllocError>
         ensures window { self.new.window ≡ self.old.window }
-        ensures busy { OnOk result ((u : ℤ) → is_busy self.new.periods.items u ≡ (is_busy self.old.periods.items u || (covers u self.old.window && covers u p))) }
+        ensures busy { OnOk result ((u : ℤ) → is_busy self.new.periods.items u ≡ (is_busy self.old.periods.items u || (lies_in u self.old.window && lies_in u p))) }
     {
         let cut = common_of(p, self.window);
         if is_empty(cut) {
@@ -75,7 +75,7 @@ impl Busy {
         requires length { wall_seconds o.now.length ≤ 31622400 }
         ensures window { self.new.window ≡ self.old.window }
         ensures busy { OnOk result ((u : ℤ) → is_busy self.new.periods.items u
-            ≡ (is_busy self.old.periods.items u || (covers u self.old.window && occupies (instant_in (tz_view rule.now)) u o.now))) }
+            ≡ (is_busy self.old.periods.items u || (lies_in u self.old.window && occupies (instant_in (tz_view rule.now)) u o.now))) }
     {
         if !o.occupying {
             return Ok(());
@@ -94,7 +94,7 @@ impl Busy {
         ensures window { self.new.window ≡ self.old.window }
         ensures busy { OnOk result ((u : ℤ) → is_busy self.new.periods.items u ≡ true
             ↔ ((is_busy self.old.periods.items u ≡ true)
-            ⊎ ((covers u self.old.window ≡ true) × IsOccupied series.now (instant_in (tz_view rule.now)) u))) }
+            ⊎ ((lies_in u self.old.window ≡ true) × IsOccupied series.now (instant_in (tz_view rule.now)) u))) }
     {
         let occurrences = expanded(alloc, series, rule, limits_of(self.window))?;
         for o in &occurrences {

@@ -1,6 +1,6 @@
 //! Lists of periods that don't touch.
 ghost use Rattle.std.specs.Prelude.{◌≡◌, ◌++◌, ◌<◌, ◌≤◌, int_le, int_lt, true, OnErr, OnOk, drop, take, length};
-ghost use Rattle.availability.specs.Merging.{common, hull, is_reached, is_touched, merged, with_period};
+ghost use Rattle.availability.specs.Merging.{common, hull, is_reached, touches_first, merged, with_period};
 
 use model_window::period::Period;
 use std::alloc::AllocError;
@@ -38,7 +38,7 @@ fn place_of(periods: &[Period], span: Period) -> usize
 
 // Whether the period at a place begins by the end of the one that comes.
 fn touches(periods: &[Period], i: usize, span: Period) -> bool
-    ensures { result ≡ is_touched span (drop i periods.now) }
+    ensures { result ≡ touches_first span (drop i periods.now) }
 {
     i < periods.len() && !ends_before(span, periods[i])
 }
@@ -46,7 +46,7 @@ fn touches(periods: &[Period], i: usize, span: Period) -> bool
 // Merges the periods from a place on into the one that comes, as far as they touch it.
 fn merge_at(periods: &mut Vec<Period>, i: usize, span: Period)
     requires within { i < length periods.old.items }
-    requires touches { is_touched span (drop i periods.old.items) ≡ true }
+    requires touches { touches_first span (drop i periods.old.items) ≡ true }
     ensures { periods.new.items ≡ take i periods.old.items ++ merged span (drop i periods.old.items) }
 {
     let mut s = hull_of(periods[i], span);

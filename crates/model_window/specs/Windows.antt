@@ -20,16 +20,16 @@ unfoldable pub span_at : (ℤ → Option ℤ) → Occurrence → Option Period
 span_at at o = period_of (at o.start) (option_map (λ t. t +ℤ pos o.length.seconds) (at (o.start +ℤ pos (86400 * o.length.days))))
 
 -- the period ends after the one limit and begins before the other; a limit that isn't there asks nothing
-unfoldable pub is_within : Window → Period → Bool
-is_within w p = option_map_or (λ a. int_lt a p.to) w.after true && option_map_or (λ b. int_lt p.from b) w.before true
+unfoldable pub keeps_limits : Window → Period → Bool
+keeps_limits w p = option_map_or (λ a. int_lt a p.to) w.after true && option_map_or (λ b. int_lt p.from b) w.before true
 
 -- an occurrence meets the window; one without both instants meets none
-unfoldable pub meets : (ℤ → Option ℤ) → Window → Occurrence → Bool
-meets at w o = option_map_or (is_within w) (span_at at o) false
+unfoldable pub meets_window : (ℤ → Option ℤ) → Window → Occurrence → Bool
+meets_window at w o = option_map_or (keeps_limits w) (span_at at o) false
 
 -- an occurrence of the series does
 abbrev pub IsMeeting : Series → (ℤ → Option ℤ) → Window → Occurrence → Type 0
-IsMeeting s at w o = IsOccurrence s o × (meets at w o ≡ true)
+IsMeeting s at w o = IsOccurrence s o × (meets_window at w o ≡ true)
 
 abbrev pub HasMeeting : Series → (ℤ → Option ℤ) → Window → Type 0
 HasMeeting s at w = (o : Occurrence) × IsMeeting s at w o

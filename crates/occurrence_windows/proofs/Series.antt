@@ -23,7 +23,7 @@ use Rattle.rule_expand.proofs.Places.{and_both}
 use Rattle.rule_expand.proofs.Regular.{named_near}
 use Rattle.rule_expand.proofs.Sets.{int_le_is, or_left, or_right}
 use Rattle.zone_instants.proofs.Bounds.{instant_near, rule_near}
-use Rattle.zone_instants.proofs.Shown.{instant-none}
+use Rattle.zone_instants.proofs.Readings.{instant-none}
 
 names : (xs : List Exception) (k : ℕ) (x : Exception) (w : ℤ) → slice_get xs k ≡ Some x → x.rid ≡ w → is_named xs w ≡ true
 unfolding is_named

@@ -4,7 +4,7 @@ ghost use Rattle.jiff_core.specs.Calendar.{IsWithin};
 ghost use Rattle.jiff_tz.specs.PosixText.{tz_view};
 ghost use Rattle.model_series.specs.SeriesLimits.{wall_seconds};
 ghost use Rattle.model_window.specs.Clocks.{instant_in};
-ghost use Rattle.model_window.specs.Windows.{HasMeeting, IsMeeting, is_within, meets};
+ghost use Rattle.model_window.specs.Windows.{HasMeeting, IsMeeting, keeps_limits, meets_window};
 ghost use Rattle.occurrence_windows.specs.Bounds.{first_wall, last_wall, AreNear};
 ghost use Rattle.occurrence_windows.specs.Listing.{IsAfter, IsListOf};
 ghost use Rattle.rule_expand.specs.Later.{IsFirstOf};
@@ -25,9 +25,9 @@ use std::alloc::{AllocError, Global};
 const FARTHEST: i64 = 93_599;
 
 // Whether a period ends after the one limit and begins before the other.
-#[tactic(auto, unfolding(model_window::specs::Windows::is_within))]
-fn is_within(p: Period, window: Window) -> bool
-    ensures { result ≡ is_within window p }
+#[tactic(auto, unfolding(model_window::specs::Windows::keeps_limits))]
+fn keeps_limits(p: Period, window: Window) -> bool
+    ensures { result ≡ keeps_limits window p }
 {
     let ends = match window.after {
         None => true,
@@ -41,15 +41,15 @@ fn is_within(p: Period, window: Window) -> bool
 }
 
 // Whether an occurrence meets the window.
-#[tactic(auto, unfolding(model_window::specs::Windows::meets))]
-fn meets(rule: &TimeZone, o: &Occurrence, window: Window) -> bool
+#[tactic(auto, unfolding(model_window::specs::Windows::meets_window))]
+fn meets_window(rule: &TimeZone, o: &Occurrence, window: Window) -> bool
     requires start { IsWithin 400000000000 o.now.start }
     requires length { wall_seconds o.now.length ≤ 31622400 }
-    ensures { result ≡ meets (instant_in (tz_view rule.now)) window o.now }
+    ensures { result ≡ meets_window (instant_in (tz_view rule.now)) window o.now }
 {
     match span_of(rule, o) {
         None => false,
-        Some(p) => is_within(p, window),
+        Some(p) => keeps_limits(p, window),
     }
 }
 
@@ -109,7 +109,7 @@ pub fn next_meeting(
         if starts_after(&o, &last) {
             return None;
         }
-        if meets(rule, &o, window) {
+        if meets_window(rule, &o, window) {
             return Some(o);
         }
         here = o.start;

@@ -1,5 +1,5 @@
 //! The events of a row: a series in a zone.
-ghost use Rattle.std.specs.Prelude.{◌≡◌, ◌×◌, ◌≤◌, [], ◌∷◌, IfOk, IfSome, length as count, true};
+ghost use Rattle.std.specs.Prelude.{◌≡◌, ◌≤◌, IfOk, IfSome, length as count, true};
 ghost use Rattle.model_series.specs.SeriesLimits.{are_distinct, are_in_years, are_short, wall_seconds};
 ghost use Rattle.model_time.specs.Walls.{is_in_years};
 
@@ -16,7 +16,7 @@ use std::alloc::{AllocError, Global};
 
 /// An event: its series, and the rule of its zone.
 #[derive(Drop)]
-pub struct Event {
+pub struct ZonedSeries {
     /// The occurrences.
     pub series: Series,
     /// The rule of the zone.
@@ -25,7 +25,7 @@ pub struct Event {
 
 /// The event that an object is, with `zone`, `start`, `duration`, `rules`, `free`, and in `moved` one override, which has `rid` and may have
 /// `start` and `duration`. None where it isn't one.
-pub fn event_in(alloc: Global, tree: &Tree) -> Result<Option<Event>, AllocError> {
+pub fn event_in(alloc: Global, tree: &Tree) -> Result<Option<ZonedSeries>, AllocError> {
     let Some(rule) = rule_at(alloc, tree)? else {
         return Ok(None);
     };
@@ -40,7 +40,7 @@ pub fn event_in(alloc: Global, tree: &Tree) -> Result<Option<Event>, AllocError>
         Some(moved) => moved_in(alloc, moved)?,
         None => no_exceptions(alloc),
     };
-    Ok(Some(Event {
+    Ok(Some(ZonedSeries {
         series: series_of(start, length, occupying, rules, exceptions),
         rule,
     }))

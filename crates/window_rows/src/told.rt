@@ -3,7 +3,7 @@ ghost use Rattle.std.specs.Prelude.{◌≡◌, true};
 ghost use Rattle.jiff_core.specs.Calendar.{IsWithin};
 ghost use Rattle.model_time.specs.Walls.{is_in_years};
 
-use crate::events::{Event, event_in};
+use crate::events::{ZonedSeries, event_in};
 use crate::fields::{instant_at, rule_at, wall_at, window_at};
 use availability::Busy;
 use model_json::tree::Tree;
@@ -74,7 +74,7 @@ fn push_space(text: &mut String) -> Result<(), AllocError> {
     text.push(' ')
 }
 
-fn told_whether(alloc: Global, event: &Event, within: &Tree) -> Result<Option<String>, AllocError> {
+fn told_whether(alloc: Global, event: &ZonedSeries, within: &Tree) -> Result<Option<String>, AllocError> {
     let answer = if matches_window(&event.series, &event.rule, window_at(within)) {
         "yes"
     } else {
@@ -83,7 +83,7 @@ fn told_whether(alloc: Global, event: &Event, within: &Tree) -> Result<Option<St
     Ok(Some(String::from_str(alloc, answer)?))
 }
 
-fn told_starts(alloc: Global, event: &Event, asked: &Tree) -> Result<Option<String>, AllocError> {
+fn told_starts(alloc: Global, event: &ZonedSeries, asked: &Tree) -> Result<Option<String>, AllocError> {
     let mut text = String::new(alloc);
     for o in &expanded(alloc, &event.series, &event.rule, window_at(asked))? {
         push_space(&mut text)?;

@@ -5,7 +5,7 @@ ghost use Rattle.jiff_core.specs.Timestamp.{IsOffsetSeconds};
 ghost use Rattle.jiff_tz.specs.PosixText.{tz_view};
 ghost use Rattle.model_event.specs.Values.{is_showing};
 ghost use Rattle.model_window.specs.Clocks.{instant_in, instant_of};
-ghost use Rattle.zone_instants.specs.Offsets.{shown_of};
+ghost use Rattle.zone_instants.specs.Offsets.{reading_of};
 
 use jiff_core::civil::DateTime;
 use jiff_tz::AmbiguousOffset;
@@ -34,7 +34,7 @@ fn at_offset(wall: i64, seconds: i32) -> i64
 // The instant by the offsets that a clock shows.
 fn by_offsets(wall: i64, offsets: AmbiguousOffset) -> i64
     requires { is_showing wall ≡ true }
-    ensures { result ≡ instant_of wall (shown_of offsets) }
+    ensures { result ≡ instant_of wall (reading_of offsets) }
 {
     match offsets {
         AmbiguousOffset::Unambiguous { offset } => at_offset(wall, offset.seconds),

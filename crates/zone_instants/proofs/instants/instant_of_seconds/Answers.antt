@@ -1,7 +1,7 @@
 use Rattle.std.proofs.Common.{FitsSigned, w64, rules, sym, ◌∙◌}
 use Rattle.std.proofs.lemmas.Int.{to_z-of_z}
 use Rattle.jiff_tz.specs.PosixText.{tz_view}
-use Rattle.zone_instants.proofs.Shown.{instant-is, instant-none}
+use Rattle.zone_instants.proofs.Readings.{instant-is, instant-none}
 use Rattle.zone_instants.proofs.instants.instant_of_seconds.Goals as goal
 
 pub returns-then-not-is_showing : goal.returns-then-not-is_showing

@@ -1,5 +1,5 @@
 use Rattle.std.proofs.Common.{◌∙◌, sym, ◌||◌, ◌&&◌, pos, ◌-ℤ◌}
-use Rattle.model_window.specs.BusyPeriods.{is_busy, covers}
+use Rattle.model_window.specs.BusyPeriods.{is_busy, lies_in}
 use Rattle.availability.specs.Merging.{common}
 use Rattle.availability.proofs.Runs.{marks_nothing, marks_runs, marks_busy, runs_either, busy_either}
 use Rattle.availability.proofs.busy.Busy.mark.Goals as goal
@@ -23,5 +23,5 @@ pub returns-clause-busy : goal.returns-clause-busy
 returns-clause-busy c =
     let e = rw c.common_of-cut.ensures at (sym c.is_empty.ensures ∙ c.if-is_empty.false) in
     let ok = rw c.common_of-cut.ensures at c.add_period.ensures.ok in
-    busy_either c.add_period.result (common c.args.p c.args.self.now.window) c.args.self.now.periods.items c.add_period.new.periods.items (λ u. is_busy c.args.self.now.periods.items u || (covers u c.args.self.now.window && covers u c.args.p)) ok
+    busy_either c.add_period.result (common c.args.p c.args.self.now.window) c.args.self.now.periods.items c.add_period.new.periods.items (λ u. is_busy c.args.self.now.periods.items u || (lies_in u c.args.self.now.window && lies_in u c.args.p)) ok
     (marks_busy c.args.p c.args.self.now.window c.args.self.now.periods.items e c.args.self.now.runs)
