@@ -1,5 +1,5 @@
 -- Runs are determined by the instants that they cover.
-use Rattle.std.proofs.Common.{◌||◌, ◌≡◌, ◌⊎◌, inl, inr, Bool, true, false, refl, sym, ap, ◌∙◌, subst, arith, ℤ, ◌≤ℤ◌, ◌<ℤ◌, List, [], ◌∷◌}
+use Rattle.std.proofs.Common.{◌≡◌, inl, inr, true, refl, sym, ◌∙◌, subst, arith, ℤ, ◌≤ℤ◌, ◌<ℤ◌, List, [], ◌∷◌}
 use Rattle.std.proofs.lemmas.Int.{by_lt_z}
 use Rattle.jiff_core.proofs.SignedLemmas.{signed_arith}
 use Rattle.availability.proofs.Runs.{covers_is, is_covers, run_of}
@@ -67,5 +67,5 @@ determined low high (p ∷ ps) (q ∷ qs) r s same =
     let x = run_of low high p ps r in
     let y = run_of low high q qs s in
     let tail : ps ≡ qs = determined p.to high ps qs x.rest (subst (λ (z : ℤ). are_runs z high qs ≡ true) (sym f) y.rest) (λ u.
-        same_truth (is_busy ps u) (is_busy qs u) (rest_busy low high u p q ps qs r f (same u)) (rest_busy low high u q p qs ps s (sym f) (sym (same u)))) in
+    same_truth (is_busy ps u) (is_busy qs u) (rest_busy low high u p q ps qs r f (same u)) (rest_busy low high u q p qs ps s (sym f) (sym (same u)))) in
     λ i. record { from = e i; to = f i } ∷ tail i
