@@ -74,7 +74,11 @@ fn push_space(text: &mut String) -> Result<(), AllocError> {
     text.push(' ')
 }
 
-fn told_whether(alloc: Global, event: &ZonedSeries, within: &Tree) -> Result<Option<String>, AllocError> {
+fn told_whether(
+    alloc: Global,
+    event: &ZonedSeries,
+    within: &Tree,
+) -> Result<Option<String>, AllocError> {
     let answer = if matches_window(&event.series, &event.rule, window_at(within)) {
         "yes"
     } else {
@@ -83,7 +87,11 @@ fn told_whether(alloc: Global, event: &ZonedSeries, within: &Tree) -> Result<Opt
     Ok(Some(String::from_str(alloc, answer)?))
 }
 
-fn told_starts(alloc: Global, event: &ZonedSeries, asked: &Tree) -> Result<Option<String>, AllocError> {
+fn told_starts(
+    alloc: Global,
+    event: &ZonedSeries,
+    asked: &Tree,
+) -> Result<Option<String>, AllocError> {
     let mut text = String::new(alloc);
     for o in &expanded(alloc, &event.series, &event.rule, window_at(asked))? {
         push_space(&mut text)?;
