@@ -1,0 +1,4 @@
+pub mod Runs
+pub mod Placing
+pub mod Marking
+pub mod Determined

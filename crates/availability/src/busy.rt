@@ -1,0 +1,105 @@
+//! Busy periods.
+ghost use Rattle.std.specs.Prelude.{◌≡◌, ◌↔◌, ◌⊎◌, ◌≤◌, ◌&&◌, ◌||◌, ℤ, pos, ◌-ℤ◌, true, false, OnOk};
+ghost use Rattle.jiff_core.specs.Calendar.{IsWithin};
+ghost use Rattle.jiff_tz.specs.PosixText.{tz_view};
+ghost use Rattle.availability.specs.Merging.{limits};
+ghost use Rattle.model_series.specs.SeriesLimits.{wall_seconds};
+ghost use Rattle.model_window.specs.BusyPeriods.{are_runs, lies_in, is_busy, occupies, IsOccupied};
+ghost use Rattle.model_window.specs.Clocks.{instant_in};
+
+use crate::periods::{add_period, common_of, is_empty};
+use jiff_tz::posix::TimeZone;
+use model_series::occurrence::Occurrence;
+use model_series::series::Series;
+use model_window::period::Period;
+use model_window::window::Window;
+use occurrence_windows::{expanded, span_of};
+use std::alloc::{AllocError, Global};
+
+/// The busy periods of a window: the maximal runs of its instants at which an occurrence takes up time, in order.
+#[derive(Drop)]
+pub struct Busy {
+    /// The instants that are asked about.
+    pub window: Period,
+    /// The busy periods.
+    pub periods: Vec<Period>,
+    pub ghost runs: { are_runs (window.from -ℤ pos 1) window.to periods.items ≡ true },
+    pub ghost near: { IsWithin 300000000000 window.from × IsWithin 300000000000 window.to },
+}
+
+// What an occurrence meets that has an instant of the window.
+fn limits_of(window: Period) -> Window
+    ensures { result ≡ limits window }
+{
+    Window {
+        after: Some(window.from),
+        before: Some(window.to),
+    }
+}
+
+impl Busy {
+    /// No instant of the window is busy. Takes no memory.
+    pub fn new(alloc: Global, window: Period) -> Busy
+        requires { IsWithin 300000000000 window.from × IsWithin 300000000000 window.to }
+        ensures window { result.window ≡ window }
+        ensures busy { (u : ℤ) → is_busy result.periods.items u ≡ false }
+    {
+        Busy {
+            window,
+            periods: Vec::new(alloc),
+        }
+    }
+
+    /// The busy periods, in order. Takes no memory.
+    pub fn periods(&self) -> &[Period]
+        ensures { result.now ≡ self.now.periods.items }
+    {
+        &self.periods
+    }
+
+    // Adds what a period has of the window.
+    fn mark(&mut self, p: Period) -> Result<(), AllocError>
+        ensures window { self.new.window ≡ self.old.window }
+        ensures busy { OnOk result ((u : ℤ) → is_busy self.new.periods.items u ≡ (is_busy self.old.periods.items u || (lies_in u self.old.window && lies_in u p))) }
+    {
+        let cut = common_of(p, self.window);
+        if is_empty(cut) {
+            return Ok(());
+        }
+        add_period(&mut self.periods, cut)
+    }
+
+    // Adds what an occurrence takes up of the window.
+    fn mark_occurrence(&mut self, rule: &TimeZone, o: &Occurrence) -> Result<(), AllocError>
+        requires start { IsWithin 400000000000 o.now.start }
+        requires length { wall_seconds o.now.length ≤ 31622400 }
+        ensures window { self.new.window ≡ self.old.window }
+        ensures busy { OnOk result ((u : ℤ) → is_busy self.new.periods.items u
+            ≡ (is_busy self.old.periods.items u || (lies_in u self.old.window && occupies (instant_in (tz_view rule.now)) u o.now))) }
+    {
+        if !o.occupying {
+            return Ok(());
+        }
+        match span_of(rule, o) {
+            None => Ok(()),
+            Some(p) => self.mark(p),
+        }
+    }
+
+    /// Adds what the occurrences of a series take up of the window, in a zone of this rule.
+    ///
+    /// An instant of the window is busy afterwards where it was before, and where an occurrence takes it up. For want of memory
+    /// some of the occurrences may be left out.
+    pub fn add(&mut self, alloc: Global, series: &Series, rule: &TimeZone) -> Result<(), AllocError>
+        ensures window { self.new.window ≡ self.old.window }
+        ensures busy { OnOk result ((u : ℤ) → is_busy self.new.periods.items u ≡ true
+            ↔ ((is_busy self.old.periods.items u ≡ true)
+            ⊎ ((lies_in u self.old.window ≡ true) × IsOccupied series.now (instant_in (tz_view rule.now)) u))) }
+    {
+        let occurrences = expanded(alloc, series, rule, limits_of(self.window))?;
+        for o in &occurrences {
+            self.mark_occurrence(rule, o)?;
+        }
+        Ok(())
+    }
+}

@@ -1,0 +1,4 @@
+pub mod Clocks
+pub mod ZoneRules
+pub mod Windows
+pub mod BusyPeriods

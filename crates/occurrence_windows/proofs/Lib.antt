@@ -1,0 +1,4 @@
+pub mod Walking
+pub mod Meeting
+pub mod Listing
+pub mod Series

@@ -1,0 +1,150 @@
+-- What occurrences of a series keep: there is one of a start and a recurrence id, and how long they last.
+use Rattle.std.proofs.Common.{◌≡◌, ◌∙◌, ℕ, zero, suc, ◌+◌, ◌≤◌, ◌<◌, ℤ, inl, inr, Bool, true, false, not, nat_le, List, [], ◌∷◌, length, slice_get, Option, Some, None, refl, sym, ap, arith}
+use Rattle.std.specs.Ordering.{int_eq}
+use Rattle.std.proofs.lemmas.Bool.Decides.{Decides-int_eq, nat_tests}
+use Rattle.std.proofs.lemmas.Option.{slice_get_within}
+use Rattle.jiff_core.proofs.SignedLemmas.{signed_arith}
+use Rattle.jiff_core.specs.Calendar.{IsWithin}
+use Rattle.jiff_tz.specs.declared.posix.TimeZone.{TimeZone}
+use Rattle.jiff_tz.specs.PosixText.{tz_view}
+use Rattle.model_event.specs.Values.{is_showing}
+use Rattle.model_series.specs.declared.exception.Exception.{Exception}
+use Rattle.model_series.specs.declared.exception.Span.{Span}
+use Rattle.model_series.specs.declared.occurrence.Occurrence.{Occurrence}
+use Rattle.model_series.specs.declared.series.Series.{Series}
+use Rattle.model_series.specs.Occurrences.{IsOccurrence, IsReplacement}
+use Rattle.model_series.specs.SeriesLimits.{are_distinct, are_short, is_named, is_span_short, wall_seconds}
+use Rattle.model_time.specs.declared.length.Length.{Length}
+use Rattle.model_window.specs.Clocks.{instant_in}
+use Rattle.occurrence_windows.specs.Bounds.{lasts_up_to}
+use Rattle.occurrence_windows.proofs.Meeting.{AreInstants, AreSingle, IsShowing}
+use Rattle.rule_expand.proofs.Least.{by_lt}
+use Rattle.rule_expand.proofs.Places.{and_both}
+use Rattle.rule_expand.proofs.Regular.{named_near}
+use Rattle.rule_expand.proofs.Sets.{int_le_is, or_left, or_right}
+use Rattle.zone_instants.proofs.Bounds.{instant_near, rule_near}
+use Rattle.zone_instants.proofs.Readings.{instant-none}
+
+names : (xs : List Exception) (k : ℕ) (x : Exception) (w : ℤ) → slice_get xs k ≡ Some x → x.rid ≡ w → is_named xs w ≡ true
+unfolding is_named
+names [] k x w h e = cc
+names (y ∷ ys) zero x w h e = let same : y ≡ x = cc in or_left (int_eq y.rid w) _ ((Decides-int_eq y.rid w).1 (ap (λ z. z.rid) same ∙ e))
+names (y ∷ ys) (suc k) x w h e = or_right (int_eq y.rid w) _ (names ys k x w h e)
+
+not_is : (b : Bool) → not b ≡ true → b ≡ false
+not_is true h = sym h
+not_is false h = refl
+
+distinct_parts : (x : Exception) (xs : List Exception) → are_distinct (x ∷ xs) ≡ true → (is_named xs x.rid ≡ false) × (are_distinct xs ≡ true)
+unfolding are_distinct
+distinct_parts x xs h = let z = and_both (not (is_named xs x.rid)) (are_distinct xs) h in (not_is (is_named xs x.rid) z.0, z.1)
+
+same_item : (xs : List Exception) (j k : ℕ) (x y : Exception) → are_distinct xs ≡ true → slice_get xs j ≡ Some x → slice_get xs k ≡ Some y → x.rid ≡ y.rid → x ≡ y
+same_item [] j k x y d h g e = cc
+same_item (z ∷ zs) zero zero x y d h g e = cc
+same_item (z ∷ zs) zero (suc k) x y d h g e = let same : z ≡ x = cc in let named = names zs k y z.rid g (sym (ap (λ w. w.rid) same ∙ e)) in let free = (distinct_parts z zs d).0 in cc
+same_item (z ∷ zs) (suc j) zero x y d h g e = let same : z ≡ y = cc in let named = names zs j x z.rid h (e ∙ sym (ap (λ w. w.rid) same)) in let free = (distinct_parts z zs d).0 in cc
+same_item (z ∷ zs) (suc j) (suc k) x y d h g e = same_item zs j k x y (distinct_parts z zs d).1 h g e
+
+some_same : {A : Type 0} (x y : A) → Some x ≡ Some y → x ≡ y
+some_same x y h = cc
+
+span_of : Occurrence → Span
+span_of o = record { start = o.start; length = o.length; occupying = o.occupying }
+
+spans_same : (x y : Exception) (a b : Occurrence) → x ≡ y → IsReplacement x a → IsReplacement y b → span_of a ≡ span_of b
+unfolding span_of
+spans_same x y a b e h g = some_same (span_of a) (span_of b) (ap (λ z. z.replaced) (sym h ∙ e ∙ g))
+
+rid_of : (x : Exception) (o : Occurrence) → IsReplacement x o → x.rid ≡ o.rid
+rid_of x o h = ap (λ y. y.rid) h
+
+replaced_of : (x : Exception) (o : Occurrence) → IsReplacement x o → x.replaced ≡ Some (record { start = o.start; length = o.length; occupying = o.occupying })
+replaced_of x o h = ap (λ y. y.replaced) h
+
+pub single : (s : Series) → AreSingle (IsOccurrence s)
+unfolding span_of
+single s a b m n e f = elim m [
+  | inl own ↦ elim n [
+    | inl other ↦ λ i. record { rid = f i; start = e i; length = (own.length ∙ sym other.length) i; occupying = (own.occupying ∙ sym other.occupying) i }
+    | inr put ↦ let named = names s.exceptions put.0 put.1.0 a.rid put.1.1.0 (rid_of put.1.0 b put.1.1.1 ∙ sym f) in let free = own.free in cc
+  ]
+  | inr set ↦ elim n [
+    | inl other ↦ let named = names s.exceptions set.0 set.1.0 b.rid set.1.1.0 (rid_of set.1.0 a set.1.1.1 ∙ f) in let free = other.free in cc
+    | inr put ↦
+        let same = same_item s.exceptions set.0 put.0 set.1.0 put.1.0 s.exceptions_distinct set.1.1.0 put.1.1.0 (rid_of set.1.0 a set.1.1.1 ∙ f ∙ sym (rid_of put.1.0 b put.1.1.1)) in
+        let spans = spans_same set.1.0 put.1.0 a b same set.1.1.1 put.1.1.1 in
+        λ i. record { rid = f i; start = e i; length = (spans i).length; occupying = (spans i).occupying }
+  ]
+]
+
+pub rids_near : (s : Series) (o : Occurrence) → IsOccurrence s o → IsWithin 400000000000 o.start → IsWithin 400000000000 o.rid
+rids_near s o m h = elim m [
+  | inl own ↦ let e = own.start in (omega (arith, signed_arith, h, e), omega (arith, signed_arith, h, e))
+  | inr put ↦ named_near s.exceptions s.exceptions_in o.rid (names s.exceptions put.0 put.1.0 o.rid put.1.1.0 (rid_of put.1.0 o put.1.1.1))
+]
+
+lasts_is : (n : ℕ) (l : Length) → nat_le (wall_seconds l) n ≡ true → wall_seconds l ≤ n
+lasts_is n l h = grind (arith, nat_tests)
+
+-- a longest length is one of all occurrences
+pub longest_lasts : (s : Series) (n : ℕ) → wall_seconds s.length ≤ n → ((k : ℕ) (x : Exception) → slice_get s.exceptions k ≡ Some x → lasts_up_to n x.replaced ≡ true)
+    → (o : Occurrence) → IsOccurrence s o → wall_seconds o.length ≤ n
+longest_lasts s n own all o m = elim m [
+  | inl x ↦ let e = ap wall_seconds x.length in omega (arith, own, e)
+  | inr put ↦ let h = all put.0 put.1.0 put.1.1.0 in
+      let k = rw (replaced_of put.1.0 o put.1.1.1) at h in
+      lasts_is n o.length k
+]
+
+short_lasts : (o : Option Span) → is_span_short o ≡ true → lasts_up_to 31622400 o ≡ true
+short_lasts None h = refl
+short_lasts (Some s) h = h
+
+lasts_short : (o : Option Span) → lasts_up_to 31622400 o ≡ true → is_span_short o ≡ true
+lasts_short None h = refl
+lasts_short (Some s) h = h
+
+all_short : (xs : List Exception) (k : ℕ) (x : Exception) → are_short xs ≡ true → slice_get xs k ≡ Some x → lasts_up_to 31622400 x.replaced ≡ true
+all_short [] k x h g = cc
+all_short (y ∷ ys) zero x h g = let same : y ≡ x = cc in short_lasts x.replaced (ap (λ z. is_span_short z.replaced) (sym same) ∙ (and_both (is_span_short y.replaced) _ h).0)
+all_short (y ∷ ys) (suc k) x h g = all_short ys k x (and_both (is_span_short y.replaced) _ h).1 g
+
+pub lengths : (s : Series) (o : Occurrence) → IsOccurrence s o → wall_seconds o.length ≤ 31622400
+lengths s o m = longest_lasts s 31622400 s.length_in (λ k x g. all_short s.exceptions k x s.exceptions_short g) o m
+
+up_to_more : (n m : ℕ) (o : Option Span) → n ≤ m → lasts_up_to n o ≡ true → lasts_up_to m o ≡ true
+up_to_more n m None le h = refl
+up_to_more n m (Some s) le h = grind (arith, nat_tests)
+
+-- a step of the loop over the exceptions
+pub lasts_more : (xs : List Exception) (i n m : ℕ) (d : Exception) → n ≤ m → slice_get xs i ≡ Some d → lasts_up_to m d.replaced ≡ true
+    → ((k : ℕ) (x : Exception) → k < i → slice_get xs k ≡ Some x → lasts_up_to n x.replaced ≡ true)
+    → (k : ℕ) (x : Exception) → k < i + 1 → slice_get xs k ≡ Some x → lasts_up_to m x.replaced ≡ true
+lasts_more xs i n m d le at here old k x lt e = by_lt k i
+    (λ below. up_to_more n m x.replaced le (old k x below e))
+    (λ above. let same : k ≡ i = omega (arith, above, lt) in
+    let e2 = rw same at e in
+    let is : d ≡ x = cc in
+    rw is at here)
+
+pub lasts_all : (xs : List Exception) (i n : ℕ) → length xs ≤ i → ((k : ℕ) (x : Exception) → k < i → slice_get xs k ≡ Some x → lasts_up_to n x.replaced ≡ true)
+    → (k : ℕ) (x : Exception) → slice_get xs k ≡ Some x → lasts_up_to n x.replaced ≡ true
+lasts_all xs i n le old k x e = let w = slice_get_within xs k x e in old k x (omega (arith, w, le)) e
+
+pub short_at : (xs : List Exception) (i : ℕ) (x : Exception) → slice_get xs i ≡ Some x → are_short xs ≡ true → is_span_short x.replaced ≡ true
+short_at xs i x g h = lasts_short x.replaced (all_short xs i x h g)
+
+showing_is : (w : ℤ) → is_showing w ≡ true → IsShowing w
+showing_is w h = let x = and_both _ _ h in (int_le_is _ w x.0, int_le_is w _ x.1)
+
+by_bool : {Q : Type 0} (b : Bool) → (b ≡ true → Q) → (b ≡ false → Q) → Q
+by_bool true f g = f refl
+by_bool false f g = g refl
+
+-- the instants of a rule
+pub rule_instants : (tz : TimeZone) → AreInstants (instant_in (tz_view tz))
+rule_instants tz = record {
+  showing = λ w t e. by_bool (is_showing w) (λ h. showing_is w h) (λ h. let x = instant-none (tz_view tz) w h in cc);
+  near = λ w t e. instant_near (tz_view tz) w t (rule_near tz) e;
+}

@@ -1,0 +1,9 @@
+//! The occurrences of a series that meet a window of instants.
+#![tactic(auto)]
+
+mod lengths;
+mod span;
+mod walk;
+
+pub use span::span_of;
+pub use walk::{expanded, matches_window, next_meeting};

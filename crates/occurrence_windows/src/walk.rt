@@ -1,0 +1,162 @@
+//! The walk from one occurrence that meets a window to the next.
+ghost use Rattle.std.specs.Prelude.{◌≡◌, ◌↔◌, ◌≤◌, int_lt, IfSome, IfOk, IsTrue};
+ghost use Rattle.jiff_core.specs.Calendar.{IsWithin};
+ghost use Rattle.jiff_tz.specs.PosixText.{tz_view};
+ghost use Rattle.model_series.specs.SeriesLimits.{wall_seconds};
+ghost use Rattle.model_window.specs.Clocks.{instant_in};
+ghost use Rattle.model_window.specs.Windows.{HasMeeting, IsMeeting, keeps_limits, meets_window};
+ghost use Rattle.occurrence_windows.specs.Bounds.{first_wall, last_wall, AreNear};
+ghost use Rattle.occurrence_windows.specs.Listing.{IsAfter, IsListOf};
+ghost use Rattle.rule_expand.specs.Later.{IsFirstOf};
+
+use crate::lengths::longest;
+use crate::span::span_of;
+use jiff_tz::posix::TimeZone;
+use model_event::limits::{FIRST_START, LAST_START};
+use model_series::occurrence::Occurrence;
+use model_series::series::Series;
+use model_time::wall::Wall;
+use model_window::period::Period;
+use model_window::window::Window;
+use rule_expand::next_from;
+use std::alloc::{AllocError, Global};
+
+/// The most seconds between a wall second and its instant.
+const FARTHEST: i64 = 93_599;
+
+// Whether a period ends after the one limit and begins before the other.
+#[tactic(auto, unfolding(model_window::specs::Windows::keeps_limits))]
+fn keeps_limits(p: Period, window: Window) -> bool
+    ensures { result ≡ keeps_limits window p }
+{
+    let ends = match window.after {
+        None => true,
+        Some(after) => after < p.to,
+    };
+    let begins = match window.before {
+        None => true,
+        Some(before) => p.from < before,
+    };
+    ends && begins
+}
+
+// Whether an occurrence meets the window.
+#[tactic(auto, unfolding(model_window::specs::Windows::meets_window))]
+fn meets_window(rule: &TimeZone, o: &Occurrence, window: Window) -> bool
+    requires start { IsWithin 400000000000 o.now.start }
+    requires length { wall_seconds o.now.length ≤ 31622400 }
+    ensures { result ≡ meets_window (instant_in (tz_view rule.now)) window o.now }
+{
+    match span_of(rule, o) {
+        None => false,
+        Some(p) => keeps_limits(p, window),
+    }
+}
+
+// No occurrence that meets the window starts before this wall second.
+fn first_wall(window: Window, longest: u64) -> Wall
+    requires near { AreNear window }
+    requires longest { longest ≤ 31622400 }
+    ensures value { result ≡ first_wall window.after longest }
+    ensures near { IsWithin 400000000000 result }
+{
+    match window.after {
+        None => Wall::new(FIRST_START),
+        Some(after) => Wall::new(after - FARTHEST - longest as i64),
+    }
+}
+
+// Nor after this one.
+fn last_wall(window: Window) -> Wall
+    requires near { AreNear window }
+    ensures value { result ≡ last_wall window.before }
+    ensures near { IsWithin 400000000000 result }
+{
+    match window.before {
+        None => Wall::new(LAST_START),
+        Some(before) => Wall::new(before + FARTHEST),
+    }
+}
+
+// Whether an occurrence starts after a wall second.
+fn starts_after(o: &Occurrence, wall: &Wall) -> bool
+    ensures { result ≡ int_lt wall.now o.now.start }
+{
+    wall.seconds() < o.start.seconds()
+}
+
+/// The first occurrence, by start and then recurrence id, that meets the window and starts after `from`, or at it with a
+/// recurrence id after `past`, if that is given. `None` where there is none on all days. Takes no memory.
+pub fn next_meeting(
+    series: &Series,
+    rule: &TimeZone,
+    window: Window,
+    from: Wall,
+    past: Option<Wall>,
+) -> Option<Occurrence>
+    requires near { AreNear window }
+    requires from { IsWithin 400000000000 from }
+    requires past { IfSome past (IsWithin 400000000000) }
+    ensures { IsFirstOf (IsAfter (IsMeeting series.now (instant_in (tz_view rule.now)) window) from past) result }
+{
+    let last = last_wall(window);
+    let mut here = from;
+    let mut seen = past;
+    loop {
+        let Some(o) = next_from(series, here, seen) else {
+            return None;
+        };
+        if starts_after(&o, &last) {
+            return None;
+        }
+        if meets_window(rule, &o, window) {
+            return Some(o);
+        }
+        here = o.start;
+        seen = Some(o.rid);
+    }
+}
+
+/// Whether some one occurrence ends after the one limit and starts before the other. Takes no memory.
+pub fn matches_window(series: &Series, rule: &TimeZone, window: Window) -> bool
+    requires { AreNear window }
+    ensures { IsTrue result ↔ HasMeeting series.now (instant_in (tz_view rule.now)) window }
+{
+    next_meeting(
+        series,
+        rule,
+        window,
+        first_wall(window, longest(series)),
+        None,
+    )
+    .is_some()
+}
+
+fn copied(o: &Occurrence) -> Occurrence
+    ensures { result ≡ o.now }
+{
+    *o
+}
+
+/// All occurrences that meet the window, by start and then recurrence id.
+pub fn expanded(
+    alloc: Global,
+    series: &Series,
+    rule: &TimeZone,
+    window: Window,
+) -> Result<Vec<Occurrence>, AllocError>
+    requires { AreNear window }
+    ensures { IfOk result (λ os. IsListOf (IsMeeting series.now (instant_in (tz_view rule.now)) window) os.items) }
+{
+    let mut list = Vec::new(alloc);
+    let mut here = first_wall(window, longest(series));
+    let mut seen = None;
+    loop {
+        let Some(o) = next_meeting(series, rule, window, here, seen) else {
+            return Ok(list);
+        };
+        list.push(copied(&o))?;
+        here = o.start;
+        seen = Some(o.rid);
+    }
+}

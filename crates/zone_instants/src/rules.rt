@@ -1,0 +1,58 @@
+//! The rules of time zones.
+ghost use Rattle.std.specs.Prelude.{◌≡◌, ◌↔◌, option_map, IsSome, IsTrue};
+ghost use Rattle.std.specs.List.{list_any};
+ghost use Rattle.std.specs.Str.{bytes_eq};
+ghost use Rattle.jiff_tz.specs.PosixText.{tz_view};
+ghost use Rattle.model_site.specs.TimeZones.{has_zone};
+ghost use Rattle.model_window.specs.ZoneRules.{listed_rule, rule_of, utc_rule};
+
+use jiff_core::Offset;
+use jiff_tz::Abbreviation;
+use jiff_tz::posix::TimeZone;
+use model_json::text::Text;
+use zone_table::{Zone, Zones};
+
+/// The name of the zone that is always there.
+const UTC: &str = "Etc/UTC";
+
+// A clock that shows UTC.
+fn utc() -> TimeZone
+    ensures { tz_view result ≡ utc_rule }
+{
+    TimeZone {
+        std_abbrev: Abbreviation::utc(),
+        std_offset: Offset::UTC,
+        dst: None,
+    }
+}
+
+fn is_named(zone: &Zone, name: &Text) -> bool
+    ensures { result ≡ bytes_eq zone.now.0 name.now }
+{
+    zone.name().as_str() == name.as_str()
+}
+
+// The rule of the first zone of a name.
+fn listed_rule(zones: &[Zone], name: &Text) -> Option<TimeZone>
+    ensures rule { option_map tz_view result ≡ listed_rule zones.now name.now }
+    ensures there { IsSome result ↔ IsTrue (list_any (λ z. bytes_eq z.0 name.now) zones.now) }
+{
+    for zone in zones {
+        if is_named(zone, name) {
+            return Some(*zone.rule());
+        }
+    }
+    None
+}
+
+/// The rule of the zone of a name, as `jiff` reads it, or `None` where no zone has the name. `Etc/UTC` always is there.
+/// Takes no memory.
+pub fn rule_of(zones: &Zones, name: &Text) -> Option<TimeZone>
+    ensures rule { option_map tz_view result ≡ rule_of zones.now name.now }
+    ensures there { IsSome result ↔ IsTrue (has_zone zones.now name.now) }
+{
+    if name.as_str() == UTC {
+        return Some(utc());
+    }
+    listed_rule(zones.items(), name)
+}
