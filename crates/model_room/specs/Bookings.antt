@@ -8,9 +8,9 @@ abbrev pub is_booked : ℕ → List Booking → Bool
 is_booked n bs = list_any (λ b. b.number == n) bs
 
 -- without the booking of this number
-abbrev pub without : ℕ → List Booking → List Booking
-without n [] = []
-without n (b ∷ bs) = if b.number == n then bs else b ∷ without n bs
+abbrev pub without_booking : ℕ → List Booking → List Booking
+without_booking n [] = []
+without_booking n (b ∷ bs) = if b.number == n then bs else b ∷ without_booking n bs
 
 -- with one more, before those of greater numbers
 abbrev pub with_booking : ℕ → Series → List Booking → List Booking
@@ -20,4 +20,4 @@ with_booking n s (b ∷ bs) = if nat_lt n b.number then record { number = n; ser
 -- without the excepted event's, if one is excepted
 abbrev pub but : Option ℕ → List Booking → List Booking
 but None bs = bs
-but (Some n) bs = without n bs
+but (Some n) bs = without_booking n bs

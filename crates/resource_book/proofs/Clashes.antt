@@ -16,7 +16,7 @@ use Rattle.model_room.specs.declared.booking.Booking.{Booking}
 use Rattle.model_room.specs.Clashes.{IsClash, any_covers, is_clash, IsClear, first_covering, clash_at, second_of, first_clash}
 use Rattle.resource_book.proofs.Orders.{or_false}
 use Rattle.resource_book.specs.declared.check.Meeting.{Meeting}
-use Rattle.resource_book.specs.Meetings.{meets, IsFirstAt, IsFirstOf, sooner, clash_of}
+use Rattle.resource_book.specs.Meetings.{meets_booking, IsEarliest, IsEarliestOf, earlier_of, clash_of}
 
 -- tables
 or_nothing : (a : Bool) → (a || false) ≡ a
@@ -54,7 +54,7 @@ any_push (c ∷ cs) b x = ap (λ (t : Bool). covers c.series x || t) (any_push c
     assoc true q r = refl
     assoc false q r = refl
 
-meets_push : (bs : List Booking) (s : Series) (b : Booking) (x : ℤ) → meets (bs ++ b ∷ []) s x ≡ (meets bs s x || (covers b.series x && covers s x))
+meets_push : (bs : List Booking) (s : Series) (b : Booking) (x : ℤ) → meets_booking (bs ++ b ∷ []) s x ≡ (meets_booking bs s x || (covers b.series x && covers s x))
 meets_push bs s b x = ap (λ (t : Bool). t && covers s x) (any_push bs b x) ∙ shared_out (any_covers bs x) (covers b.series x) (covers s x)
 
 first_kept : (bs : List Booking) (b : Booking) (x : ℤ) → any_covers bs x ≡ true → first_covering (bs ++ b ∷ []) x ≡ first_covering bs x
@@ -77,10 +77,10 @@ first_none (b ∷ bs) x h =
     rw (p.0) (first_none bs x p.1)
 
 -- none of the bookings covers x, where the series covers it and meets none there
-none_covers : (bs : List Booking) (s : Series) (x : ℤ) → covers s x ≡ true → (meets bs s x ≡ true → ⊥) → any_covers bs x ≡ false
+none_covers : (bs : List Booking) (s : Series) (x : ℤ) → covers s x ≡ true → (meets_booking bs s x ≡ true → ⊥) → any_covers bs x ≡ false
 none_covers bs s x e f = is_not (any_covers bs x) (λ a. f (rw (a, e) refl))
 
--- the sooner of a meeting among some bookings and a second of another test: the first of the two tests together
+-- the earlier of a meeting among some bookings and a second of another test: the first of the two tests together
 module _ (bs cs : List Booking) (p q both : ℤ → Bool) (n : Option ℕ)
     (split : (x : ℤ) → both x ≡ (p x || q x))
     (old_first : (x : ℤ) → p x ≡ true → first_covering cs x ≡ first_covering bs x)
@@ -88,7 +88,7 @@ module _ (bs cs : List Booking) (p q both : ℤ → Bool) (n : Option ℕ)
   either : (x : ℤ) → both x ≡ true → (p x ≡ true) ⊎ (q x ≡ true)
   either x m = or_cases (p x) (q x) (sym (split x) ∙ m)
 
-  by_old : (m : Meeting) → IsFirstAt p bs m → ((x : ℤ) → q x ≡ true → m.at ≤ℤ x) → IsFirstAt both cs m
+  by_old : (m : Meeting) → IsEarliest p bs m → ((x : ℤ) → q x ≡ true → m.at ≤ℤ x) → IsEarliest both cs m
   by_old m h g = record {
     least = record {
       holds = split m.at ∙ or_left (p m.at) (q m.at) h.least.holds;
@@ -98,7 +98,7 @@ module _ (bs cs : List Booking) (p q both : ℤ → Bool) (n : Option ℕ)
     near = h.near;
   }
 
-  by_new : (x : ℤ) → IsLeast (λ y. q y ≡ true) x → unsigned_abs x < 2 ^ 57 → ((y : ℤ) → p y ≡ true → x <ℤ y) → IsFirstAt both cs (record { with = n; at = x })
+  by_new : (x : ℤ) → IsLeast (λ y. q y ≡ true) x → unsigned_abs x < 2 ^ 57 → ((y : ℤ) → p y ≡ true → x <ℤ y) → IsEarliest both cs (record { with = n; at = x })
   by_new x h near g = record {
     least = record {
       holds = split x ∙ or_right (p x) (q x) h.holds;
@@ -108,13 +108,13 @@ module _ (bs cs : List Booking) (p q both : ℤ → Bool) (n : Option ℕ)
     near = near;
   }
 
-  pub sooner_first : (best : Option Meeting) (found : Option ℤ) → IsFirstOf p bs best → IsLeastOf (λ x. q x ≡ true) found → IfSome found (λ x. unsigned_abs x < 2 ^ 57)
-      → IsFirstOf both cs (sooner best found n)
-  sooner_first None None h g near = λ x m. elim (either x m) [ inl l ↦ h x l | inr r ↦ g x r ]
-  sooner_first (Some m) None h g near = by_old m h (λ x e. absurd (g x e))
-  sooner_first None (Some x) h g near = by_new x g near (λ y e. absurd (h y e))
-  sooner_first (Some m) (Some x) h g near =
-      by_test (IsFirstAt both cs) (int_lt x m.at) (record { with = n; at = x }) m
+  pub earlier_first : (best : Option Meeting) (found : Option ℤ) → IsEarliestOf p bs best → IsLeastOf (λ x. q x ≡ true) found → IfSome found (λ x. unsigned_abs x < 2 ^ 57)
+      → IsEarliestOf both cs (earlier_of best found n)
+  earlier_first None None h g near = λ x m. elim (either x m) [ inl l ↦ h x l | inr r ↦ g x r ]
+  earlier_first (Some m) None h g near = by_old m h (λ x e. absurd (g x e))
+  earlier_first None (Some x) h g near = by_new x g near (λ y e. absurd (h y e))
+  earlier_first (Some m) (Some x) h g near =
+      by_test (IsEarliest both cs) (int_lt x m.at) (record { with = n; at = x }) m
       (λ below.
       let lt : x <ℤ m.at = omega (arith, ints, below) in
       by_new x g near (λ y e. let f = h.least.least y e in omega (arith, ints, f, lt)))
@@ -122,14 +122,14 @@ module _ (bs cs : List Booking) (p q both : ℤ → Bool) (n : Option ℕ)
       let le : m.at ≤ℤ x = omega (arith, ints, above) in
       by_old m h (λ y e. let f = g.least y e in omega (arith, ints, f, le)))
 
-pub nothing_met : (s : Series) → IsFirstOf (meets [] s) [] None
+pub nothing_met : (s : Series) → IsEarliestOf (meets_booking [] s) [] None
 nothing_met s = λ x h. absurd (cc h)
 
-pub one_more : (bs : List Booking) (s : Series) (b : Booking) (best : Option Meeting) (found : Option ℤ) → IsFirstOf (meets bs s) bs best
+pub one_more : (bs : List Booking) (s : Series) (b : Booking) (best : Option Meeting) (found : Option ℤ) → IsEarliestOf (meets_booking bs s) bs best
     → IsLeastOf (λ x. (covers b.series x && covers s x) ≡ true) found → IfSome found (λ x. unsigned_abs x < 2 ^ 57)
-    → IsFirstOf (meets (bs ++ b ∷ []) s) (bs ++ b ∷ []) (sooner best found (Some b.number))
+    → IsEarliestOf (meets_booking (bs ++ b ∷ []) s) (bs ++ b ∷ []) (earlier_of best found (Some b.number))
 one_more bs s b best found h g near =
-    sooner_first bs (bs ++ b ∷ []) (meets bs s) (λ x. covers b.series x && covers s x) (meets (bs ++ b ∷ []) s) (Some b.number)
+    earlier_first bs (bs ++ b ∷ []) (meets_booking bs s) (λ x. covers b.series x && covers s x) (meets_booking (bs ++ b ∷ []) s) (Some b.number)
     (meets_push bs s b)
     (λ x e. first_kept bs b x (and_both (any_covers bs x) (covers s x) e).0)
     (λ x e f. let c = and_both (covers b.series x) (covers s x) e in sym (first_new bs b x (none_covers bs s x c.1 f) c.0))
@@ -145,11 +145,11 @@ or_other true false = refl
 or_other false true = refl
 or_other false false = refl
 
-and_self : (bs : List Booking) (s : Series) (best : Option Meeting) (found : Option ℤ) → IsFirstOf (meets bs s) bs best
-    → IsLeastOf (λ x. covers_twice s x ≡ true) found → IfSome found (λ x. unsigned_abs x < 2 ^ 57) → IsFirstOf (is_clash bs s) bs (sooner best found None)
+and_self : (bs : List Booking) (s : Series) (best : Option Meeting) (found : Option ℤ) → IsEarliestOf (meets_booking bs s) bs best
+    → IsLeastOf (λ x. covers_twice s x ≡ true) found → IfSome found (λ x. unsigned_abs x < 2 ^ 57) → IsEarliestOf (is_clash bs s) bs (earlier_of best found None)
 and_self bs s best found h g near =
-    sooner_first bs bs (meets bs s) (covers_twice s) (is_clash bs s) None
-    (λ x. or_other (covers_twice s x) (meets bs s x))
+    earlier_first bs bs (meets_booking bs s) (covers_twice s) (is_clash bs s) None
+    (λ x. or_other (covers_twice s x) (meets_booking bs s x))
     (λ x e. refl)
     (λ x e f. sym (first_none bs x (none_covers bs s x (covers_from_twice s x e) f)))
     best found h g near
@@ -176,7 +176,7 @@ shared_to a b x h g =
 
 pub clash_to : (bs : List Booking) (s : Series) (x : ℤ) → is_clash bs s x ≡ true → IsClash bs s x
 clash_to bs s x h =
-    elim (or_cases (covers_twice s x) (meets bs s x) h) [
+    elim (or_cases (covers_twice s x) (meets_booking bs s x) h) [
       | inl l ↦ inl ((covers_twice_is s x).0 l)
       | inr r ↦
           let p = and_both (any_covers bs x) (covers s x) r in
@@ -185,24 +185,24 @@ clash_to bs s x h =
     ]
 
 pub to_clash : (bs : List Booking) (s : Series) (x : ℤ) → IsClash bs s x → is_clash bs s x ≡ true
-to_clash bs s x (inl h) = or_left (covers_twice s x) (meets bs s x) ((covers_twice_is s x).1 h)
+to_clash bs s x (inl h) = or_left (covers_twice s x) (meets_booking bs s x) ((covers_twice_is s x).1 h)
 to_clash bs s x (inr (k, b, e, m)) =
-    or_right (covers_twice s x) (meets bs s x)
+    or_right (covers_twice s x) (meets_booking bs s x)
     (both_and (any_covers bs x) (covers s x) (to_covered bs x k b e ((covers_is b.series x).1 (m.0, (m.2, m.4)))) ((covers_is s x).1 (m.1, (m.3, m.5))))
 
 -- the clash of the first meeting
 whole : (x : ℤ) → wall_at (day_of_wall x) (second_of_wall x) ≡ x
 whole x = omega (arith, signed_arith)
 
-least_at : (bs : List Booking) (s : Series) (o : Option Meeting) → IsFirstOf (is_clash bs s) bs o → IsLeastOf (λ x. is_clash bs s x ≡ true) (option_map (λ m. m.at) o)
+least_at : (bs : List Booking) (s : Series) (o : Option Meeting) → IsEarliestOf (is_clash bs s) bs o → IsLeastOf (λ x. is_clash bs s x ≡ true) (option_map (λ m. m.at) o)
 least_at bs s None h = h
 least_at bs s (Some m) h = h.least
 
-near_at : (bs : List Booking) (s : Series) (o : Option Meeting) → IsFirstOf (is_clash bs s) bs o → IfSome (option_map (λ m. m.at) o) (λ x. unsigned_abs x < 2 ^ 57)
+near_at : (bs : List Booking) (s : Series) (o : Option Meeting) → IsEarliestOf (is_clash bs s) bs o → IfSome (option_map (λ m. m.at) o) (λ x. unsigned_abs x < 2 ^ 57)
 near_at bs s None h = tt
 near_at bs s (Some m) h = h.near
 
-clash_same : (bs : List Booking) (s : Series) (o : Option Meeting) → IsFirstOf (is_clash bs s) bs o → option_map clash_of o ≡ option_map (clash_at bs) (option_map (λ m. m.at) o)
+clash_same : (bs : List Booking) (s : Series) (o : Option Meeting) → IsEarliestOf (is_clash bs s) bs o → option_map clash_of o ≡ option_map (clash_at bs) (option_map (λ m. m.at) o)
 clash_same bs s None h = refl
 clash_same bs s (Some m) h = ap (λ (n : Option ℕ). Some (record { with = n; day = day_of_wall m.at; second = second_of_wall m.at })) h.first
 
@@ -210,24 +210,24 @@ second_same : (o : Option Meeting) → option_map second_of (option_map clash_of
 second_same None = refl
 second_same (Some m) = ap Some (whole m.at)
 
-clear_of : (bs : List Booking) (s : Series) (o : Option Meeting) → IsFirstOf (is_clash bs s) bs o → IfNone (option_map clash_of o) (IsClear bs s)
+clear_of : (bs : List Booking) (s : Series) (o : Option Meeting) → IsEarliestOf (is_clash bs s) bs o → IfNone (option_map clash_of o) (IsClear bs s)
 clear_of bs s None h = λ x. is_not (is_clash bs s x) (h x)
 clear_of bs s (Some m) h = tt
 
-module _ (bs : List Booking) (s : Series) (best : Option Meeting) (found : Option ℤ) (h : IsFirstOf (meets bs s) bs best)
+module _ (bs : List Booking) (s : Series) (best : Option Meeting) (found : Option ℤ) (h : IsEarliestOf (meets_booking bs s) bs best)
     (g : IsLeastOf (λ x. covers_twice s x ≡ true) found) (near : IfSome found (λ x. unsigned_abs x < 2 ^ 57)) where
-  pub exact_clash : option_map clash_of (sooner best found None) ≡ first_clash bs s
+  pub exact_clash : option_map clash_of (earlier_of best found None) ≡ first_clash bs s
   exact_clash =
       let f = and_self bs s best found h g near in
-      let o = sooner best found None in
+      let o = earlier_of best found None in
       clash_same bs s o f ∙ ap (option_map (clash_at bs)) (first_is (is_clash bs s) (option_map (λ m. m.at) o) (least_at bs s o f) (near_at bs s o f))
 
-  pub clear_clash : IfNone (option_map clash_of (sooner best found None)) (IsClear bs s)
-  clear_clash = clear_of bs s (sooner best found None) (and_self bs s best found h g near)
+  pub clear_clash : IfNone (option_map clash_of (earlier_of best found None)) (IsClear bs s)
+  clear_clash = clear_of bs s (earlier_of best found None) (and_self bs s best found h g near)
 
-  pub least_clash : IsLeastOf (IsClash bs s) (option_map second_of (option_map clash_of (sooner best found None)))
+  pub least_clash : IsLeastOf (IsClash bs s) (option_map second_of (option_map clash_of (earlier_of best found None)))
   least_clash =
       let f = and_self bs s best found h g near in
-      let o = sooner best found None in
+      let o = earlier_of best found None in
       rw (second_same o)
       (same-least (λ x. is_clash bs s x ≡ true) (IsClash bs s) (option_map (λ m. m.at) o) (clash_to bs s) (to_clash bs s) (least_at bs s o f))

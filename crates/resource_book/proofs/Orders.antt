@@ -5,7 +5,7 @@ use Rattle.std.proofs.lemmas.Option.{same_Some}
 use Rattle.std.specs.List.{list_any}
 use Rattle.model_series.specs.declared.series.Series.{Series}
 use Rattle.model_room.specs.declared.booking.Booking.{Booking}
-use Rattle.model_room.specs.Bookings.{is_booked, without, with_booking}
+use Rattle.model_room.specs.Bookings.{is_booked, without_booking, with_booking}
 
 pub or_false : (a b : Bool) → (a || b) ≡ false → (a ≡ false) × (b ≡ false)
 or_false true b h = absurd (cc h)
@@ -17,13 +17,13 @@ eq_true a b h = grind (arith, nat_tests)
 lt_true : (a b : ℕ) → a < b → nat_lt a b ≡ true
 lt_true a b h = grind (arith, nat_tests)
 
-pub without-none : (n : ℕ) (bs : List Booking) → is_booked n bs ≡ false → without n bs ≡ bs
+pub without-none : (n : ℕ) (bs : List Booking) → is_booked n bs ≡ false → without_booking n bs ≡ bs
 without-none n [] h = refl
 without-none n (b ∷ bs) h =
     let p = or_false (b.number == n) (is_booked n bs) h in
     rw (p.0) (ap (λ (cs : List Booking). b ∷ cs) (without-none n bs p.1))
 
-pub without-at : (n : ℕ) (bs : List Booking) (i : ℕ) (b : Booking) → is_booked n (take i bs) ≡ false → slice_get bs i ≡ Some b → b.number ≡ n → without n bs ≡ remove bs i
+pub without-at : (n : ℕ) (bs : List Booking) (i : ℕ) (b : Booking) → is_booked n (take i bs) ≡ false → slice_get bs i ≡ Some b → b.number ≡ n → without_booking n bs ≡ remove bs i
 without-at n [] i b h e m = absurd (cc e)
 without-at n (c ∷ cs) zero b h e m = rw (eq_true c.number n (ap (λ (y : Booking). y.number) (same_Some c b e) ∙ m)) refl
 without-at n (c ∷ cs) (suc i) b h e m =

@@ -5,7 +5,7 @@ ghost use Rattle.rule_expand.specs.Least.{IsLeastOf};
 ghost use Rattle.model_room.specs.declared.booking.Booking.{Booking as BookingView};
 ghost use Rattle.model_room.specs.Bookings.{but};
 ghost use Rattle.model_room.specs.Clashes.{IsClash, is_clash, IsClear, clash_at, first_clash, second_of};
-ghost use Rattle.resource_book.specs.Meetings.{meets, sooner, IsFirstOf, clash_of};
+ghost use Rattle.resource_book.specs.Meetings.{meets_booking, earlier_of, IsEarliestOf, clash_of};
 
 use crate::places::place_but;
 use model_room::booking::Booking;
@@ -20,10 +20,10 @@ struct Meeting {
     at: Shared,
 }
 
-// The sooner of the meeting so far and the second that was found, with the event that covers it; the one so far where they are the
+// The earlier of the meeting so far and the second that was found, with the event that covers it; the one so far where they are the
 // same second.
-fn sooner(best: Option<Meeting>, found: Option<Shared>, with: Option<u64>) -> Option<Meeting>
-    ensures { result ≡ sooner best found with }
+fn earlier_of(best: Option<Meeting>, found: Option<Shared>, with: Option<u64>) -> Option<Meeting>
+    ensures { result ≡ earlier_of best found with }
 {
     match (best, found) {
         (_, None) => best,
@@ -39,15 +39,15 @@ fn sooner(best: Option<Meeting>, found: Option<Shared>, with: Option<u64>) -> Op
 }
 
 // Goes on from the meeting so far, which was found among earlier bookings, with these.
-fn sooner_among(best: Option<Meeting>, bookings: &[Booking], series: &Series) -> Option<Meeting>
+fn earliest_among(best: Option<Meeting>, bookings: &[Booking], series: &Series) -> Option<Meeting>
     requires week { IsWeekLong series.now }
-    ensures { (before : List BookingView) → IsFirstOf (meets before series.now) before best
-        → IsFirstOf (meets (before ++ bookings.now) series.now) (before ++ bookings.now) result }
+    ensures { (before : List BookingView) → IsEarliestOf (meets_booking before series.now) before best
+        → IsEarliestOf (meets_booking (before ++ bookings.now) series.now) (before ++ bookings.now) result }
 {
     let mut best = best;
     for booking in bookings {
         let found = first_shared(booking.series.series(), series);
-        best = sooner(best, found, Some(booking.number));
+        best = earlier_of(best, found, Some(booking.number));
     }
     best
 }
@@ -55,14 +55,14 @@ fn sooner_among(best: Option<Meeting>, bookings: &[Booking], series: &Series) ->
 // The first meeting with a booking that isn't excepted.
 fn first_meeting(bookings: &[Booking], except: Option<u64>, series: &Series) -> Option<Meeting>
     requires week { IsWeekLong series.now }
-    ensures { IsFirstOf (meets (but except bookings.now) series.now) (but except bookings.now) result }
+    ensures { IsEarliestOf (meets_booking (but except bookings.now) series.now) (but except bookings.now) result }
 {
     match place_but(bookings, except) {
         Some(i) => {
-            let earlier = sooner_among(None, &bookings[..i], series);
-            sooner_among(earlier, &bookings[i + 1..], series)
+            let earlier = earliest_among(None, &bookings[..i], series);
+            earliest_among(earlier, &bookings[i + 1..], series)
         }
-        None => sooner_among(None, bookings, series),
+        None => earliest_among(None, bookings, series),
     }
 }
 
@@ -88,5 +88,5 @@ pub fn check(bookings: &[Booking], except: Option<u64>, series: &Series) -> Opti
     ensures least { IsLeastOf (IsClash (but except bookings.now) series.now) (option_map second_of result) }
 {
     let met = first_meeting(bookings, except, series);
-    clash_of(sooner(met, first_self_shared(series), None))
+    clash_of(earlier_of(met, first_self_shared(series), None))
 }

@@ -1,14 +1,14 @@
 //! The places of bookings in their order.
 ghost use Rattle.std.specs.Prelude.{◌≡◌, ◌<◌, ◌≤◌, length, insert, remove, true, false, IfNone, IfSome};
 ghost use Rattle.model_series.specs.declared.series.Series.{Series};
-ghost use Rattle.model_room.specs.Bookings.{is_booked, without, with_booking, but};
+ghost use Rattle.model_room.specs.Bookings.{is_booked, without_booking, with_booking, but};
 
 use model_room::booking::Booking;
 
 /// The place of the booking of a number.
 pub fn place_of(bookings: &[Booking], number: u64) -> Option<usize>
-    ensures none { IfNone result ((is_booked number bookings.now ≡ false) × (without number bookings.now ≡ bookings.now)) }
-    ensures some { IfSome result (λ i. (i < length bookings.now) × (is_booked number bookings.now ≡ true) × (without number bookings.now ≡ remove bookings.now i)) }
+    ensures none { IfNone result ((is_booked number bookings.now ≡ false) × (without_booking number bookings.now ≡ bookings.now)) }
+    ensures some { IfSome result (λ i. (i < length bookings.now) × (is_booked number bookings.now ≡ true) × (without_booking number bookings.now ≡ remove bookings.now i)) }
 {
     for (i, booking) in bookings.iter().enumerate() {
         if booking.number == number {

@@ -2,7 +2,7 @@
 ghost use Rattle.std.specs.Prelude.{◌≡◌, [], length, Some, None, IsSome, OnOk, OnErr, MatchOption, IfNone, option_map};
 ghost use Rattle.model_series.specs.Lengths.{IsWeekLong};
 ghost use Rattle.rule_expand.specs.Least.{IsLeastOf};
-ghost use Rattle.model_room.specs.Bookings.{is_booked, without, with_booking, but};
+ghost use Rattle.model_room.specs.Bookings.{is_booked, without_booking, with_booking, but};
 ghost use Rattle.model_room.specs.Clashes.{IsClash, IsClear, first_clash, second_of};
 
 use crate::check::check;
@@ -114,7 +114,7 @@ impl Room {
     /// Takes out the booking of an event, and tells whether there was one. Takes no memory.
     pub fn retire(&mut self, number: u64) -> bool
         ensures found { result ≡ is_booked number self.old.bookings }
-        ensures gone { self.new ≡ record { bookings = without number self.old.bookings; kept = self.old.kept; ready = None } }
+        ensures gone { self.new ≡ record { bookings = without_booking number self.old.bookings; kept = self.old.kept; ready = None } }
     {
         self.waiting = None;
         match place_of(&self.booked, number) {

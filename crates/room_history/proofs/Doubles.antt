@@ -3,7 +3,7 @@ use Rattle.std.proofs.Common.{◌≡◌, ℕ, ℤ, ◌==◌, nat_lt, Bool, true,
 use Rattle.model_series.specs.declared.series.Series.{Series}
 use Rattle.model_series.specs.Shared.{covers, covers_twice}
 use Rattle.model_room.specs.declared.booking.Booking.{Booking}
-use Rattle.model_room.specs.Bookings.{without, with_booking}
+use Rattle.model_room.specs.Bookings.{without_booking, with_booking}
 use Rattle.model_room.specs.Clashes.{any_covers, is_clash}
 use Rattle.room_history.specs.Free.{is_double}
 use Rattle.room_history.proofs.Tables.{by_test, or_false}
@@ -29,23 +29,23 @@ whole false true true d h g k = absurd (cc g)
 whole false true false d h g k = k
 whole false false o d h g k = k
 
-none-without : (n : ℕ) (bs : List Booking) (x : ℤ) → any_covers bs x ≡ false → any_covers (without n bs) x ≡ false
+none-without : (n : ℕ) (bs : List Booking) (x : ℤ) → any_covers bs x ≡ false → any_covers (without_booking n bs) x ≡ false
 none-without n [] x h = refl
 none-without n (b ∷ bs) x h =
     let p = or_false (covers b.series x) (any_covers bs x) h in
-    by_test (λ (cs : List Booking). any_covers cs x ≡ false) (b.number == n) bs (b ∷ without n bs)
+    by_test (λ (cs : List Booking). any_covers cs x ≡ false) (b.number == n) bs (b ∷ without_booking n bs)
     (λ e. p.1)
-    (λ e. both_false (covers b.series x) (any_covers (without n bs) x) p.0 (none-without n bs x p.1))
+    (λ e. both_false (covers b.series x) (any_covers (without_booking n bs) x) p.0 (none-without n bs x p.1))
 
-pub double-without : (n : ℕ) (bs : List Booking) (x : ℤ) → is_double bs x ≡ false → is_double (without n bs) x ≡ false
+pub double-without : (n : ℕ) (bs : List Booking) (x : ℤ) → is_double bs x ≡ false → is_double (without_booking n bs) x ≡ false
 double-without n [] x h = refl
 double-without n (b ∷ bs) x h =
     let p = parts (covers_twice b.series x) (covers b.series x) (any_covers bs x) (is_double bs x) h in
-    by_test (λ (cs : List Booking). is_double cs x ≡ false) (b.number == n) bs (b ∷ without n bs)
+    by_test (λ (cs : List Booking). is_double cs x ≡ false) (b.number == n) bs (b ∷ without_booking n bs)
     (λ e. p.2)
     (λ e.
-    whole (covers_twice b.series x) (covers b.series x) (any_covers (without n bs) x) (is_double (without n bs) x) p.0
-    (and_less (covers b.series x) (any_covers bs x) (any_covers (without n bs) x) p.1 (none-without n bs x)) (double-without n bs x p.2))
+    whole (covers_twice b.series x) (covers b.series x) (any_covers (without_booking n bs) x) (is_double (without_booking n bs) x) p.0
+    (and_less (covers b.series x) (any_covers bs x) (any_covers (without_booking n bs) x) p.1 (none-without n bs x)) (double-without n bs x p.2))
 
 -- with a booking more, x is covered where the new one or one of before covers it
 any_with : (n : ℕ) (s : Series) (bs : List Booking) (x : ℤ) → any_covers (with_booking n s bs) x ≡ (covers s x || any_covers bs x)

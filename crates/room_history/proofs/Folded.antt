@@ -7,7 +7,7 @@ use Rattle.model_history.specs.declared.entry.Kind.TheVariants.{Calendar, Event}
 use Rattle.model_history.specs.History.{is_kind, names, object_from, live_object}
 use Rattle.model_series.specs.declared.series.Series.{Series}
 use Rattle.model_room.specs.declared.booking.Booking.{Booking}
-use Rattle.model_room.specs.Bookings.{without}
+use Rattle.model_room.specs.Bookings.{without_booking}
 use Rattle.room_history.specs.HistoryBookings.{booked_by, with_booked, after_change, bookings_from, bookings_at}
 use Rattle.room_history.specs.Rising.{Rise, series_in}
 use Rattle.room_history.proofs.Tables.{same_number, turned}
@@ -15,7 +15,7 @@ use Rattle.room_history.proofs.Placed.{rise_again, in_again_same, in_again_other
 
 module _ (books : Tree → Option Series) where
   abbrev changed : Kind → ℕ → Option Tree → List Booking → List Booking
-  changed kind id o bs = if is_kind Event kind then with_booked id (booked_by books o) (without id bs) else bs
+  changed kind id o bs = if is_kind Event kind then with_booked id (booked_by books o) (without_booking id bs) else bs
 
   -- one change
   one : (m : ℕ) (kind : Kind) (id : ℕ) (o before : Option Tree) (bs : List Booking) → Rise bs → series_in m bs ≡ booked_by books before
@@ -23,7 +23,7 @@ module _ (books : Tree → Option Series) where
   one m Calendar id o before bs r h = (r, h)
   one m Event id o before bs r h = (rise_again id (booked_by books o) bs r, by_cases (m == id) refl)
     where
-      by_cases : (t : Bool) → (m == id) ≡ t → series_in m (with_booked id (booked_by books o) (without id bs)) ≡ booked_by books (if t then o else before)
+      by_cases : (t : Bool) → (m == id) ≡ t → series_in m (with_booked id (booked_by books o) (without_booking id bs)) ≡ booked_by books (if t then o else before)
       by_cases true e = rw (same_number m id e) (in_again_same id (booked_by books o) bs r)
       by_cases false e = in_again_other m id (booked_by books o) bs (turned id m ∙ e) ∙ h
 

@@ -3,7 +3,7 @@ use Rattle.std.proofs.Common.{◌≡◌, ℕ, ◌<◌, ◌≤◌, ◌==◌, nat_
 use Rattle.std.proofs.lemmas.Bool.Decides.{nat_tests}
 use Rattle.model_series.specs.declared.series.Series.{Series}
 use Rattle.model_room.specs.declared.booking.Booking.{Booking}
-use Rattle.model_room.specs.Bookings.{without, with_booking}
+use Rattle.model_room.specs.Bookings.{without_booking, with_booking}
 use Rattle.room_history.specs.Rising.{AreAbove, Rise, series_in}
 use Rattle.room_history.specs.HistoryBookings.{with_booked}
 use Rattle.room_history.proofs.Tables.{by_test, same_number, number_same, other_number, lt_true}
@@ -12,13 +12,13 @@ above_less : (m n : ℕ) (bs : List Booking) → m ≤ n → AreAbove n bs → A
 above_less m n [] le h = tt
 above_less m n (b ∷ bs) le h = (omega (arith, le, h.0), above_less m n bs le h.1)
 
-above_without : (k n : ℕ) (bs : List Booking) → AreAbove k bs → AreAbove k (without n bs)
+above_without : (k n : ℕ) (bs : List Booking) → AreAbove k bs → AreAbove k (without_booking n bs)
 above_without k n [] h = tt
-above_without k n (b ∷ bs) h = by_test (AreAbove k) (b.number == n) bs (b ∷ without n bs) (λ e. h.1) (λ e. (h.0, above_without k n bs h.1))
+above_without k n (b ∷ bs) h = by_test (AreAbove k) (b.number == n) bs (b ∷ without_booking n bs) (λ e. h.1) (λ e. (h.0, above_without k n bs h.1))
 
-rise_without : (n : ℕ) (bs : List Booking) → Rise bs → Rise (without n bs)
+rise_without : (n : ℕ) (bs : List Booking) → Rise bs → Rise (without_booking n bs)
 rise_without n [] h = tt
-rise_without n (b ∷ bs) h = by_test Rise (b.number == n) bs (b ∷ without n bs) (λ e. h.1) (λ e. (above_without b.number n bs h.0, rise_without n bs h.1))
+rise_without n (b ∷ bs) h = by_test Rise (b.number == n) bs (b ∷ without_booking n bs) (λ e. h.1) (λ e. (above_without b.number n bs h.0, rise_without n bs h.1))
 
 above_with : (k n : ℕ) (s : Series) (bs : List Booking) → k < n → AreAbove k bs → AreAbove k (with_booking n s bs)
 above_with k n s [] lt h = (lt, tt)
@@ -51,17 +51,17 @@ in_above : (m n : ℕ) (bs : List Booking) → m ≤ n → AreAbove n bs → ser
 in_above m n [] le h = refl
 in_above m n (b ∷ bs) le h = rw (other_number b.number m (λ e. omega (arith, e, le, h.0))) (in_above m n bs le h.1)
 
-in_without_same : (n : ℕ) (bs : List Booking) → Rise bs → series_in n (without n bs) ≡ None
+in_without_same : (n : ℕ) (bs : List Booking) → Rise bs → series_in n (without_booking n bs) ≡ None
 in_without_same n [] h = refl
 in_without_same n (b ∷ bs) h =
-    by_test (λ (cs : List Booking). series_in n cs ≡ None) (b.number == n) bs (b ∷ without n bs)
+    by_test (λ (cs : List Booking). series_in n cs ≡ None) (b.number == n) bs (b ∷ without_booking n bs)
     (λ e. let m = same_number b.number n e in in_above n b.number bs (omega (arith, m)) h.0)
     (λ e. rw e (in_without_same n bs h.1))
 
-in_without_other : (m n : ℕ) (bs : List Booking) → (n == m) ≡ false → series_in m (without n bs) ≡ series_in m bs
+in_without_other : (m n : ℕ) (bs : List Booking) → (n == m) ≡ false → series_in m (without_booking n bs) ≡ series_in m bs
 in_without_other m n [] h = refl
 in_without_other m n (b ∷ bs) h =
-    by_test (λ (cs : List Booking). series_in m cs ≡ series_in m (b ∷ bs)) (b.number == n) bs (b ∷ without n bs)
+    by_test (λ (cs : List Booking). series_in m cs ≡ series_in m (b ∷ bs)) (b.number == n) bs (b ∷ without_booking n bs)
     (λ e. let same = same_number b.number n e in rw (same, h) refl)
     (λ e. ap (λ (o : Option Series). if b.number == m then Some b.series else o) (in_without_other m n bs h))
 
@@ -81,14 +81,14 @@ in_with_other m n s (b ∷ bs) h =
     (λ e. ap (λ (o : Option Series). if b.number == m then Some b.series else o) (in_with_other m n s bs h))
 
 -- an event is booked again
-pub rise_again : (id : ℕ) (o : Option Series) (bs : List Booking) → Rise bs → Rise (with_booked id o (without id bs))
+pub rise_again : (id : ℕ) (o : Option Series) (bs : List Booking) → Rise bs → Rise (with_booked id o (without_booking id bs))
 rise_again id None bs h = rise_without id bs h
-rise_again id (Some s) bs h = rise_with id s (without id bs) (rise_without id bs h) (in_without_same id bs h)
+rise_again id (Some s) bs h = rise_with id s (without_booking id bs) (rise_without id bs h) (in_without_same id bs h)
 
-pub in_again_same : (id : ℕ) (o : Option Series) (bs : List Booking) → Rise bs → series_in id (with_booked id o (without id bs)) ≡ o
+pub in_again_same : (id : ℕ) (o : Option Series) (bs : List Booking) → Rise bs → series_in id (with_booked id o (without_booking id bs)) ≡ o
 in_again_same id None bs h = in_without_same id bs h
-in_again_same id (Some s) bs h = in_with_same id s (without id bs) (in_without_same id bs h)
+in_again_same id (Some s) bs h = in_with_same id s (without_booking id bs) (in_without_same id bs h)
 
-pub in_again_other : (m id : ℕ) (o : Option Series) (bs : List Booking) → (id == m) ≡ false → series_in m (with_booked id o (without id bs)) ≡ series_in m bs
+pub in_again_other : (m id : ℕ) (o : Option Series) (bs : List Booking) → (id == m) ≡ false → series_in m (with_booked id o (without_booking id bs)) ≡ series_in m bs
 in_again_other m id None bs e = in_without_other m id bs e
-in_again_other m id (Some s) bs e = in_with_other m id s (without id bs) e ∙ in_without_other m id bs e
+in_again_other m id (Some s) bs e = in_with_other m id s (without_booking id bs) e ∙ in_without_other m id bs e

@@ -6,7 +6,7 @@ use Rattle.model_history.specs.declared.entry.Kind.TheVariants.{Event}
 use Rattle.model_history.specs.History.{is_kind}
 use Rattle.model_series.specs.declared.series.Series.{Series}
 use Rattle.model_room.specs.declared.booking.Booking.{Booking}
-use Rattle.model_room.specs.Bookings.{without, with_booking}
+use Rattle.model_room.specs.Bookings.{without_booking, with_booking}
 
 -- the series that an event books, where it is live
 abbrev pub booked_by : (Tree → Option Series) → Option Tree → Option Series
@@ -20,7 +20,7 @@ with_booked n (Some s) bs = with_booking n s bs
 
 -- a change of an event takes its booking out, and books what the event books from now on
 abbrev pub after_change : (Tree → Option Series) → Change → List Booking → List Booking
-after_change books c bs = if is_kind Event c.kind then with_booked c.id (booked_by books c.object) (without c.id bs) else bs
+after_change books c bs = if is_kind Event c.kind then with_booked c.id (booked_by books c.object) (without_booking c.id bs) else bs
 
 abbrev pub bookings_from : (Tree → Option Series) → List Booking → List Change → List Booking
 bookings_from books bs [] = bs

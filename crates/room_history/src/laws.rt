@@ -6,7 +6,7 @@ ghost use Rattle.model_history.specs.declared.entry.Kind.TheVariants.{Event};
 ghost use Rattle.model_history.specs.History.{live_object};
 ghost use Rattle.model_series.specs.declared.series.Series.{Series};
 ghost use Rattle.model_room.specs.declared.booking.Booking.{Booking};
-ghost use Rattle.model_room.specs.Bookings.{without, with_booking};
+ghost use Rattle.model_room.specs.Bookings.{without_booking, with_booking};
 ghost use Rattle.model_room.specs.Clashes.{IsClear};
 ghost use Rattle.room_history.specs.HistoryBookings.{booked_by, after_change, bookings_at};
 ghost use Rattle.room_history.specs.Rising.{Rise, series_in};
@@ -23,6 +23,6 @@ pub fn bookings_are_of_live_events()
 /// Where no second is covered twice, it stays so when an event's booking is taken out, and when a series is booked that clashes with
 /// none.
 pub fn bookings_stay_free()
-    ensures fewer { (bs : List Booking) (n : ℕ) → IsFree bs → IsFree (without n bs) }
+    ensures fewer { (bs : List Booking) (n : ℕ) → IsFree bs → IsFree (without_booking n bs) }
     ensures more { (bs : List Booking) (n : ℕ) (s : Series) → IsFree bs → IsClear bs s → IsFree (with_booking n s bs) }
 {}
