@@ -1,0 +1,103 @@
+#!/usr/bin/env python3
+"""Times checks of a proposed series against the bookings of a room; README.md tells what it prints."""
+
+import datetime
+import json
+import tempfile
+
+from measure import contents, measured, options, run_program
+
+BINARY = "crates/room_rows/out/room_rows"
+MONDAY = datetime.datetime(2024, 1, 1)
+
+
+def series(start, seconds, **rule):
+    return {"start": start.isoformat(), "seconds": seconds, **({"rules": [rule]} if rule else {})}
+
+
+def hour(number, **rule):
+    return series(MONDAY + datetime.timedelta(hours=number), 3600, **rule)
+
+
+def date(number):
+    """An hour at nine on one of the first 28 days of a month, each year."""
+    return series(datetime.datetime(2024, number // 28 + 1, number % 28 + 1, 9), 3600, frequency="yearly")
+
+
+def drawn(number, requests):
+    """The requests of a workload: weekly hours with intervals of up to four weeks."""
+    for _ in range(requests):
+        draws = []
+        for _ in range(3):
+            number = (75 * number + 74) % 65537
+            draws.append(number)
+        start = MONDAY + datetime.timedelta(days=draws[0] % 700, hours=8 + draws[1] % 10)
+        yield series(start, 3600, frequency="weekly", interval=1 + draws[2] % 4)
+
+
+def meet(a, b):
+    """Whether two such weekly series ever meet: intervals of up to four weeks come again after twelve."""
+    starts = [datetime.datetime.fromisoformat(s["start"]) for s in (a, b)]
+    if starts[0].hour != starts[1].hour or (starts[0] - starts[1]).days % 7:
+        return False
+    late = max(starts)
+    steps = [7 * s["rules"][0]["interval"] for s in (a, b)]
+    return any(all((late - start).days % step == -7 * week % step for start, step in zip(starts, steps)) for week in range(12))
+
+
+def booked(requests):
+    taken = []
+    for asked in requests:
+        if not any(meet(asked, other) for other in taken):
+            taken.append(asked)
+    return taken
+
+
+WEEKLY = [hour(number, frequency="weekly", interval=3) for number in range(500)]
+DAILY = [series(MONDAY + datetime.timedelta(seconds=120 * number), 120, frequency="daily") for number in range(500)]
+ONCE = [hour(24 * number) for number in range(500)]
+DATES = [date(number) for number in range(335)]
+DRAWN = booked(drawn(1, 2000))
+
+# The bookings, what is proposed, the answer, the times of the longer run, and the goal in milliseconds, if there is one.
+ROOMS = {
+    "500 weekly hours, and one more": (WEEKLY, hour(500, frequency="weekly", interval=3), "none", 51, 20),
+    "500 weekly hours, and the last again": (WEEKLY, hour(499, frequency="weekly", interval=6), "day 19743 second 68400 with E500", 51, 20),
+    "500 daily bookings, and one more": (DAILY, series(MONDAY + datetime.timedelta(seconds=60000), 120, frequency="daily"), "none", 51, 20),
+    "500 hours, and a daily one": (ONCE, hour(1, frequency="daily"), "none", 51, 20),
+    f"the {len(DRAWN)} bookings of a workload, and an hour in the evening": (DRAWN, hour(20, frequency="weekly"), "none", 51, 20),
+    "335 yearly hours at nine, each on its own date, and one more": (DATES, date(335), "none", 2, None),
+}
+
+
+def table(bookings, proposed, answer):
+    file = tempfile.TemporaryFile()
+    file.write(f"{json.dumps({'bookings': bookings, 'proposed': proposed})}\n{answer}\n".encode())
+    file.flush()
+    return file
+
+
+def check(_, made):
+    if not contents(made).startswith(b"1 rows, 0 of them"):
+        raise SystemExit(contents(made).decode())
+
+
+def seconds_of(words, room, times):
+    with table(*room) as given:
+        return measured(lambda request, made: run_program(words.binary, request, made, str(times)), words.rounds, given, check)[0]
+
+
+def main():
+    words = options(__doc__)
+    if words.binary == "crates/jmapd/out/jmapd":
+        words.binary = BINARY
+    for name, (bookings, proposed, answer, times, goal) in ROOMS.items():
+        room = bookings, proposed, answer
+        once = seconds_of(words, room, 1)
+        often = seconds_of(words, room, times)
+        asked = f" (goal {goal})" if goal else ""
+        print(f"{name}: {(often - once) / (times - 1) * 1000:.2f} milliseconds a check{asked}")
+
+
+if __name__ == "__main__":
+    main()

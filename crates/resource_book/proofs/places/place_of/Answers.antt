@@ -1,0 +1,21 @@
+-- Where the booking of a number stands.
+use Rattle.std.proofs.Common.{length, refl, arith}
+use Rattle.std.proofs.lemmas.Option.{slice_get_read}
+use Rattle.model_room.specs.declared.booking.Booking.{Booking}
+use Rattle.resource_book.proofs.Orders.{without-none, without-at, is_booked-at, take_all}
+use Rattle.resource_book.proofs.places.place_of.Goals as goal
+
+pub returns-then-booking-number-clause-some : goal.returns-then-booking-number-clause-some
+returns-then-booking-number-clause-some c =
+    let bs = c.args.bookings.now in
+    let here = slice_get_read {X = Booking} bs (length bs) c.loop-i.i c.index-bookings-i.result refl c.loop-i-test.true c.index-bookings-i.is in (
+      c.loop-i-test.true,
+      is_booked-at c.args.number bs c.loop-i.i c.index-bookings-i.result here c.if-booking-number.true,
+      without-at c.args.number bs c.loop-i.i c.index-bookings-i.result c.loop-i.invariant here c.if-booking-number.true,
+    )
+
+pub returns-clause-none : goal.returns-clause-none
+returns-clause-none c =
+    let all = take_all c.loop-i.i c.args.bookings.now (omega (arith, c.loop-i-test.false)) in
+    let none = rw all at c.loop-i.invariant in
+    (none, without-none c.args.number c.args.bookings.now none)

@@ -1,0 +1,3 @@
+pub mod RoomView
+pub mod Rounds
+pub mod Meetings

@@ -1,0 +1,11 @@
+-- What contracts see of a resource.
+use Rattle.std.specs.Prelude.{List, Option}
+use Rattle.model_series.specs.declared.series.Series.{Series}
+use Rattle.model_room.specs.declared.booking.Booking.{Booking}
+
+pub record RoomView : Type 0 where
+  pub bookings : List Booking
+  -- the bookings that `undo` goes back to
+  pub kept : List Booking
+  -- the series whose booking takes no memory, if one is ready
+  pub ready : Option Series

@@ -1,0 +1,9 @@
+//! The bookings of a resource, and whether a proposed series clashes with them on all days without end.
+#![tactic(auto)]
+
+mod check;
+mod places;
+mod room;
+mod round;
+
+pub use room::Room;

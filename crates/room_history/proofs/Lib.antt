@@ -1,0 +1,4 @@
+pub mod Tables
+pub mod Placed
+pub mod Folded
+pub mod Doubles

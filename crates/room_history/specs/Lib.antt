@@ -1,0 +1,3 @@
+pub mod HistoryBookings
+pub mod Rising
+pub mod Free

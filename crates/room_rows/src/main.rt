@@ -1,0 +1,105 @@
+//! Reads rooms of a table with a proposed series each, and tells which clash otherwise than the table has it. An argument is the number of times that each check
+//! is made, for `bench/rooms.py` to time.
+#![tactic(auto)]
+
+use model_json::tree::Tree;
+use model_room::clash::Clash;
+use resource_book::Room;
+use row_series::series_in;
+use row_table::line::tree_in;
+use row_table::row::{Row, read_rows};
+use row_table::tally::RowTally;
+use std::alloc::{AllocError, Global};
+use std::fmt::Write;
+use std::{env, io};
+
+/// What came of a row, where it isn't what the table has.
+fn other_than(alloc: Global, row: &Row, times: u32) -> Result<Option<String>, AllocError> {
+    let came = match tree_in(alloc, row.asked.as_str())? {
+        Some(asked) => told(alloc, &asked, times)?,
+        None => String::from_str(alloc, "the row can't be read")?,
+    };
+    if came.as_str() == row.answer.as_str() {
+        Ok(None)
+    } else {
+        Ok(Some(came))
+    }
+}
+
+/// A room with the series at `bookings`, which are numbered from 1, or none where one may not be booked.
+fn room_in(alloc: Global, asked: &Tree) -> Result<Option<Room>, AllocError> {
+    let mut room = Room::new(alloc);
+    if let Some(Tree::List(list)) = asked.get("bookings") {
+        let mut number = 0u64;
+        for item in list.items() {
+            let Some(series) = series_in(alloc, item)? else {
+                return Ok(None);
+            };
+            room.reserve(&series)?;
+            number = number.saturating_add(1);
+            room.book(number);
+        }
+    }
+    Ok(Some(room))
+}
+
+/// The clash of the series at `proposed` with the room, in which the booking at `except` is excepted.
+fn told(alloc: Global, asked: &Tree, times: u32) -> Result<String, AllocError> {
+    let Some(room) = room_in(alloc, asked)? else {
+        return String::from_str(alloc, "a booking may not be booked");
+    };
+    let Some(proposed) = asked.get("proposed") else {
+        return String::from_str(alloc, "the row proposes nothing");
+    };
+    let Some(series) = series_in(alloc, proposed)? else {
+        return String::from_str(alloc, "what is proposed may not be booked");
+    };
+    let except = match asked.get("except") {
+        Some(Tree::Whole(number)) => u64::try_from(number.get()).ok(),
+        _ => None,
+    };
+    let mut found = room.check(except, &series);
+    for _ in 1..times {
+        found = room.check(except, &series);
+    }
+    text_of(alloc, found)
+}
+
+/// The day, the second and the event of a clash.
+fn text_of(alloc: Global, found: Option<Clash>) -> Result<String, AllocError> {
+    let mut text = String::new(alloc);
+    match found {
+        Some(clash) => {
+            write!(&mut text, "day {} second {} with ", clash.day, clash.second)?;
+            match clash.with {
+                Some(number) => write!(&mut text, "E{number}")?,
+                None => text.push_str("itself")?,
+            }
+        }
+        None => text.push_str("none")?,
+    }
+    Ok(text)
+}
+
+/// How often each check is made.
+fn times_in(rt: &HostRuntime) -> io::Result<u32> {
+    for word in env::args(rt)?.skip(1) {
+        if let Ok(times) = word.parse::<u32>() {
+            return Ok(times);
+        }
+    }
+    Ok(1)
+}
+
+fn main(rt: HostRuntime) -> io::Result<()> {
+    let times = times_in(&rt)?;
+    let mut tally = RowTally::new();
+    for row in &read_rows(&rt)? {
+        let other = other_than(rt.alloc(), row, times)?;
+        if let Some(other) = &other {
+            row.tell(&rt, other.as_str())?;
+        }
+        tally.count(other.is_none());
+    }
+    println!(rt; "{tally}")
+}

@@ -1,0 +1,126 @@
+//! Series as a table has them.
+ghost use Rattle.std.specs.Prelude.{◌≡◌, ◌≤◌, ◌&&◌, length as count, nat_le, true, IfOk, IfSome};
+ghost use Rattle.model_time.specs.Walls.{is_in_years};
+ghost use Rattle.model_series.specs.SeriesLimits.{is_span_in_years, wall_seconds};
+ghost use Rattle.model_series.specs.Lengths.{IsWeekLong};
+
+use crate::limits::{are_distinct, are_in_years, are_short, are_week_long, is_week};
+use model_json::tree::Tree;
+use model_series::exception::{Exception, Exceptions, Span};
+use model_series::rules::Rules;
+use model_series::series::Series;
+use model_time::length::Length;
+use model_time::wall::Wall;
+use rule_read::{RulesError, read_rules};
+use std::alloc::{AllocError, Global};
+use time_text::{is_in_years, read_local};
+
+/// The most exceptions of a series.
+const MOST_EXCEPTIONS: usize = 128;
+
+/// The series that a value tells, where it is one that may be booked.
+pub fn series_in(alloc: Global, tree: &Tree) -> Result<Option<Series>, AllocError>
+    ensures { IfOk result (λ o. IfSome o IsWeekLong) }
+{
+    let Some(start) = wall_at(tree, "start") else {
+        return Ok(None);
+    };
+    if !is_in_years(start) {
+        return Ok(None);
+    }
+    let exceptions = exceptions_in(alloc, tree)?;
+    match tree.get("rules") {
+        Some(rules) => match read_rules(alloc, rules, start) {
+            Ok(rules) => Ok(booked(start, length_in(tree), is_busy(tree), rules, exceptions)),
+            Err(RulesError::BadRules) => Ok(None),
+            Err(RulesError::NoMemory) => Err(AllocError),
+        },
+        None => {
+            let none = Rules::new(Vec::new(alloc));
+            Ok(booked(start, length_in(tree), is_busy(tree), none, exceptions))
+        }
+    }
+}
+
+/// The wall second at a key.
+fn wall_at(tree: &Tree, key: &str) -> Option<Wall> {
+    match tree.get(key) {
+        Some(Tree::Text(text)) => read_local(text.as_str().as_bytes()),
+        _ => None,
+    }
+}
+
+/// The number at a key, 0 where there is none that isn't negative.
+fn number_at(tree: &Tree, key: &str) -> u64 {
+    match tree.get(key) {
+        Some(Tree::Whole(number)) => u64::try_from(number.get()).unwrap_or_default(),
+        _ => 0,
+    }
+}
+
+fn length_in(tree: &Tree) -> Length {
+    Length {
+        days: number_at(tree, "days"),
+        seconds: number_at(tree, "seconds"),
+    }
+}
+
+fn is_busy(tree: &Tree) -> bool {
+    tree.get("free").is_none()
+}
+
+fn exceptions_in(alloc: Global, tree: &Tree) -> Result<Vec<Exception>, AllocError> {
+    let mut exceptions = Vec::new(alloc);
+    if let Some(Tree::List(list)) = tree.get("exceptions") {
+        for item in list.items() {
+            if let Some(rid) = wall_at(item, "rid") {
+                let replaced = wall_at(item, "start").map(|start| Span {
+                    start,
+                    length: length_in(item),
+                    occupying: is_busy(item),
+                });
+                exceptions.push(Exception { rid, replaced })?;
+            }
+        }
+    }
+    Ok(exceptions)
+}
+
+// The series, where it keeps the limits.
+fn booked(
+    start: Wall,
+    length: Length,
+    occupying: bool,
+    rules: Rules,
+    exceptions: Vec<Exception>,
+) -> Option<Series>
+    requires years { is_in_years start ≡ true }
+    requires few { count rules ≤ 4 }
+    ensures { IfSome result IsWeekLong }
+{
+    if !is_week(length) {
+        return None;
+    }
+    if exceptions.len() > MOST_EXCEPTIONS {
+        return None;
+    }
+    if !are_in_years(&exceptions) {
+        return None;
+    }
+    if !are_short(&exceptions) {
+        return None;
+    }
+    if !are_week_long(&exceptions) {
+        return None;
+    }
+    if !are_distinct(&exceptions) {
+        return None;
+    }
+    Some(Series {
+        start,
+        length,
+        occupying,
+        rules,
+        exceptions: Exceptions::new(exceptions),
+    })
+}
