@@ -1,7 +1,7 @@
 //! Occurrences of events, which clients name by synthetic ids.
 ghost use Rattle.std.specs.Prelude.{◌≡◌, IfOk, true};
 ghost use Rattle.account_store.specs.Store.{entries};
-ghost use Rattle.cal_model.specs.Occurrences.{occurrence_at, occurrence_named};
+ghost use Rattle.cal_model.specs.Occurrences.{occurrence_numbered, occurrence_named};
 ghost use Rattle.model_history.specs.History.{changes_of};
 ghost use Rattle.model_history.specs.declared.entry.Kind.TheVariants.{Event as event_kind};
 ghost use Rattle.model_time.specs.Walls.{is_in_years};
@@ -34,20 +34,20 @@ fn event_occurrence(alloc: Global, store: &Store, id: &Text) -> Result<Option<Tr
     ensures { IfOk result (λ o. o ≡ occurrence_named (changes_of (entries store.now)) event_kind id.now) }
 {
     match read_occurrence_id(id.as_str().as_bytes()) {
-        Some((number, rid)) => occurrence_at(alloc, store, number, rid),
+        Some((number, rid)) => occurrence_numbered(alloc, store, number, rid),
         None => Ok(None),
     }
 }
 
 // The occurrence of the live event of this number with this recurrence id.
-fn occurrence_at(
+fn occurrence_numbered(
     alloc: Global,
     store: &Store,
     number: u64,
     rid: Wall,
 ) -> Result<Option<Tree>, AllocError>
     requires { is_in_years rid ≡ true }
-    ensures { IfOk result (λ o. o ≡ occurrence_at (changes_of (entries store.now)) (number, rid)) }
+    ensures { IfOk result (λ o. o ≡ occurrence_numbered (changes_of (entries store.now)) (number, rid)) }
 {
     let Some(event) = store.object(Kind::Event, number) else {
         return Ok(None);

@@ -14,10 +14,10 @@ use Rattle.model_recurrence.specs.Recurrence.{occurrence_members}
 abbrev pub occurrence_of : ℕ → ℤ → Tree → Option Tree
 occurrence_of n w event = option_map Object (occurrence_members n w (data_of event))
 
-abbrev pub occurrence_at : List Change → ℕ × ℤ → Option Tree
-occurrence_at cs q = option_and_then (occurrence_of q.0 q.1) (live_object cs Event q.0)
+abbrev pub occurrence_numbered : List Change → ℕ × ℤ → Option Tree
+occurrence_numbered cs q = option_and_then (occurrence_of q.0 q.1) (live_object cs Event q.0)
 
 -- the occurrence of a live event that an id names
 abbrev pub occurrence_named : List Change → Kind → List ℕ → Option Tree
 occurrence_named cs Calendar id = None
-occurrence_named cs Event id = option_and_then (occurrence_at cs) (occurrence_id_in id)
+occurrence_named cs Event id = option_and_then (occurrence_numbered cs) (occurrence_id_in id)

@@ -5,7 +5,7 @@ use Rattle.std.proofs.Math.Bool.{Bool-set}
 use Rattle.std.proofs.Math.Bridge.{le_prop}
 use Rattle.std.proofs.lemmas.Bool.{and_from}
 use Rattle.std.proofs.lemmas.Bool.Decides.{nat_tests}
-use Rattle.model_recurrence.specs.RulesOf.{IsWithinLimits, is_within_limits, limits_of, rule_by, rule_of, rule_where}
+use Rattle.model_recurrence.specs.RulesOf.{IsWithinLimits, is_within_limits, limits_of, rule_by, rule_by_parts, rule_where}
 use Rattle.model_series.specs.RuleObjects.{RuleParts, parts_of}
 use Rattle.model_series.specs.declared.rule.Rule.{Rule}
 
@@ -30,10 +30,10 @@ by_test : (r : Rule) (b : Bool) (h : is_within_limits (parts_of r) ≡ b) → b 
 by_test r false h e = cc
 by_test r true h e = ap Some (is_same r (limits_of (parts_of r) h))
 
-pub rule_back : (r : Rule) → rule_of (parts_of r) ≡ Some r
-unfolding rule_of
+pub rule_back : (r : Rule) → rule_by_parts (parts_of r) ≡ Some r
+unfolding rule_by_parts
 rule_back r = by_test r (is_within_limits (parts_of r)) refl (keeps_limits r)
 
-pub rules_back : (rs : List Rule) → all_some rule_of (map parts_of rs) ≡ Some rs
+pub rules_back : (rs : List Rule) → all_some rule_by_parts (map parts_of rs) ≡ Some rs
 rules_back [] = refl
 rules_back (r ∷ rs) = rw (rule_back r, rules_back rs) refl

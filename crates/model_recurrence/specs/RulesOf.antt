@@ -69,12 +69,12 @@ rule_where p false limits = None
 rule_where p true limits = Some (rule_by p (limits_of p limits))
 
 -- the same, none where the parts pass the limits
-unfoldable pub rule_of : RuleParts → Option Rule
-rule_of p = rule_where p (is_within_limits p) refl
+unfoldable pub rule_by_parts : RuleParts → Option Rule
+rule_by_parts p = rule_where p (is_within_limits p) refl
 
 -- the rules that a value means for a series that starts at this wall second; none where it means none
 abbrev pub rules_meant : ℤ → Data → List Rule
-rules_meant start d = unwrap_or (option_and_then (all_some rule_of) (rules_in start d)) []
+rules_meant start d = unwrap_or (option_and_then (all_some rule_by_parts) (rules_in start d)) []
 
 -- the rules of an event, of which there may be none
 abbrev pub rules_of_event : Data → List Rule

@@ -1,17 +1,17 @@
 //! Laws of the definitions.
 ghost use Rattle.std.specs.Prelude.{◌≡◌, ◌<◌, ◌^◌, Some, true, ℕ, ℤ};
-ghost use Rattle.model_recurrence.specs.OccurrenceIds.{IsReadBack};
-ghost use Rattle.model_recurrence.specs.RulesOf.{rule_of};
+ghost use Rattle.model_recurrence.specs.OccurrenceIds.{IsIdReadBack};
+ghost use Rattle.model_recurrence.specs.RulesOf.{rule_by_parts};
 ghost use Rattle.model_series.specs.RuleObjects.{parts_of};
 ghost use Rattle.model_series.specs.declared.rule.Rule.{Rule};
 ghost use Rattle.model_time.specs.Walls.{is_in_years};
 
 /// A rule is the one that has its parts.
 pub fn rules_are_their_parts()
-    ensures { (r : Rule) → rule_of (parts_of r) ≡ Some r }
+    ensures { (r : Rule) → rule_by_parts (parts_of r) ≡ Some r }
 {}
 
 /// A synthetic id in the years 0 to 9999 that was written is read back.
 pub fn written_occurrence_ids_are_read()
-    ensures { (n : ℕ) (w : ℤ) → 0 < n → n < 2 ^ 64 → is_in_years w ≡ true → IsReadBack n w }
+    ensures { (n : ℕ) (w : ℤ) → 0 < n → n < 2 ^ 64 → is_in_years w ≡ true → IsIdReadBack n w }
 {}

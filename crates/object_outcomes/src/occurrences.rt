@@ -1,6 +1,6 @@
 //! Occurrences of events, which clients name by synthetic ids.
 ghost use Rattle.std.specs.Prelude.{◌≡◌, ◌++◌, IfOk, is_some, true};
-ghost use Rattle.cal_model.specs.Occurrences.{occurrence_at, occurrence_named};
+ghost use Rattle.cal_model.specs.Occurrences.{occurrence_numbered, occurrence_named};
 ghost use Rattle.model_history.specs.declared.entry.Kind.TheVariants.{Event as event_kind};
 ghost use Rattle.model_time.specs.Walls.{is_in_years};
 
@@ -48,7 +48,7 @@ fn has_occurrence<V: AccountView>(
     rid: Wall,
 ) -> Result<bool, AllocError>
     requires { is_in_years rid ≡ true }
-    ensures { IfOk result (λ b. b ≡ is_some (occurrence_at (V.history view.now ++ V.staged view.now) (number, rid))) }
+    ensures { IfOk result (λ b. b ≡ is_some (occurrence_numbered (V.history view.now ++ V.staged view.now) (number, rid))) }
 {
     match view.live(Kind::Event, number) {
         Some(event) => Ok(occurrence(alloc, number, event, rid)?.is_some()),

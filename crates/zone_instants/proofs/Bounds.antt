@@ -9,7 +9,7 @@ use Rattle.jiff_tz.specs.declared.posix.TimeZone.{TimeZone}
 use Rattle.jiff_tz.specs.PosixText.{TzText, DstText, tz_view, dst_view}
 use Rattle.jiff_tz.specs.PosixRule.{in_window, in_span, saturating_add, saturating_sub}
 use Rattle.model_event.specs.Values.{is_showing}
-use Rattle.model_window.specs.Clocks.{Reading, Once, Twice, Never, advance, reading_behind, reading_ahead, reading_by, reading_at, instant_of, instant_in, change_at}
+use Rattle.model_window.specs.Clocks.{ClockReading, Once, Twice, Never, advance, reading_behind, reading_ahead, reading_by, reading_at, instant_of, instant_in, change_at}
 
 abbrev pub IsNearDst : Option DstText → Type 0
 IsNearDst None = Unit {0}
@@ -19,12 +19,12 @@ IsNearDst (Some d) = IsWithin 93599 d.seconds
 abbrev pub HasNearOffsets : TzText → Type 0
 HasNearOffsets tz = IsWithin 93599 tz.std_seconds × IsNearDst tz.dst
 
-abbrev IsNearReading : Reading → Type 0
+abbrev IsNearReading : ClockReading → Type 0
 IsNearReading (Once a) = IsWithin 93599 a
 IsNearReading (Twice a b) = IsWithin 93599 a × IsWithin 93599 b
 IsNearReading (Never a b) = IsWithin 93599 a × IsWithin 93599 b
 
-either : (b : Bool) (x y : Reading) → IsNearReading x → IsNearReading y → IsNearReading (if b then x else y)
+either : (b : Bool) (x y : ClockReading) → IsNearReading x → IsNearReading y → IsNearReading (if b then x else y)
 either true x y h k = h
 either false x y h k = k
 
@@ -52,12 +52,12 @@ reading_near_by tz (Some d) y at e h =
     let k = rw e at h.1 in
     rw e (by_near tz.std_seconds d.seconds (change_at y d.start, change_at y d.finish) at h.0 k)
 
-reading_near : (s : Reading) (w : ℤ) → IsNearReading s → IsWithin 93599 (instant_of w s -ℤ w)
+reading_near : (s : ClockReading) (w : ℤ) → IsNearReading s → IsWithin 93599 (instant_of w s -ℤ w)
 reading_near (Once a) w h = omega (arith, signed_arith, h)
 reading_near (Twice a b) w h = omega (arith, ints, clamps, h)
 reading_near (Never a b) w h = omega (arith, signed_arith, h)
 
-instant_near_by : (b : Bool) (tz : TzText) (w t : ℤ) (s : Reading) → IsNearReading s → (if b then Some (instant_of w s) else None) ≡ Some t → IsWithin 93599 (t -ℤ w)
+instant_near_by : (b : Bool) (tz : TzText) (w t : ℤ) (s : ClockReading) → IsNearReading s → (if b then Some (instant_of w s) else None) ≡ Some t → IsWithin 93599 (t -ℤ w)
 instant_near_by true tz w t s h e = let same : instant_of w s ≡ t = cc in rw same at (reading_near s w h)
 instant_near_by false tz w t s h e = cc
 
