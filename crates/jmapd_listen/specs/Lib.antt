@@ -1,0 +1,3 @@
+pub mod Passes
+pub mod Worked
+pub mod Listens

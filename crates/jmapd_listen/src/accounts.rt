@@ -1,0 +1,73 @@
+//! The accounts of a site that workers share, and the passes of each worker.
+ghost use Rattle.std.specs.Prelude.{◌≡◌, ℕ, ◌≤◌, ◌<◌, ◌^◌, IfOk, Some, length, slice_get};
+ghost use Rattle.std.specs.Arc.{arc_value};
+ghost use Rattle.account_desk.specs.FreshDesk.{bases};
+ghost use Rattle.jmapd_listen.specs.Passes.{fresh_passes};
+
+use account_desk::gate::Gate;
+use account_desk::gated::Gated;
+use account_desk::shared_desk::GatedAccounts;
+use account_desk::sole_desk::open_account;
+use account_lock::locked::Locked;
+use account_lock::pass::Pass;
+use session_doc::Site;
+use std::alloc::{AllocError, Global};
+use std::sync::Arc;
+use worker_crew::hands::{deal, empty_hands};
+
+/// The passes of a worker: one of each account, in their order.
+pub(crate) type Hand = Vec<Pass<Gated>>;
+
+/// What workers share, and the passes of each.
+#[derive(Drop)]
+pub(crate) struct Office {
+    pub(crate) site: Arc<Site>,
+    pub(crate) accounts: Arc<GatedAccounts>,
+    pub(crate) hands: Vec<Hand>,
+}
+
+/// Opens the accounts of a site for so many workers to share. Takes memory for all that they share, and for their passes.
+pub(crate) fn open_office(
+    alloc: Global,
+    site: Site,
+    gate: &Gate,
+    workers: u32,
+) -> Result<Office, AllocError>
+    requires { (1 ≤ workers) × (workers ≤ 256) }
+    ensures accounts { IfOk result (λ o. length (arc_value o.accounts).items ≡ length (arc_value o.site).accounts) }
+    ensures few { IfOk result (λ o. length (arc_value o.accounts).items < 2 ^ 32) }
+    ensures workers { IfOk result (λ o. length o.hands.items ≡ workers) }
+    ensures hands { IfOk result (λ o. (w : ℕ) (hand : _) → slice_get o.hands.items w ≡ Some hand → hand.items ≡ fresh_passes (arc_value o.accounts).items (bases (arc_value o.site)) w) }
+{
+    let (accounts, hands) = open_accounts(alloc, &site, gate, workers)?;
+    Ok(Office {
+        site: Arc::new(alloc, site)?,
+        accounts: Arc::new(alloc, accounts)?,
+        hands,
+    })
+}
+
+// Opens the accounts of a site, each in a lock of its own and behind this gate, and deals their passes to so many workers: worker w has pass w of each.
+fn open_accounts(
+    alloc: Global,
+    site: &Site,
+    gate: &Gate,
+    workers: u32,
+) -> Result<(GatedAccounts, Vec<Hand>), AllocError>
+    requires { (1 ≤ workers) × (workers ≤ 256) }
+    ensures accounts { IfOk result (λ r. length r.0.items ≡ length site.now.accounts) }
+    ensures few { IfOk result (λ r. length r.0.items < 2 ^ 32) }
+    ensures workers { IfOk result (λ r. length r.1.items ≡ workers) }
+    ensures hands { IfOk result (λ r. (w : ℕ) (hand : _) → slice_get r.1.items w ≡ Some hand → hand.items ≡ fresh_passes r.0.items (bases site.now) w) }
+{
+    let count = site.accounts();
+    let mut accounts = Vec::new(alloc);
+    let mut hands = empty_hands(alloc, workers)?;
+    for n in 0..count {
+        let account = Gated::new(open_account(alloc, site, n)?, n, gate.try_clone()?);
+        let (lock, passes) = Locked::open(alloc, account, workers)?;
+        deal(&mut hands, passes)?;
+        accounts.push(lock)?;
+    }
+    Ok((accounts, hands))
+}

@@ -1,0 +1,135 @@
+//! The command `listen`.
+ghost use Rattle.std.specs.Prelude.{◌≡◌, ◌≤◌, ◌+◌, All, IfOk, length, map, string_bytes};
+ghost use Rattle.command_line.specs.declared.listen.TheConstants.{MOST_CONNECTIONS};
+ghost use Rattle.jmapd_listen.specs.Listens.{HiresHow, ListensHow, ServesSite};
+ghost use Rattle.command_line.specs.Shown.{listen_shown};
+
+use crate::accounts::open_office;
+use crate::job::WorkerJob;
+use account_desk::gate::Gate;
+use command_line::listen::{Listen, read_listen};
+use io_edge::clock::Clock;
+use io_edge::opener::Opener;
+use jmapd_run::start::load_site;
+use jmapd_run::status::Status;
+use listen_edge::host::{Host, HostError};
+use listen_edge::spawner::Spawner;
+use session_doc::Site;
+use std::alloc::{AllocError, Global};
+use std::sync::{Arc, Wait};
+use worker_crew::crew::{join_all, start_all};
+
+/// Serves connections on a port by so many workers at the same time, which `words` name; they are the program's words without its own name.
+///
+/// In order: the words, the configuration, the memory for the accounts, then a listener for each worker, from worker 0 on, by the host; then each worker is
+/// started by the spawner, in the same order, and then joined. The workers share the accounts, and each is served so many connections. It is `Done` where
+/// each served all of them, and `OpenFault` where the configuration isn't loaded, a listener isn't made, or a listener failed. It may wait, and needn't return.
+pub fn listen<
+    O: Opener,
+    H: Host,
+    S: Spawner,
+    C: Clock + Copy + Send + Drop + 'static,
+    W: Wait + Copy + Send + Drop + 'static,
+>(
+    alloc: Global,
+    runtime: W,
+    words: &[String],
+    opener: &mut O,
+    host: &mut H,
+    spawner: &mut S,
+    clock: C,
+    gate: &Gate,
+) -> Status
+    ensures listens { ListensHow (O.shown opener.old) (O.shown opener.new) (H.shown host.old) (H.shown host.new) (record { faults = S.faults spawner.old; served = S.served spawner.old })
+        (record { faults = S.faults spawner.new; served = S.served spawner.new }) (map string_bytes words.now) result }
+    ensures files { (O.shown opener.new).files ≡ (O.shown opener.old).files }
+    ensures once { (O.shown opener.new).loads ≤ (O.shown opener.old).loads + 1 }
+{
+    let asked = match read_listen(alloc, words) {
+        Ok(Some(asked)) => asked,
+        Ok(None) => return Status::Usage,
+        Err(AllocError) => return Status::NoMemory,
+    };
+    match load_site(alloc, opener, asked.config) {
+        Ok(site) => serve_site(alloc, runtime, &asked, site, host, spawner, clock, gate),
+        Err(status) => status,
+    }
+}
+
+// Serves the users of a site.
+fn serve_site<
+    H: Host,
+    S: Spawner,
+    C: Clock + Copy + Send + Drop + 'static,
+    W: Wait + Copy + Send + Drop + 'static,
+>(
+    alloc: Global,
+    runtime: W,
+    asked: &Listen<'_>,
+    site: Site,
+    host: &mut H,
+    spawner: &mut S,
+    clock: C,
+    gate: &Gate,
+) -> Status
+    requires workers { (1 ≤ asked.now.workers) × (asked.now.workers ≤ 16) }
+    requires connections { (1 ≤ asked.now.connections) × (asked.now.connections ≤ MOST_CONNECTIONS) }
+    ensures { ServesSite (listen_shown asked.now) (H.shown host.old) (H.shown host.new) (record { faults = S.faults spawner.old; served = S.served spawner.old })
+        (record { faults = S.faults spawner.new; served = S.served spawner.new }) result }
+{
+    let jobs = match hire(alloc, runtime, asked, site, host, clock, gate) {
+        Ok(jobs) => jobs,
+        Err(HostError::Failed) => return Status::OpenFault,
+        Err(HostError::NoMemory) => return Status::NoMemory,
+    };
+    let Ok(started) = start_all(alloc, spawner, jobs) else {
+        return Status::NoMemory;
+    };
+    if join_all(spawner, started, asked.connections) {
+        Status::Done
+    } else {
+        Status::OpenFault
+    }
+}
+
+type Jobs<L, C, W> = Vec<WorkerJob<L, C, W>>;
+
+// Opens the accounts and makes the workers, each with its listener.
+fn hire<
+    H: Host,
+    C: Clock + Copy + Send + Drop + 'static,
+    W: Wait + Copy + Send + Drop + 'static,
+>(
+    alloc: Global,
+    runtime: W,
+    asked: &Listen<'_>,
+    site: Site,
+    host: &mut H,
+    clock: C,
+    gate: &Gate,
+) -> Result<Jobs<H::L, C, W>, HostError>
+    requires workers { (1 ≤ asked.now.workers) × (asked.now.workers ≤ 16) }
+    requires connections { (1 ≤ asked.now.connections) × (asked.now.connections ≤ MOST_CONNECTIONS) }
+    ensures how { HiresHow (listen_shown asked.now) (H.shown host.old) (H.shown host.new) result }
+    ensures later { (H.shown host.old).faults ≤ (H.shown host.new).faults }
+    ensures workers { IfOk result (λ jobs. length jobs.items ≡ asked.now.workers) }
+    ensures connections { IfOk result (λ jobs. All (λ job. job.connections ≡ asked.now.connections) jobs.items) }
+{
+    let office = open_office(alloc, site, gate, asked.workers)?;
+    let mut jobs = Vec::with_capacity(alloc, office.hands.len())?;
+    for (number, passes) in office.hands.into_iter().enumerate() {
+        let worker = number as u32;
+        jobs.push_reserved(WorkerJob {
+            alloc,
+            runtime,
+            site: Arc::try_clone(&office.site)?,
+            worker,
+            listener: host.listener(asked.port, worker)?,
+            accounts: Arc::try_clone(&office.accounts)?,
+            passes,
+            clock,
+            connections: asked.connections,
+        });
+    }
+    Ok(jobs)
+}
