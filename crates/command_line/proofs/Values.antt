@@ -4,7 +4,7 @@ use Rattle.clap.specs.Words.{App, HasMatchesOf, first_of, first_value, found_of,
 use Rattle.clap.specs.declared.ArgMatches.{ArgMatches}
 use Rattle.clap.proofs.WalkLemmas.{first_value-rows}
 use Rattle.clap.proofs.OnLiterals.{clap_on_literals}
-use Rattle.command_line.specs.Commands.{Listen, batch, batch_app, batch_of, listen_app, listen_of, listen_with, stdio, stdio_app, stdio_of, accepts, value_of}
+use Rattle.command_line.specs.Commands.{batch, batch_app, batch_of, listen_app, listen_of, listen_with, stdio, stdio_app, stdio_of, accepts, value_of}
 
 pub batch_is_simple : is_simple batch_app ≡ true
 unfolding batch_app clap_on_literals

@@ -4,7 +4,6 @@ use Rattle.std.specs.Prelude.{◌⊎◌}
 use Rattle.listen_edge.specs.Ending.{counted, faults_in}
 use Rattle.listen_edge.specs.declared.job.WorkerDone.{WorkerDone}
 use Rattle.listen_edge.specs.declared.job.WorkerEnd.{WorkerEnd}
-use Rattle.listen_edge.specs.declared.job.WorkerEnd.TheVariants.{AcceptFault, All}
 use Rattle.worker_crew.specs.Crew.{Ends, HasServed, is_all}
 
 -- none was joined yet, or so many were

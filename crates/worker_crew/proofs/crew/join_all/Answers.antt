@@ -1,9 +1,9 @@
-use Rattle.std.proofs.Common.{◌≡◌, ◌+◌, ◌<◌, ◌&&◌, ℕ, Bool, [], ◌∷◌, length, get_or, sym, ap, ◌∙◌, subst, rules, length-append}
+use Rattle.std.proofs.Common.{◌+◌, ◌&&◌, ℕ, Bool, [], ◌∷◌, length, sym, ap, ◌∙◌, subst, rules, length-append}
 use Rattle.std.proofs.lemmas.Iterator.Adapters.{YieldsList-from_vec}
 use Rattle.std.proofs.lemmas.Iterator.Consumers.{YieldsList-turn, YieldsList-end}
 use Rattle.listen_edge.specs.Ending.{counted, faults_in}
 use Rattle.listen_edge.specs.declared.job.WorkerDone.{WorkerDone}
-use Rattle.worker_crew.specs.Crew.{Ends, HasServed, is_all}
+use Rattle.worker_crew.specs.Crew.{Ends}
 use Rattle.worker_crew.proofs.CrewLemmas.{Joined, all_joined, joined_more}
 use Rattle.worker_crew.proofs.crew.join_all.Goals as goal
 
