@@ -1,40 +1,24 @@
 -- What `listen` does.
-use Rattle.std.specs.Prelude.{◌≡◌, ◌⊎◌, ◌*◌, ◌++◌, ◌<◌, ◌≤◌, ◌+◌, zero, suc, ℕ, List, [], ◌∷◌, Option, Some, None, Result, Ok, Err, option_map}
+use Rattle.std.specs.Prelude.{◌≡◌, ◌⊎◌, ◌*◌, ◌<◌, ◌≤◌, ◌+◌, ℕ, List, Some, None, Ok, Err}
 use Rattle.io_edge.specs.Outside.{OpenerShown, Rose}
 use Rattle.listen_edge.specs.Ending.{counted}
 use Rattle.listen_edge.specs.Listening.{HostShown}
-use Rattle.listen_edge.specs.declared.host.HostError.{HostError}
-use Rattle.listen_edge.specs.declared.host.HostError.TheVariants as host
 use Rattle.command_line.specs.Commands.{Listen, listen_command_of}
 use Rattle.jmapd_run.specs.Starts.{IsLoaded, IsNotOpened}
 use Rattle.jmapd_run.specs.declared.status.Status.{Status}
 use Rattle.jmapd_run.specs.declared.status.Status.TheVariants.{Config, Done, NoMemory, OpenFault, Usage}
 use Rattle.model_site.specs.Configuration.{Site}
+use Rattle.worker_crew.specs.Listeners.{AskedFor}
 
 -- of a spawner: how many jobs ended by a fault of their listener, and how many connections all jobs served
 pub record SpawnerShown : Type 0 where
   pub faults : ℕ
   pub served : ℕ
 
--- the port with each worker from 0 on, so many
-abbrev pub workers_of : ℕ → ℕ → List (ℕ × ℕ)
-workers_of port zero = []
-workers_of port (suc n) = workers_of port n ++ (port, n) ∷ []
-
--- where a host tells what it was asked for, it was asked for listeners of the port for so many workers, from 0 on and in order, and for nothing else
-abbrev pub AskedFor : HostShown → HostShown → ℕ → ℕ → Type 0
-AskedFor h h' port n = h'.asked ≡ option_map (λ pairs. pairs ++ workers_of port n) h.asked
-
--- all workers have a listener; or the host failed to make one, and wasn't asked for another; or memory was wanted
-abbrev pub HiresHow : {J : Type 0} → Listen → HostShown → HostShown → Result J HostError → Type 0
-HiresHow l h h' (Ok jobs) = AskedFor h h' l.port l.workers
-HiresHow l h h' (Err host.Failed) = ((n : ℕ) × (n < l.workers) × AskedFor h h' l.port (n + 1)) × Rose h.faults h'.faults
-HiresHow l h h' (Err host.NoMemory) = (n : ℕ) × (n ≤ l.workers) × AskedFor h h' l.port n
-
 -- what comes of the words and a site: the workers served all their connections, and the spawner counted them; or a listener wasn't made, or one failed; or memory was wanted
 -- before a worker was started
 abbrev pub ServesSite : Listen → HostShown → HostShown → SpawnerShown → SpawnerShown → Status → Type 0
-ServesSite l h h' s s' Done = AskedFor h h' l.port l.workers × (s'.faults ≡ s.faults) × (s'.served ≡ counted s.served (l.workers * l.connections))
+ServesSite l h h' s s' Done = AskedFor h h' l.port l.workers × (s'.faults ≡ counted s.faults 0) × (s'.served ≡ counted s.served (l.workers * l.connections))
 ServesSite l h h' s s' OpenFault =
     (((n : ℕ) × (n < l.workers) × AskedFor h h' l.port (n + 1)) × Rose h.faults h'.faults × (s' ≡ s)) ⊎ (AskedFor h h' l.port l.workers × Rose s.faults s'.faults)
 ServesSite l h h' s s' NoMemory = ((n : ℕ) × (n ≤ l.workers) × AskedFor h h' l.port n) × (s' ≡ s)

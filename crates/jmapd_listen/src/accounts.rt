@@ -18,12 +18,16 @@ use worker_crew::hands::{deal, empty_hands};
 /// The passes of a worker: one of each account, in their order.
 pub(crate) type Hand = Vec<Pass<Gated>>;
 
-/// What workers share, and the passes of each.
+/// What workers share, and the passes of each: its type keeps that there is a lock for each account of the site, in the site's order, and that hand w has pass w of each,
+/// before any call.
 #[derive(Drop)]
 pub(crate) struct Office {
     pub(crate) site: Arc<Site>,
     pub(crate) accounts: Arc<GatedAccounts>,
     pub(crate) hands: Vec<Hand>,
+    ghost of_site: { length (arc_value accounts).items ≡ length (arc_value site).accounts },
+    ghost few: { length (arc_value accounts).items < 2 ^ 32 },
+    ghost fresh: { (w : ℕ) (hand : _) → slice_get hands.items w ≡ Some hand → hand.items ≡ fresh_passes (arc_value accounts).items (bases (arc_value site)) w },
 }
 
 /// Opens the accounts of a site for so many workers to share. Takes memory for all that they share, and for their passes.
@@ -34,10 +38,7 @@ pub(crate) fn open_office(
     workers: u32,
 ) -> Result<Office, AllocError>
     requires { (1 ≤ workers) × (workers ≤ 256) }
-    ensures accounts { IfOk result (λ o. length (arc_value o.accounts).items ≡ length (arc_value o.site).accounts) }
-    ensures few { IfOk result (λ o. length (arc_value o.accounts).items < 2 ^ 32) }
-    ensures workers { IfOk result (λ o. length o.hands.items ≡ workers) }
-    ensures hands { IfOk result (λ o. (w : ℕ) (hand : _) → slice_get o.hands.items w ≡ Some hand → hand.items ≡ fresh_passes (arc_value o.accounts).items (bases (arc_value o.site)) w) }
+    ensures { IfOk result (λ office. length office.hands.items ≡ workers) }
 {
     let (accounts, hands) = open_accounts(alloc, &site, gate, workers)?;
     Ok(Office {

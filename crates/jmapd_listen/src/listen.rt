@@ -1,10 +1,10 @@
 //! The command `listen`.
 ghost use Rattle.std.specs.Prelude.{◌≡◌, ◌≤◌, ◌+◌, All, IfOk, length, map, string_bytes};
 ghost use Rattle.command_line.specs.declared.listen.TheConstants.{MOST_CONNECTIONS};
-ghost use Rattle.jmapd_listen.specs.Listens.{HiresHow, ListensHow, ServesSite};
+ghost use Rattle.jmapd_listen.specs.Listens.{ListensHow, ServesSite};
 ghost use Rattle.command_line.specs.Shown.{listen_shown};
 
-use crate::accounts::open_office;
+use crate::accounts::{Office, open_office};
 use crate::job::WorkerJob;
 use account_desk::gate::Gate;
 use command_line::listen::{Listen, read_listen};
@@ -13,11 +13,13 @@ use io_edge::opener::Opener;
 use jmapd_run::start::load_site;
 use jmapd_run::status::Status;
 use listen_edge::host::{Host, HostError};
+use listen_edge::listener::Listener;
 use listen_edge::spawner::Spawner;
 use session_doc::Site;
 use std::alloc::{AllocError, Global};
 use std::sync::{Arc, Wait};
 use worker_crew::crew::{join_all, start_all};
+use worker_crew::listeners::open_listeners;
 
 /// Serves connections on a port by so many workers at the same time, which `words` name; they are the program's words without its own name.
 ///
@@ -77,10 +79,16 @@ fn serve_site<
     ensures { ServesSite (listen_shown asked.now) (H.shown host.old) (H.shown host.new) (record { faults = S.faults spawner.old; served = S.served spawner.old })
         (record { faults = S.faults spawner.new; served = S.served spawner.new }) result }
 {
-    let jobs = match hire(alloc, runtime, asked, site, host, clock, gate) {
-        Ok(jobs) => jobs,
+    let Ok(office) = open_office(alloc, site, gate, asked.workers) else {
+        return Status::NoMemory;
+    };
+    let listeners = match open_listeners(alloc, host, asked.port, asked.workers) {
+        Ok(listeners) => listeners,
         Err(HostError::Failed) => return Status::OpenFault,
         Err(HostError::NoMemory) => return Status::NoMemory,
+    };
+    let Ok(jobs) = jobs_of(alloc, runtime, office, listeners, clock, asked.connections) else {
+        return Status::NoMemory;
     };
     let Ok(started) = start_all(alloc, spawner, jobs) else {
         return Status::NoMemory;
@@ -94,41 +102,41 @@ fn serve_site<
 
 type Jobs<L, C, W> = Vec<WorkerJob<L, C, W>>;
 
-// Opens the accounts and makes the workers, each with its listener.
-fn hire<
-    H: Host,
+// The workers, each with its listener and its passes.
+fn jobs_of<
+    L: Listener,
     C: Clock + Copy + Send + Drop + 'static,
     W: Wait + Copy + Send + Drop + 'static,
 >(
     alloc: Global,
     runtime: W,
-    asked: &Listen<'_>,
-    site: Site,
-    host: &mut H,
+    office: Office,
+    listeners: Vec<L>,
     clock: C,
-    gate: &Gate,
-) -> Result<Jobs<H::L, C, W>, HostError>
-    requires workers { (1 ≤ asked.now.workers) × (asked.now.workers ≤ 16) }
-    requires connections { (1 ≤ asked.now.connections) × (asked.now.connections ≤ MOST_CONNECTIONS) }
-    ensures how { HiresHow (listen_shown asked.now) (H.shown host.old) (H.shown host.new) result }
-    ensures later { (H.shown host.old).faults ≤ (H.shown host.new).faults }
-    ensures workers { IfOk result (λ jobs. length jobs.items ≡ asked.now.workers) }
-    ensures connections { IfOk result (λ jobs. All (λ job. job.connections ≡ asked.now.connections) jobs.items) }
+    connections: u64,
+) -> Result<Jobs<L, C, W>, AllocError>
+    requires workers { length office.hands.items ≡ length listeners.items }
+    requires connections { (1 ≤ connections) × (connections ≤ MOST_CONNECTIONS) }
+    ensures workers { IfOk result (λ jobs. length jobs.items ≡ length listeners.items) }
+    ensures connections { IfOk result (λ jobs. All (λ job. job.connections ≡ connections) jobs.items) }
 {
-    let office = open_office(alloc, site, gate, asked.workers)?;
-    let mut jobs = Vec::with_capacity(alloc, office.hands.len())?;
-    for (number, passes) in office.hands.into_iter().enumerate() {
-        let worker = number as u32;
+    let Office {
+        site,
+        accounts,
+        hands,
+    } = office;
+    let mut jobs = Vec::with_capacity(alloc, hands.len())?;
+    for (worker, (passes, listener)) in hands.into_iter().zip(listeners).enumerate() {
         jobs.push_reserved(WorkerJob {
             alloc,
             runtime,
-            site: Arc::try_clone(&office.site)?,
-            worker,
-            listener: host.listener(asked.port, worker)?,
-            accounts: Arc::try_clone(&office.accounts)?,
+            site: Arc::try_clone(&site)?,
+            worker: worker as u32,
+            listener,
+            accounts: Arc::try_clone(&accounts)?,
             passes,
             clock,
-            connections: asked.connections,
+            connections,
         });
     }
     Ok(jobs)

@@ -12,7 +12,7 @@ use listen_edge::memory_host::MemHost;
 use listen_edge::memory_listener::MemConnection;
 use listen_edge::spawner::Spawner;
 use std::alloc::{AllocError, Global};
-use std::fmt;
+use std::fmt::{self, Display, Formatter, Write};
 use std::io;
 use std::sync::Wait;
 use std::thread::Threads;
@@ -34,8 +34,8 @@ pub struct Run {
     second: String,
 }
 
-impl fmt::Display for Run {
-    fn fmt(&self, f: &mut fmt::Formatter<'_>) -> fmt::Result {
+impl Display for Run {
+    fn fmt<W: Write>(&self, f: &mut Formatter<W>) -> fmt::Result {
         let Run {
             status,
             first,

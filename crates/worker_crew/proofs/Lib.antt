@@ -1,1 +1,2 @@
 pub mod CrewLemmas
+pub mod ListenerLemmas

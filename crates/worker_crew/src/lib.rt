@@ -3,3 +3,4 @@
 
 pub mod crew;
 pub mod hands;
+pub mod listeners;
