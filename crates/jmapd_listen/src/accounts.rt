@@ -65,8 +65,9 @@ fn open_accounts(
     let mut accounts = Vec::new(alloc);
     let mut hands = empty_hands(alloc, workers)?;
     for n in 0..count {
-        let account = Gated::new(open_account(alloc, site, n)?, n, gate.try_clone()?);
-        let (lock, passes) = Locked::open(alloc, account, workers)?;
+        let account = open_account(alloc, site, n)?;
+        let gated = Gated::new(account, n, gate.try_clone()?);
+        let (lock, passes) = Locked::open(alloc, gated, workers)?;
         deal(&mut hands, passes)?;
         accounts.push(lock)?;
     }

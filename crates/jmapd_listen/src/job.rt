@@ -47,8 +47,7 @@ pub struct WorkerBack<L, C, W: Wait> {
 }
 
 impl<L: Listener, C: Clock + Send + Drop + 'static, W: Wait + Send + Drop + 'static> Finished
-    for WorkerBack<L, C, W>
-{
+    for WorkerBack<L, C, W> {
     ghost ended = { λ back. back.done };
 
     fn done(&self) -> WorkerDone {
@@ -57,8 +56,7 @@ impl<L: Listener, C: Clock + Send + Drop + 'static, W: Wait + Send + Drop + 'sta
 }
 
 impl<L: Listener, C: Clock + Send + Drop + 'static, W: Wait + Send + Drop + 'static> Job
-    for WorkerJob<L, C, W>
-{
+    for WorkerJob<L, C, W> {
     type Back = WorkerBack<L, C, W>;
 
     // What a call of `worker` over its listener and a desk of its passes may leave and answer.

@@ -20,6 +20,7 @@ const TWO: &str = "listen --config c --port 8080 --workers 2 --connections 1";
 
 /// Asks for the calendars of an account.
 const GET_FIRST: &str = r#"["Calendar/get",{"accountId":"A1","properties":["name"]},"g"]"#;
+
 const GET_SECOND: &str = r#"["Calendar/get",{"accountId":"A2","properties":["name"]},"g"]"#;
 
 /// Creates a calendar.
