@@ -84,8 +84,8 @@ impl Desk for SoleDesk {
     }
 }
 
-/// The account of a number of a site, without entries.
-fn open_account(alloc: Global, site: &Site, n: u32) -> Result<Account, AllocError>
+/// The account of a number of a site, without entries. Takes memory for its id.
+pub fn open_account(alloc: Global, site: &Site, n: u32) -> Result<Account, AllocError>
     requires { n < length site.now.accounts }
     ensures { IfOk result (λ a. a ≡ fresh_account site.now n) }
 {

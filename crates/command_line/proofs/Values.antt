@@ -4,7 +4,7 @@ use Rattle.clap.specs.Words.{App, HasMatchesOf, first_of, first_value, found_of,
 use Rattle.clap.specs.declared.ArgMatches.{ArgMatches}
 use Rattle.clap.proofs.WalkLemmas.{first_value-rows}
 use Rattle.clap.proofs.OnLiterals.{clap_on_literals}
-use Rattle.command_line.specs.Commands.{batch, batch_app, batch_of, stdio, stdio_app, stdio_of, accepts, value_of}
+use Rattle.command_line.specs.Commands.{batch, batch_app, batch_of, listen_app, listen_of, listen_with, stdio, stdio_app, stdio_of, accepts, value_of}
 
 pub batch_is_simple : is_simple batch_app ≡ true
 unfolding batch_app clap_on_literals
@@ -48,3 +48,25 @@ pub stdio_found : (app : App) (words : List (List ℕ)) (m : ArgMatches) (config
 stdio_found app words m config is taken h c =
     ap (option_map stdio) (c ∙ value_found app stdio_app words m (codes "config") is stdio_is_simple h)
     ∙ sym (ap (λ b. cond b (option_map stdio (value_of stdio_app words (codes "config"))) None) (ap (λ (a : App). accepts a words) (sym is) ∙ taken))
+
+pub listen_is_simple : is_simple listen_app ≡ true
+unfolding listen_app clap_on_literals
+listen_is_simple = refl
+
+pub listen_is_free : is_simple_and_free listen_app ≡ true
+unfolding listen_app clap_on_literals
+listen_is_free = refl
+
+pub listen_found : (app : App) (words : List (List ℕ)) (m : ArgMatches) (config port workers connections : Option (List ℕ)) → app ≡ listen_app
+    → accepts app words ≡ true → HasMatchesOf app words m
+    → config ≡ first_value (found_of m) (codes "config") → port ≡ first_value (found_of m) (codes "port")
+    → workers ≡ first_value (found_of m) (codes "workers") → connections ≡ first_value (found_of m) (codes "connections")
+    → listen_with config port workers connections ≡ listen_of words
+listen_found app words m config port workers connections is taken h c p w n =
+    let value = λ (name : List ℕ). value_of listen_app words name in
+    let found : (name : List ℕ) (o : Option (List ℕ)) → o ≡ first_value (found_of m) name → o ≡ value_of listen_app words name =
+    λ name o e. e ∙ value_found app listen_app words m name is listen_is_simple h in
+    let all = listen_with (value (codes "config")) (value (codes "port")) (value (codes "workers")) (value (codes "connections")) in
+    let same : listen_with config port workers connections ≡ all =
+    (λ i. listen_with (found (codes "config") config c i) (found (codes "port") port p i) (found (codes "workers") workers w i) (found (codes "connections") connections n i)) in
+    same ∙ sym (ap (λ b. cond b all None) (ap (λ (a : App). accepts a words) (sym is) ∙ taken))

@@ -1,16 +1,25 @@
 -- What the words of the command line ask for. Of the words behind the first it is what `clap` states.
-use Rattle.std.specs.Prelude.{ℕ, List, [], ◌∷◌, Bool, true, false, if◌then◌else◌, Some, None, codes, option_map}
+use Rattle.std.specs.Prelude.{ℕ, ◌&&◌, List, [], ◌∷◌, Bool, true, false, if◌then◌else◌, Some, None, codes, nat_le, nat_lt, option_and_then, option_map}
 use Rattle.std.specs.declared.option.Option.{Option}
 use Rattle.std.specs.Str.{bytes_eq}
 use Rattle.clap.specs.Words.{App, Rule, fault_of, first_of, matches_of, new_app, new_rule, with_rule}
 use Rattle.clap.specs.Simple.{on_top}
 use Rattle.clap.specs.Walk.{is_empty}
 use Rattle.clap.specs.declared.builder.action.ArgAction.TheVariants.{Set}
+use Rattle.model_json.specs.Number.{number_in}
+use Rattle.command_line.specs.declared.listen.TheConstants.{DEFAULT_CONNECTIONS, DEFAULT_WORKERS, MOST_CONNECTIONS, MOST_PORT, MOST_WORKERS}
 
 -- `batch` with a configuration and a user, each by its name where it is given, or `stdio` with a configuration
 pub data Command : Type 0 where
   batch : Option (List ℕ) → Option (List ℕ) → Command
   stdio : List ℕ → Command
+
+-- `listen` with a configuration, a port, and so many workers, each for so many connections
+pub record Listen : Type 0 where
+  pub config : List ℕ
+  pub port : ℕ
+  pub workers : ℕ
+  pub connections : ℕ
 
 -- a command of `clap` without options, whose words don't begin with the program's name; it has no `--help` and no `--version`
 abbrev pub without_flags : List ℕ → App
@@ -27,6 +36,12 @@ batch_app = with_rule (with_rule (without_flags (codes "batch")) (option_named (
 -- `stdio --config NAME`
 unfoldable pub stdio_app : App
 stdio_app = with_rule (without_flags (codes "stdio")) (option_named (codes "config") true)
+
+-- `listen --config NAME --port P [--workers W] [--connections N]`
+unfoldable pub listen_app : App
+listen_app =
+    with_rule (with_rule (with_rule (with_rule (without_flags (codes "listen")) (option_named (codes "config") true)) (option_named (codes "port") true)) (option_named (codes "workers") false))
+    (option_named (codes "connections") false)
 
 -- `clap` finds no fault with the words of a command
 abbrev pub accepts : App → List (List ℕ) → Bool
@@ -53,3 +68,37 @@ command_of [] = None
 command_of (word ∷ words) =
     if bytes_eq word (codes "batch") then batch_of words
     else (if bytes_eq word (codes "stdio") then stdio_of words else None)
+
+-- ---- `listen`
+
+-- this number, where it is from 1 to the most
+abbrev pub within : ℕ → ℕ → Option ℕ
+within most n = if nat_lt 0 n && nat_le n most then Some n else None
+
+-- the number from 1 to the most that a text writes out
+abbrev pub count_in : ℕ → List ℕ → Option ℕ
+count_in most text = option_and_then (within most) (number_in text)
+
+-- the number of an option, or another one where it isn't given
+abbrev pub count_or : ℕ → ℕ → Option (List ℕ) → Option ℕ
+count_or most default None = Some default
+count_or most default (Some text) = count_in most text
+
+-- what the values of its options ask for
+abbrev pub listen_with : Option (List ℕ) → Option (List ℕ) → Option (List ℕ) → Option (List ℕ) → Option Listen
+listen_with config port workers connections =
+    option_and_then (λ c. option_and_then (λ p. option_and_then (λ w. option_map (λ n. record { config = c; port = p; workers = w; connections = n })
+    (count_or MOST_CONNECTIONS DEFAULT_CONNECTIONS connections)) (count_or MOST_WORKERS DEFAULT_WORKERS workers)) (option_and_then (count_in MOST_PORT) port)) config
+
+-- what the words behind `listen` ask for
+abbrev pub listen_of : List (List ℕ) → Option Listen
+listen_of words =
+    if accepts listen_app words
+    then listen_with (value_of listen_app words (codes "config")) (value_of listen_app words (codes "port")) (value_of listen_app words (codes "workers"))
+    (value_of listen_app words (codes "connections"))
+    else None
+
+-- what the words of the command line ask for, where they are those of `listen`
+abbrev pub listen_command_of : List (List ℕ) → Option Listen
+listen_command_of [] = None
+listen_command_of (word ∷ words) = if bytes_eq word (codes "listen") then listen_of words else None

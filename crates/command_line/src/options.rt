@@ -2,7 +2,7 @@
 
 ghost use Rattle.std.specs.Prelude.{◌≡◌, IfNone, IfOk, IfSome, false, map, string_bytes, true};
 ghost use Rattle.clap.specs.Words.{HasMatchesOf, app_of, is_simple_and_free, rule_of};
-ghost use Rattle.command_line.specs.Commands.{without_flags, batch_app, option_named, stdio_app, accepts};
+ghost use Rattle.command_line.specs.Commands.{without_flags, batch_app, listen_app, option_named, stdio_app, accepts};
 
 use clap::error::ErrorKind;
 use clap::{Arg, ArgAction, ArgMatches, Command};
@@ -24,6 +24,22 @@ pub fn stdio_command<'a>(alloc: Global) -> Result<Command<'a>, AllocError>
 {
     let config = option_named(alloc, "config", true);
     let command = bare_command(alloc, "stdio").arg(config)?;
+    Ok(command)
+}
+
+/// `listen --config NAME --port P [--workers W] [--connections N]`. Takes memory for its options.
+pub fn listen_command<'a>(alloc: Global) -> Result<Command<'a>, AllocError>
+    ensures { IfOk result (λ command. app_of command ≡ listen_app) }
+{
+    let config = option_named(alloc, "config", true);
+    let port = option_named(alloc, "port", true);
+    let workers = option_named(alloc, "workers", false);
+    let connections = option_named(alloc, "connections", false);
+    let command = bare_command(alloc, "listen")
+        .arg(config)?
+        .arg(port)?
+        .arg(workers)?
+        .arg(connections)?;
     Ok(command)
 }
 

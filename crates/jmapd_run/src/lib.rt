@@ -4,6 +4,6 @@
 mod batch;
 pub mod laws;
 pub mod run;
-mod start;
+pub mod start;
 pub mod status;
 mod stdio;

@@ -85,7 +85,8 @@ fn site_of<O: Opener>(alloc: Global, opener: &mut O, config: Option<&str>) -> Re
     }
 }
 
-fn load_site<O: Opener>(alloc: Global, opener: &mut O, name: &str) -> Result<Site, Status>
+/// The site of the configuration of a name: `OpenFault` where it isn't loaded, `Config` where it is refused. Takes memory for it.
+pub fn load_site<O: Opener>(alloc: Global, opener: &mut O, name: &str) -> Result<Site, Status>
     ensures files { (O.shown opener.new).files ≡ (O.shown opener.old).files }
     ensures once { (O.shown opener.new).loads ≤ (O.shown opener.old).loads + 1 }
     ensures how { LoadHow (O.shown opener.old) (O.shown opener.new) name.now result }

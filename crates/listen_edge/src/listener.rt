@@ -8,8 +8,8 @@ use io_edge::sink::Sink;
 use io_edge::source::Source;
 use model_connection::served::Served;
 
-/// Hands out connections, one after the other, and takes them back when they were served.
-pub trait Listener: Drop {
+/// Hands out connections, one after the other, and takes them back when they were served. It may move to another thread.
+pub trait Listener: Send + Drop + 'static {
     /// What is read of a connection.
     type In: Source + Drop;
 

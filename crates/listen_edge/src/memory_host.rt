@@ -34,7 +34,7 @@ pub struct ShelfListener<W> {
     faults: u64,
 }
 
-impl<W: Wait + Drop> Listener for ShelfListener<W> {
+impl<W: Wait + Send + Drop + 'static> Listener for ShelfListener<W> {
     type In = MemSource;
 
     type Out = MemSink;
@@ -73,7 +73,7 @@ pub struct MemHost<W> {
     failing: FailingCalls,
 }
 
-impl<W: Wait + Copy + Drop> MemHost<W> {
+impl<W: Wait + Copy + Send + Drop + 'static> MemHost<W> {
     ghost use Rattle.listen_edge.specs.MemoryForms.{failing_listeners};
 
     /// Makes a host with a list of connections for each listener. The calls of `listener` whose numbers, from 0, stand in `failing` fail.
@@ -112,7 +112,7 @@ impl<W: Wait + Copy + Drop> MemHost<W> {
     }
 }
 
-impl<W: Wait + Copy + Drop> Host for MemHost<W> {
+impl<W: Wait + Copy + Send + Drop + 'static> Host for MemHost<W> {
     type L = ShelfListener<W>;
 
     ghost shown = { λ h. record { asked = Some h.asked.items; faults = faults_of h.failing } };

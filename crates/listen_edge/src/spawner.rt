@@ -1,8 +1,8 @@
 //! Spawners: what runs jobs.
 ghost use Rattle.std.specs.Prelude.{◌≡◌, ℕ};
-ghost use Rattle.listen_edge.specs.declared.spawner.Started.TheVariants.{Here, Thread};
 
 use crate::job::{Finished, Job, WorkerDone};
+use std::marker::Model;
 use std::snapshot::Snapshot;
 use std::thread;
 use std::thread::{Promise, PromisedHandle, Threads};
@@ -15,12 +15,31 @@ impl<J: Job> Promise<J::Back> for KeptJob<J> {
     ghost kept_by = { λ promise back. J.may_answer promise.0.value back };
 }
 
-/// A job that was started.
-pub enum Started<J: Job> {
-    /// It runs in a thread of its own.
+#[derive(Drop)]
+enum Running<J: Job> {
+    // It runs in a thread of its own.
     Thread(PromisedHandle<J::Back, KeptJob<J>>),
-    /// It was run as it was started.
+    // It was run as it was started.
     Here(J::Back),
+}
+
+/// A job that was started. Contracts see the job.
+#[derive(Drop)]
+pub struct Started<J: Job> {
+    job: Snapshot<J>,
+    running: Running<J>,
+}
+
+impl<J: Job> Model for Started<J> {
+    ghost use Rattle.std.specs.Prelude.{◌≡◌};
+    ghost use Rattle.listen_edge.specs.declared.spawner.Running.TheVariants.{Here, Thread};
+
+    ghost Value = { J };
+
+    ghost view = { λ s. s.job.value };
+
+    // What it gives is an answer that its job may give.
+    ghost invariant = { λ s. (back : J.Back) → elim s.running as (λ _. Type 0) [ Thread h ↦ J.may_answer h.promise.0.value back | Here b ↦ back ≡ b ] → J.may_answer s.job.value back };
 }
 
 /// Starts jobs, and gives what they answer. Contracts see how many jobs ended as `AcceptFault`, and how many connections all served; both counts stand at
@@ -51,10 +70,13 @@ pub trait Spawner {
     /// Starts a job. It may wait.
     final fn start<J: Job>(&mut self, job: J) -> Started<J>
         ensures counts { (faults self.new ≡ faults self.old) × (served self.new ≡ served self.old) }
-        ensures gives { (back : J.Back) → elim result as (λ _. Type 0) [ Thread h ↦ J.may_answer h.promise.0.value back | Here b ↦ back ≡ b ] → J.may_answer job back }
+        ensures job { result ≡ job }
     {
         if self.is_in_place() {
-            Started::Here(job.go())
+            Started {
+                job: Snapshot::of(&job),
+                running: Running::Here(job.go()),
+            }
         } else {
             start_thread(self.runtime(), job)
         }
@@ -62,13 +84,14 @@ pub trait Spawner {
 
     /// Gives what a job answered, for which it may wait, and counts how it ended.
     final fn join<J: Job>(&mut self, started: Started<J>) -> J::Back
-        ensures back { elim started as (λ _. Type 0) [ Thread h ↦ J.may_answer h.promise.0.value result | Here b ↦ result ≡ b ] }
+        ensures back { J.may_answer started result }
         ensures faults { faults self.new ≡ counted (faults self.old) (faults_in (J.Back.ended result).end) }
         ensures served { served self.new ≡ counted (served self.old) (J.Back.ended result).served }
     {
-        let back = match started {
-            Started::Thread(handle) => handle.join(self.runtime()),
-            Started::Here(back) => back,
+        let Started { job: _, running } = started;
+        let back = match running {
+            Running::Thread(handle) => handle.join(self.runtime()),
+            Running::Here(back) => back,
         };
         self.count(back.done());
         back
@@ -77,11 +100,13 @@ pub trait Spawner {
 
 // Starts a job in a thread of its own, or runs it here where no thread can be made.
 fn start_thread<R: Threads, J: Job>(runtime: &R, job: J) -> Started<J>
-    ensures { (back : J.Back) → elim result as (λ _. Type 0) [ Thread h ↦ J.may_answer h.promise.0.value back | Here b ↦ back ≡ b ] → J.may_answer job back }
+    ensures { result ≡ job }
 {
+    let of = Snapshot::of(&job);
     let promise = KeptJob(Snapshot::of(&job));
-    match thread::spawn_with(runtime, promise, move || job.go()) {
-        Ok(handle) => Started::Thread(handle),
-        Err(refused) => Started::Here((refused.value)()),
-    }
+    let running = match thread::spawn_with(runtime, promise, move || job.go()) {
+        Ok(handle) => Running::Thread(handle),
+        Err(refused) => Running::Here((refused.value)()),
+    };
+    Started { job: of, running }
 }

@@ -44,7 +44,10 @@ impl<R: Net> TcpHost<R> {
     }
 }
 
-impl<R: Net + Wait + Clock + Copy + Drop> Host for TcpHost<R> {
+impl<R: Net + Wait + Clock + Copy + Send + Drop + 'static> Host for TcpHost<R>
+where
+    R::Listener: Send + 'static,
+{
     type L = TcpConnections<R, R::Listener>;
 
     ghost shown = { λ h. record { asked = None; faults = h.faults } };

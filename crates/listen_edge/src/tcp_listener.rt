@@ -44,7 +44,10 @@ impl<R, L> TcpConnections<R, L> {
     }
 }
 
-impl<R: Wait + Clock + Copy + Drop, L: OpenListener + Drop> Listener for TcpConnections<R, L>
+impl<
+    R: Wait + Clock + Copy + Send + Drop + 'static,
+    L: OpenListener + Send + Drop + 'static,
+> Listener for TcpConnections<R, L>
 where
     L::Stream: Read + Write + OpenStream + Drop,
 {
