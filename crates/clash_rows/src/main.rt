@@ -2,11 +2,9 @@
 //! decision is made, for `bench/clashes.py` to time.
 #![tactic(auto)]
 
-mod limits;
-mod series;
-
 use model_json::tree::Tree;
 use residue_clash::{Shared, first_self_shared, first_shared};
+use row_series::series_in;
 use row_table::line::tree_in;
 use row_table::row::{Row, read_rows};
 use row_table::tally::RowTally;
@@ -32,11 +30,11 @@ fn told(alloc: Global, asked: &Tree, times: u32) -> Result<String, AllocError> {
     let Some(first) = asked.get("a") else {
         return String::from_str(alloc, "the row asks for nothing");
     };
-    let Some(a) = series::series_in(alloc, first)? else {
+    let Some(a) = series_in(alloc, first)? else {
         return String::from_str(alloc, "a is no series that may be booked");
     };
     match asked.get("b") {
-        Some(second) => match series::series_in(alloc, second)? {
+        Some(second) => match series_in(alloc, second)? {
             Some(b) => {
                 let mut found = first_shared(&a, &b);
                 for _ in 1..times {
