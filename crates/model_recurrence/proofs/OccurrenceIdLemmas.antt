@@ -6,7 +6,7 @@ use Rattle.std.proofs.lemmas.Str.Ascii.{IsAscii-cons, IsAscii-nil}
 use Rattle.std.specs.Str.{IsAscii}
 use Rattle.model_history.specs.ObjectId.{id_text, object_number}
 use Rattle.model_history.specs.declared.entry.Kind.TheVariants.{Event}
-use Rattle.model_recurrence.specs.OccurrenceIds.{IsReadBack, compact_in, compact_text, event_part, is_no_separator, occurrence_id_in, separated, time_part}
+use Rattle.model_recurrence.specs.OccurrenceIds.{IsIdReadBack, compact_in, compact_text, event_part, is_no_separator, occurrence_id_in, separated, time_part}
 use Rattle.model_time.specs.CivilDay.{day_of_month, month_of, year_of}
 use Rattle.model_time.specs.Forms.{two}
 use Rattle.model_time.specs.LocalTimes.{local_in, local_text}
@@ -144,7 +144,7 @@ id_by_parts : (n : ℕ) (w : ℤ) (s : List ℕ) → nat_le 16 (length s) ≡ tr
     → object_number Event (event_part s) ≡ Some n → compact_in (time_part s) ≡ Some w → occurrence_id_in s ≡ Some (n, w)
 id_by_parts n w s long mark number time = rw (long, mark, number, time) refl
 
-pub id_back : (n : ℕ) (w : ℤ) → 0 < n → n < 2 ^ 64 → is_in_years w ≡ true → IsReadBack n w
+pub id_back : (n : ℕ) (w : ℤ) → 0 < n → n < 2 ^ 64 → is_in_years w ≡ true → IsIdReadBack n w
 id_back n w above small years =
     let xs = id_text Event n in let ys = compact_text w in let s = xs ++ 95 ∷ ys in
     let long = compact_length w years in

@@ -42,5 +42,5 @@ abbrev pub occurrence_id_in : List ℕ → Option (ℕ × ℤ)
 occurrence_id_in s = if nat_le 16 (length s) && (slice_index s (length s - 16) == 95) then both_of (object_number Event (event_part s)) (compact_in (time_part s)) else None
 
 -- a synthetic id that was written is read back
-abbrev pub IsReadBack : ℕ → ℤ → Type 0
-IsReadBack n w = occurrence_id_in (occurrence_id_text n w) ≡ Some (n, w)
+abbrev pub IsIdReadBack : ℕ → ℤ → Type 0
+IsIdReadBack n w = occurrence_id_in (occurrence_id_text n w) ≡ Some (n, w)

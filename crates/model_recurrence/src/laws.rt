@@ -1,6 +1,6 @@
 //! Laws of the definitions.
 ghost use Rattle.std.specs.Prelude.{◌≡◌, ◌<◌, ◌^◌, Some, true, ℕ, ℤ};
-ghost use Rattle.model_recurrence.specs.OccurrenceIds.{IsReadBack};
+ghost use Rattle.model_recurrence.specs.OccurrenceIds.{IsIdReadBack};
 ghost use Rattle.model_recurrence.specs.RulesOf.{rule_of};
 ghost use Rattle.model_series.specs.RuleObjects.{parts_of};
 ghost use Rattle.model_series.specs.declared.rule.Rule.{Rule};
@@ -13,5 +13,5 @@ pub fn rules_are_their_parts()
 
 /// A synthetic id in the years 0 to 9999 that was written is read back.
 pub fn written_occurrence_ids_are_read()
-    ensures { (n : ℕ) (w : ℤ) → 0 < n → n < 2 ^ 64 → is_in_years w ≡ true → IsReadBack n w }
+    ensures { (n : ℕ) (w : ℤ) → 0 < n → n < 2 ^ 64 → is_in_years w ≡ true → IsIdReadBack n w }
 {}
