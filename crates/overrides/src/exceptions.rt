@@ -10,15 +10,15 @@ ghost use Rattle.overrides.specs.Reports.{Reports, ReportsAmong};
 ghost use Rattle.overrides.specs.declared.exceptions.OverrideError.TheVariants.{NoMemory};
 
 use crate::fixed::touches_fixed;
-use model_recurrence::limits::MAX_OVERRIDES;
 use crate::occurrence::{changed_at, patch_changes, single};
 use crate::part::{are_needed, firsts_of, part_of};
-use single_event::read::{EventError, bad_event_names, read_event};
 use model_event::limits::{FIRST_START, LAST_START};
 use model_json::text::Text;
 use model_json::tree::{Member, Tree, TreeObject};
+use model_recurrence::limits::MAX_OVERRIDES;
 use model_series::exception::{Exception, Exceptions, Span};
 use model_time::wall::Wall;
+use single_event::read::{EventError, bad_event_names, read_event};
 use std::alloc::{AllocError, AllocFailed, Global};
 use time_text::read_local;
 use zone_table::Zones;

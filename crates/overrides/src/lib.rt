@@ -3,6 +3,5 @@
 
 pub mod exceptions;
 mod fixed;
-
 pub mod occurrence;
 mod part;
