@@ -1,0 +1,3 @@
+mod LocalTextLemmas
+mod EventLemmas
+mod ExceptionLemmas
