@@ -1,3 +1,4 @@
 mod LocalTextLemmas
 mod EventLemmas
 mod ExceptionLemmas
+mod OccurrenceLemmas

@@ -76,6 +76,12 @@ record IsWritten (s : List ℕ) : Type 0 where
   tail : List ℕ
   is : s ≡ written a b m d h n c tail
 
+after_two : (marks s t : List ℕ) (b : BeginsWithTwo marks s) → b.rest ≡ t → s ≡ two b.number ++ t
+after_two marks s t b e = b.is ∙ ap (λ u. two b.number ++ u) e
+
+after_mark : (mark : ℕ) (marks s t : List ℕ) (b : BeginsWith mark marks s) → b.rest ≡ t → s ≡ mark ∷ t
+after_mark mark marks s t b e = b.is ∙ ap (λ u. mark ∷ u) e
+
 fields_of : (s : List ℕ) → fits_marks (codes "0000-00-00T00:00:00") s ≡ true → IsWritten s
 fields_of s fits =
     let a = begin_two (codes "00-00-00T00:00:00") s fits in
@@ -95,11 +101,9 @@ fields_of s fits =
       a_small = a.small; b_small = b.small; m_small = m.small; d_small = d.small; h_small = h.small; n_small = n.small; c_small = c.small;
       tail = c.rest;
       is =
-          a.is ∙ ap (λ t. two a.number ++ t) (b.is ∙ ap (λ t. two b.number ++ t) (b_end.is ∙ ap (λ t. 45 ∷ t)
-          (m.is ∙ ap (λ t. two m.number ++ t) (m_end.is ∙ ap (λ t. 45 ∷ t)
-          (d.is ∙ ap (λ t. two d.number ++ t) (d_end.is ∙ ap (λ t. 84 ∷ t)
-          (h.is ∙ ap (λ t. two h.number ++ t) (h_end.is ∙ ap (λ t. 58 ∷ t)
-          (n.is ∙ ap (λ t. two n.number ++ t) (n_end.is ∙ ap (λ t. 58 ∷ t) c.is))))))))));
+          after_two _ _ _ a (after_two _ _ _ b (after_mark _ _ _ _ b_end (after_two _ _ _ m (after_mark _ _ _ _ m_end
+          (after_two _ _ _ d (after_mark _ _ _ _ d_end (after_two _ _ _ h (after_mark _ _ _ _ h_end
+          (after_two _ _ _ n (after_mark _ _ _ _ n_end c.is))))))))));
     }
 
 no_tail : (a b m d h n c : ℕ) (tail : List ℕ) → length (written a b m d h n c tail) ≡ 19 → tail ≡ []
