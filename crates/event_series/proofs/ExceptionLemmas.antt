@@ -1,5 +1,5 @@
 -- The exceptions that the overrides of an event come to, one by one: as a series has them, and found by their recurrence ids.
-use Rattle.std.proofs.Common.{◌≡◌, ◌≤◌, ◌==◌, ◌&&◌, ◌||◌, ℕ, suc, ℤ, List, [], ◌∷◌, Bool, true, false, not, Option, Some, None, Result, Ok, Err, codes, length, nat_le, option_and_then, option_map, unwrap_or, if◌then◌else◌, arith, refl, sym, ap, ◌∙◌}
+use Rattle.std.proofs.Common.{◌≡◌, ◌≤◌, ◌==◌, ◌&&◌, ◌||◌, ℕ, suc, ℤ, List, [], ◌∷◌, Bool, true, false, not, Option, Some, None, Result, Ok, Err, codes, is_some, length, nat_le, option_and_then, option_map, unwrap_or, if◌then◌else◌, arith, refl, sym, ap, ◌∙◌}
 use Rattle.std.proofs.lemmas.Bool.{and_from, and_parts}
 use Rattle.std.proofs.lemmas.Bool.Decides.{Decides-int_eq, nat_tests}
 use Rattle.std.proofs.lemmas.Option.{same_Some}
@@ -15,16 +15,19 @@ use Rattle.model_json.specs.Data.{Data, Pair, null, truth, whole, text, list, ob
 use Rattle.model_json.specs.ObjectKeys.{is_above, keys_rise}
 use Rattle.model_json.specs.Parts.{all_some, as_object, members_in, object_at}
 use Rattle.model_json.specs.Patch.{patched}
-use Rattle.model_recurrence.specs.Overrides.{changed_at, changed_span, exception_at, exception_in, exception_of, exceptions_in, few_members, is_excluded, overrides_in, overrides_of, patch_changes, recurrence_id_in, replaced_by, single, span_in, span_of, touches_fixed, valid_span}
-use Rattle.model_recurrence.specs.Recurrence.{is_there}
+use Rattle.model_recurrence.specs.Overrides.{changed_at, changed_span, exception_at, exception_in, exception_of, exceptions_in, few_members, first_refused, is_excluded, overrides_in, overrides_of, patch_changes, recurrence_id_in, replaced_by, single, span_in, span_of, touches_fixed, valid_span}
+use Rattle.model_recurrence.specs.Recurrence.{bad_properties_of_event, is_there}
 use Rattle.model_series.specs.SeriesLimits.{are_distinct, are_in_years, are_short, is_named, is_span_in_years, is_span_short, wall_seconds}
 use Rattle.model_series.specs.declared.exception.Exception.{Exception}
 use Rattle.model_series.specs.declared.exception.Span.{Span}
 use Rattle.model_site.specs.TimeZones.{ZoneText}
 use Rattle.model_time.specs.LocalTimes.{local_in, local_text}
 use Rattle.model_time.specs.Walls.{is_in_years}
+use Rattle.overrides.specs.Reports.{Reports}
+use Rattle.overrides.specs.declared.exceptions.OverrideError.{OverrideError}
+use Rattle.overrides.specs.declared.exceptions.OverrideError.TheVariants.{BadOverride, BadOverrides, NoMemory}
 use Rattle.time_text.proofs.WrittenLemmas.{read_back}
-use Rattle.event_series.proofs.EventLemmas.{alone_tests, few_seconds, in_years, length_is_short, start_shows}
+use Rattle.event_series.proofs.EventLemmas.{alone_tests, few_seconds, has_exceptions, in_years, length_is_short, start_shows}
 use Rattle.event_series.proofs.LocalTextLemmas.{text_back}
 
 -- What one override comes to.
@@ -266,11 +269,11 @@ overrides_by d ps (Some (object ms)) e h =
     let few = few_by (pairs_of ms) ps (nat_le (length (pairs_of ms)) 128) refl h in record { few = few.1; members = rw e (sym few.0) }
 
 -- as a series has them
-pub record AreOfSeries (xs : List Exception) : Type 0 where
-  pub few : length xs ≤ 128
-  pub years : are_in_years xs ≡ true
-  pub short : are_short xs ≡ true
-  pub distinct : are_distinct xs ≡ true
+record AreOfSeries (xs : List Exception) : Type 0 where
+  few : length xs ≤ 128
+  years : are_in_years xs ≡ true
+  short : are_short xs ≡ true
+  distinct : are_distinct xs ≡ true
 
 series_by : (zones : List ZoneText) (d : Data) (xs : List Exception) → keys_rise (unwrap_or (object_at (codes "recurrenceOverrides") d) []) ≡ true
     → (found : Option (List Pair)) → overrides_in d ≡ found → option_and_then (all_some (exception_in zones (single (members_in d)))) found ≡ Some xs → AreOfSeries xs
@@ -286,6 +289,46 @@ series_by zones d xs rise (Some ps) e h =
       distinct = all_distinct zones (single (members_in d)) ps xs (rw overrides.members rise) h;
     }
 
-pub exceptions_are_of_series : (zones : List ZoneText) (d : Data) (xs : List Exception) → keys_rise (unwrap_or (object_at (codes "recurrenceOverrides") d) []) ≡ true
+exceptions_are_of_series : (zones : List ZoneText) (d : Data) (xs : List Exception) → keys_rise (unwrap_or (object_at (codes "recurrenceOverrides") d) []) ≡ true
     → exceptions_in zones d ≡ Some xs → AreOfSeries xs
 exceptions_are_of_series zones d xs rise h = series_by zones d xs rise (overrides_in d) refl h
+
+pub exceptions_are_few : (zones : List ZoneText) (d : Data) (xs : List Exception) → keys_rise (unwrap_or (object_at (codes "recurrenceOverrides") d) []) ≡ true
+    → exceptions_in zones d ≡ Some xs → length xs ≤ 128
+exceptions_are_few zones d xs rise h = (exceptions_are_of_series zones d xs rise h).few
+
+pub exceptions_are_in_years : (zones : List ZoneText) (d : Data) (xs : List Exception) → keys_rise (unwrap_or (object_at (codes "recurrenceOverrides") d) []) ≡ true
+    → exceptions_in zones d ≡ Some xs → are_in_years xs ≡ true
+exceptions_are_in_years zones d xs rise h = (exceptions_are_of_series zones d xs rise h).years
+
+pub exceptions_are_short : (zones : List ZoneText) (d : Data) (xs : List Exception) → keys_rise (unwrap_or (object_at (codes "recurrenceOverrides") d) []) ≡ true
+    → exceptions_in zones d ≡ Some xs → are_short xs ≡ true
+exceptions_are_short zones d xs rise h = (exceptions_are_of_series zones d xs rise h).short
+
+pub exceptions_are_distinct : (zones : List ZoneText) (d : Data) (xs : List Exception) → keys_rise (unwrap_or (object_at (codes "recurrenceOverrides") d) []) ≡ true
+    → exceptions_in zones d ≡ Some xs → are_distinct xs ≡ true
+exceptions_are_distinct zones d xs rise h = (exceptions_are_of_series zones d xs rise h).distinct
+
+-- Where an event may have its overrides none is refused, so they aren't read only for want of memory.
+
+none_refused : (zones : List ZoneText) (alone ps : List Pair) (xs : List Exception) → all_some (exception_in zones alone) ps ≡ Some xs → first_refused zones alone ps ≡ None
+none_refused zones alone [] xs h = refl
+none_refused zones alone (p ∷ ps) xs h =
+    let parts = parts_of (exception_in zones alone p) (all_some (exception_in zones alone) ps) xs h in rw parts.first (none_refused zones alone ps parts.ys parts.others)
+
+refused_by : (zones : List ZoneText) (alone ps : List Pair) (key : List ℕ) (found : Option (List Exception)) → all_some (exception_in zones alone) ps ≡ found → is_some found ≡ true
+    → first_refused zones alone ps ≡ Some key → ⊥
+refused_by zones alone ps key None e there h = cc
+refused_by zones alone ps key (Some xs) e there h = let none = none_refused zones alone ps xs e in cc
+
+only_memory_by : (zones : List ZoneText) (d : Data) (error : OverrideError) → (found : Option (List Pair)) → overrides_in d ≡ found
+    → is_some (option_and_then (all_some (exception_in zones (single (members_in d)))) found) ≡ true → Reports error zones d → error ≡ NoMemory
+only_memory_by zones d error None e there h = cc
+only_memory_by zones d BadOverrides (Some ps) e there h = cc
+only_memory_by zones d (BadOverride key) (Some ps) e there h =
+    let refused : first_refused zones (single (members_in d)) ps ≡ Some key = sym (ap (option_and_then (first_refused zones (single (members_in d)))) e) ∙ h in
+    absurd (refused_by zones (single (members_in d)) ps key _ refl there refused)
+only_memory_by zones d NoMemory (Some ps) e there h = refl
+
+pub only_memory : (zones : List ZoneText) (d : Data) (error : OverrideError) → bad_properties_of_event zones d ≡ [] → Reports error zones d → error ≡ NoMemory
+only_memory zones d error none h = only_memory_by zones d error (overrides_in d) refl (has_exceptions zones d none) h

@@ -9,7 +9,7 @@ use Rattle.model_json.specs.Data.{Data, Pair, lookup}
 use Rattle.model_json.specs.Parts.{all_some, as_object, members_in}
 use Rattle.model_recurrence.specs.Overrides.{exception_in, overrides_in, single}
 use Rattle.model_recurrence.specs.Recurrence.{has_occurrence, is_given_by_rules, is_there, override_at}
-use Rattle.model_series.specs.Occurrences.{IsOccurrence, IsRegular, IsReplacement, is_rid}
+use Rattle.model_series.specs.Occurrences.{IsOccurrence, IsRegular, IsReplacement, is_day, is_rid}
 use Rattle.model_series.specs.SeriesLimits.{are_distinct, is_named}
 use Rattle.model_series.specs.declared.exception.Exception.{Exception}
 use Rattle.model_series.specs.declared.exception.Span.{Span}
@@ -17,7 +17,7 @@ use Rattle.model_series.specs.declared.occurrence.Occurrence.{Occurrence}
 use Rattle.model_series.specs.declared.series.Series.{Series}
 use Rattle.model_site.specs.TimeZones.{ZoneText}
 use Rattle.model_time.specs.LocalTimes.{local_text}
-use Rattle.model_time.specs.Walls.{is_in_years}
+use Rattle.model_time.specs.Walls.{day_of_wall, is_in_years, second_of_wall}
 use Rattle.event_series.specs.EventSeries.{HasOccurrence, IsSeriesOf}
 use Rattle.event_series.proofs.ExceptionLemmas.{overrides_agree, replaced_at, takes_place}
 
@@ -124,7 +124,9 @@ has_by_one s w = ((λ h. ap (has_one s) (sym h.2) ∙ occurrence_is_one s h.0 h.
 -- So has the event.
 
 given_is : (zones : List ZoneText) (d : Data) (s : Series) (w : ℤ) → IsSeriesOf zones d s → is_given_by_rules d w ≡ is_rid s w
-given_is zones d s w h = rw (← h.start, ← h.rules) refl
+given_is zones d s w h =
+    ap (λ rules. (second_of_wall w == second_of_wall (start_in d)) && is_day rules (start_in d) (day_of_wall w)) (sym h.rules)
+    ∙ ap (λ start. (second_of_wall w == second_of_wall start) && is_day s.rules start (day_of_wall w)) (sym h.start)
 
 agrees_by : (zones : List ZoneText) (d : Data) (xs : List Exception) (w : ℤ) (given : Bool) → is_in_years w ≡ true
     → (found : Option (List Pair)) → overrides_in d ≡ found → option_and_then (all_some (exception_in zones (single (members_in d)))) found ≡ Some xs

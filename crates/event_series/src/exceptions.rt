@@ -5,6 +5,7 @@ ghost use Rattle.model_json.specs.Parts.{object_at};
 ghost use Rattle.model_json.specs.TreeData.{data_of, pair_of};
 ghost use Rattle.model_recurrence.specs.Overrides.{exceptions_in};
 ghost use Rattle.model_recurrence.specs.Recurrence.{bad_properties_of_event};
+ghost use Rattle.overrides.specs.declared.exceptions.OverrideError.TheVariants.{NoMemory};
 ghost use Rattle.model_series.specs.SeriesLimits.{are_distinct, are_in_years, are_short};
 
 use model_json::tree::{Member, Tree};
@@ -14,6 +15,7 @@ use std::alloc::{AllocError, Global};
 use zone_table::Zones;
 
 /// The exceptions of an event that has no bad properties.
+#[tactic(auto, using(crate::proofs::ExceptionLemmas::exceptions_are_few, crate::proofs::ExceptionLemmas::exceptions_are_in_years, crate::proofs::ExceptionLemmas::exceptions_are_short, crate::proofs::ExceptionLemmas::exceptions_are_distinct, crate::proofs::ExceptionLemmas::only_memory))]
 pub(crate) fn exceptions_of(
     alloc: Global,
     event: &Tree,
@@ -29,9 +31,16 @@ pub(crate) fn exceptions_of(
     let _ordered = overrides_of(event);
     match exceptions(alloc, event, zones) {
         Ok(exceptions) => Ok(exceptions),
-        Err(OverrideError::BadOverrides) => unreachable!(),
-        Err(OverrideError::BadOverride { .. }) => unreachable!(),
-        Err(OverrideError::NoMemory) => Err(AllocError),
+        Err(error) => Err(want_of_memory(error)),
+    }
+}
+
+fn want_of_memory(error: OverrideError) -> AllocError
+    requires { error ≡ NoMemory }
+{
+    match error {
+        OverrideError::NoMemory => AllocError,
+        _ => unreachable!(),
     }
 }
 
