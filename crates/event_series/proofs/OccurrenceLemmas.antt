@@ -106,7 +106,7 @@ replacement_is_one s k x o h is =
 
 occurrence_is_one : (s : Series) (o : Occurrence) → IsOccurrence s o → has_one s o.rid ≡ true
 occurrence_is_one s o (inl h) = regular_is_one s o h
-occurrence_is_one s o (inr h) = replacement_is_one s h.0 h.1 o h.2 h.3
+occurrence_is_one s o (inr h) = replacement_is_one s h.0 h.1.0 o h.1.1.0 h.1.1.1
 
 one_occurs : (s : Series) (w : ℤ) (found : Option (Option Span)) → replaced_at s.exceptions w ≡ found → takes_place found (is_rid s w) ≡ true → HasOccurrence s w
 one_occurs s w None e h =
@@ -116,7 +116,7 @@ one_occurs s w (Some None) e h = cc
 one_occurs s w (Some (Some t)) e h =
     let o : Occurrence = record { rid = w; start = t.start; length = t.length; occupying = t.occupying } in
     let there = place_of s.exceptions w (Some t) e in
-    (o, inr (there.place, there.x, there.at, there.is), refl)
+    (o, inr (there.place, (there.x, (there.at, there.is))), refl)
 
 has_by_one : (s : Series) (w : ℤ) → HasOccurrence s w ↔ (has_one s w ≡ true)
 has_by_one s w = ((λ h. ap (has_one s) (sym h.2) ∙ occurrence_is_one s h.0 h.1), (λ h. one_occurs s w (replaced_at s.exceptions w) refl h))

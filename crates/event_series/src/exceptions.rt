@@ -15,7 +15,7 @@ use std::alloc::{AllocError, Global};
 use zone_table::Zones;
 
 /// The exceptions of an event that has no bad properties.
-#[tactic(auto, using(crate::proofs::ExceptionLemmas::exceptions_are_few, crate::proofs::ExceptionLemmas::exceptions_are_in_years, crate::proofs::ExceptionLemmas::exceptions_are_short, crate::proofs::ExceptionLemmas::exceptions_are_distinct, crate::proofs::ExceptionLemmas::only_memory))]
+#[tactic(auto, using(crate::proofs::ExceptionLemmas::only_memory))]
 pub(crate) fn exceptions_of(
     alloc: Global,
     event: &Tree,
