@@ -1,14 +1,14 @@
 -- An object without bad properties starts in the years that an event may start in, and lasts as long as one may.
-use Rattle.std.proofs.Common.{◌≡◌, ◌≤◌, ◌+◌, ◌*◌, ◌&&◌, ℕ, ℤ, pos, negsuc, List, [], ◌∷◌, Bool, true, false, not, Option, Some, None, codes, is_some, nat_le, option_and_then, unwrap_or, if◌then◌else◌, arith, refl, sym, ap, ◌∙◌}
-use Rattle.std.proofs.lemmas.Bool.{and_from, and_parts}
+use Rattle.std.proofs.Common.{◌≡◌, ◌≤◌, ℕ, ℤ, pos, List, [], ◌∷◌, Bool, true, false, not, Option, Some, None, codes, is_some, option_and_then, unwrap_or, if◌then◌else◌, arith, refl, sym, ap, ◌∙◌}
+use Rattle.std.proofs.lemmas.Bool.{and_parts}
 use Rattle.std.proofs.lemmas.Bool.Decides.{nat_tests}
 use Rattle.std.specs.Option.{option_map_or}
 use Rattle.std.specs.Str.{bytes_eq}
 use Rattle.jiff_core.proofs.SignedLemmas.{signed_arith}
-use Rattle.model_event.specs.Events.{bad_event_properties, event_table, length_in, start_in}
+use Rattle.model_event.specs.Events.{event_table, length_in, start_in}
 use Rattle.model_event.specs.Values.{is_short_duration, is_short_length, is_showing, is_start}
 use Rattle.model_json.specs.Data.{Data, Pair, null, truth, whole, text, list, object, field, lookup}
-use Rattle.model_json.specs.Parts.{as_text, is_null, members_in, text_at}
+use Rattle.model_json.specs.Parts.{as_text, is_null, members_in}
 use Rattle.model_recurrence.specs.Overrides.{exceptions_in, overrides_in}
 use Rattle.model_recurrence.specs.Recurrence.{are_overrides, bad_properties_of_event, recurring_event_table}
 use Rattle.model_series.specs.SeriesLimits.{wall_seconds}
@@ -19,8 +19,7 @@ use Rattle.model_time.specs.Walls.{is_in_years}
 use Rattle.model_time.specs.declared.length.Length.{Length}
 use Rattle.property_table.proofs.TableLemmas.{passes}
 use Rattle.property_table.specs.Names.{has_name}
-use Rattle.property_table.specs.Table.{Table, failing_of, given, names_of, optional, required, test_at}
-use Rattle.property_table.specs.Values.{is_text_that}
+use Rattle.property_table.specs.Table.{Table, failing_of, given, names_of, test_at}
 
 field_is : (k : List ℕ) (d : Data) → field k d ≡ lookup k (members_in d)
 field_is k (object ms) = refl

@@ -1,6 +1,6 @@
 -- The exceptions that the overrides of an event come to, one by one: as a series has them, and found by their recurrence ids.
-use Rattle.std.proofs.Common.{◌≡◌, ◌≤◌, ◌==◌, ◌&&◌, ◌||◌, ℕ, suc, ℤ, List, [], ◌∷◌, Bool, true, false, not, Option, Some, None, Result, Ok, Err, codes, is_some, length, nat_le, option_and_then, option_map, unwrap_or, if◌then◌else◌, arith, refl, sym, ap, ◌∙◌}
-use Rattle.std.proofs.lemmas.Bool.{and_from, and_parts}
+use Rattle.std.proofs.Common.{◌≡◌, ◌≤◌, ◌==◌, ℕ, suc, ℤ, List, [], ◌∷◌, Bool, true, false, not, Option, Some, None, Result, Ok, Err, codes, is_some, length, nat_le, option_and_then, option_map, unwrap_or, if◌then◌else◌, arith, refl, sym, ap, ◌∙◌}
+use Rattle.std.proofs.lemmas.Bool.{and_from}
 use Rattle.std.proofs.lemmas.Bool.Decides.{Decides-int_eq, nat_tests}
 use Rattle.std.proofs.lemmas.Option.{same_Some}
 use Rattle.std.proofs.lemmas.Slice.Eq.{bytes_eq-Decides}
@@ -14,8 +14,7 @@ use Rattle.model_json.proofs.KeyOrder.{both}
 use Rattle.model_json.specs.Data.{Data, Pair, null, truth, whole, text, list, object, field, lookup, pairs_of}
 use Rattle.model_json.specs.ObjectKeys.{is_above, keys_rise}
 use Rattle.model_json.specs.Parts.{all_some, as_object, members_in, object_at}
-use Rattle.model_json.specs.Patch.{patched}
-use Rattle.model_recurrence.specs.Overrides.{changed_at, changed_span, exception_at, exception_in, exception_of, exceptions_in, few_members, first_refused, is_excluded, overrides_in, overrides_of, patch_changes, recurrence_id_in, replaced_by, single, span_in, span_of, touches_fixed, valid_span}
+use Rattle.model_recurrence.specs.Overrides.{changed_at, changed_span, exception_at, exception_in, exception_of, exceptions_in, first_refused, is_excluded, overrides_in, overrides_of, patch_changes, recurrence_id_in, replaced_by, single, span_in, span_of, touches_fixed}
 use Rattle.model_recurrence.specs.Recurrence.{bad_properties_of_event, is_there}
 use Rattle.model_series.specs.SeriesLimits.{are_distinct, are_in_years, are_short, is_named, is_span_in_years, is_span_short, wall_seconds}
 use Rattle.model_series.specs.declared.exception.Exception.{Exception}

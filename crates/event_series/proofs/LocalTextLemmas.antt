@@ -1,5 +1,5 @@
 -- A LocalDateTime that was read is written back, so two that name one wall second are the same text.
-use Rattle.std.proofs.Common.{◌≡◌, ◌≤◌, ◌<◌, ◌+◌, ◌-◌, ◌*◌, ◌/◌, ◌%◌, ◌==◌, ◌&&◌, ℕ, ℤ, pos, List, [], ◌∷◌, ◌++◌, Bool, true, false, Option, Some, None, codes, length, nat_lt, unsigned_abs, if◌then◌else◌, arith, refl, sym, ap, ◌∙◌}
+use Rattle.std.proofs.Common.{◌≡◌, ◌≤◌, ◌<◌, ◌+◌, ◌-◌, ◌*◌, ◌/◌, ◌%◌, ◌==◌, ◌&&◌, ℕ, ℤ, pos, List, [], ◌∷◌, ◌++◌, Bool, true, false, Some, None, codes, length, nat_lt, unsigned_abs, if◌then◌else◌, arith, refl, sym, ap, ◌∙◌}
 use Rattle.std.proofs.lemmas.Bool.{and_parts}
 use Rattle.std.proofs.lemmas.Bool.Decides.{nat_tests}
 use Rattle.std.proofs.lemmas.Option.{same_Some}
@@ -97,8 +97,20 @@ fields_of s fits =
     let n_end = begin_with 58 (codes "00") n.rest refl n.fits in
     let c = begin_two [] n_end.rest n_end.fits in
     record {
-      a = a.number; b = b.number; m = m.number; d = d.number; h = h.number; n = n.number; c = c.number;
-      a_small = a.small; b_small = b.small; m_small = m.small; d_small = d.small; h_small = h.small; n_small = n.small; c_small = c.small;
+      a = a.number;
+      b = b.number;
+      m = m.number;
+      d = d.number;
+      h = h.number;
+      n = n.number;
+      c = c.number;
+      a_small = a.small;
+      b_small = b.small;
+      m_small = m.small;
+      d_small = d.small;
+      h_small = h.small;
+      n_small = n.small;
+      c_small = c.small;
       tail = c.rest;
       is =
           after_two _ _ _ a (after_two _ _ _ b (after_mark _ _ _ _ b_end (after_two _ _ _ m (after_mark _ _ _ _ m_end

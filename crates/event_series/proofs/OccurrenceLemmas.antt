@@ -1,5 +1,5 @@
 -- The occurrences of a series are those that its event has.
-use Rattle.std.proofs.Common.{◌≡◌, ◌==◌, ◌&&◌, ◌||◌, ◌↔◌, ℕ, zero, suc, ℤ, inl, inr, List, [], ◌∷◌, Bool, true, false, not, Option, Some, None, option_and_then, slice_get, if◌then◌else◌, refl, sym, ap, ◌∙◌}
+use Rattle.std.proofs.Common.{◌≡◌, ◌==◌, ◌&&◌, ◌↔◌, ℕ, zero, suc, ℤ, inl, inr, List, [], ◌∷◌, Bool, true, false, not, Option, Some, None, option_and_then, slice_get, if◌then◌else◌, refl, sym, ap, ◌∙◌}
 use Rattle.std.proofs.lemmas.Bool.Decides.{Decides-int_eq}
 use Rattle.std.proofs.lemmas.Option.{same_Some}
 use Rattle.std.specs.Ordering.{int_eq}

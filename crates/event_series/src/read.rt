@@ -16,11 +16,7 @@ use zone_table::Zones;
 /// Reads the series of an event (RFC 8984 section 4.3). None where a property is bad.
 ///
 /// Takes memory for the series, for the names of bad properties, and for the parts of the event that overrides look at.
-pub fn read_series(
-    alloc: Global,
-    tree: &Tree,
-    zones: &Zones,
-) -> Result<Option<Series>, AllocError>
+pub fn read_series(alloc: Global, tree: &Tree, zones: &Zones) -> Result<Option<Series>, AllocError>
     ensures { IfOk result (λ s. IsSeriesRead zones.now (data_of tree.now) s) }
 {
     if bad_event_names(alloc, tree, zones)?.is_empty() {
