@@ -1,0 +1,4 @@
+mod LocalTextLemmas
+mod EventLemmas
+mod ExceptionLemmas
+mod OccurrenceLemmas

@@ -1,0 +1,20 @@
+//! Laws of the definitions.
+ghost use Rattle.std.specs.Prelude.{◌≡◌, ◌↔◌, Some, List, ℕ, ℤ, true};
+ghost use Rattle.event_series.specs.EventSeries.{HasOccurrence, IsSeriesOf};
+ghost use Rattle.model_event.specs.Events.{has_recurrence};
+ghost use Rattle.model_json.specs.Data.{Data};
+ghost use Rattle.model_recurrence.specs.Recurrence.{has_occurrence};
+ghost use Rattle.model_series.specs.declared.series.Series.{Series};
+ghost use Rattle.model_site.specs.TimeZones.{ZoneText};
+ghost use Rattle.model_time.specs.LocalTimes.{local_in, local_text};
+ghost use Rattle.model_time.specs.Walls.{is_in_years};
+
+/// A LocalDateTime that was read is written back.
+pub fn read_times_are_written()
+    ensures { (s : List ℕ) (w : ℤ) → local_in s ≡ Some w → s ≡ local_text w }
+{}
+
+/// An event that has rules or overrides has the occurrences of its series: those with recurrence ids in the years 0 to 9999.
+pub fn events_have_the_occurrences_of_series()
+    ensures { (zones : List ZoneText) (d : Data) (s : Series) (w : ℤ) → IsSeriesOf zones d s → has_recurrence d ≡ true → is_in_years w ≡ true → HasOccurrence s w ↔ (has_occurrence d w ≡ true) }
+{}

@@ -1,0 +1,46 @@
+//! Reads the series of an event.
+ghost use Rattle.std.specs.Prelude.{◌≡◌, [], IfOk};
+ghost use Rattle.event_series.specs.EventSeries.{IsSeriesOf, IsSeriesRead};
+ghost use Rattle.model_json.specs.TreeData.{data_of};
+ghost use Rattle.model_recurrence.specs.Recurrence.{bad_properties_of_event};
+
+use crate::exceptions::exceptions_of;
+use crate::rules::rules_of;
+use crate::times::{is_occupying, length_of, start_of};
+use event_model::names::bad_event_names;
+use model_json::tree::Tree;
+use model_series::series::Series;
+use std::alloc::{AllocError, Global};
+use zone_table::Zones;
+
+/// Reads the series of an event (RFC 8984 section 4.3). None where a property is bad.
+///
+/// Takes memory for the series, for the names of bad properties, and for the parts of the event that overrides look at.
+pub fn read_series(alloc: Global, tree: &Tree, zones: &Zones) -> Result<Option<Series>, AllocError>
+    ensures { IfOk result (λ s. IsSeriesRead zones.now (data_of tree.now) s) }
+{
+    if bad_event_names(alloc, tree, zones)?.is_empty() {
+        Ok(Some(series_of(alloc, tree, zones)?))
+    } else {
+        Ok(None)
+    }
+}
+
+/// The series of an event that has no bad properties, as one that is stored. Its properties aren't tested again, but what its
+/// overrides make of it is.
+///
+/// Takes memory for the series, and for the parts of the event that overrides look at.
+pub fn series_of(alloc: Global, event: &Tree, zones: &Zones) -> Result<Series, AllocError>
+    requires { bad_properties_of_event zones.now (data_of event.now) ≡ [] }
+    ensures { IfOk result (λ s. IsSeriesOf zones.now (data_of event.now) s) }
+{
+    let rules = rules_of(alloc, event)?;
+    let exceptions = exceptions_of(alloc, event, zones)?;
+    Ok(Series {
+        start: start_of(event),
+        length: length_of(event, zones),
+        occupying: is_occupying(event),
+        rules,
+        exceptions,
+    })
+}
