@@ -9,9 +9,9 @@ begins (c ∷ cs) [] = false
 begins (c ∷ cs) (b ∷ bs) = (b == c) && begins cs bs
 
 -- the one stands somewhere in the other
-unfoldable pub is_in : List ℕ → List ℕ → Bool
-is_in needle [] = begins needle []
-is_in needle (b ∷ bs) = begins needle (b ∷ bs) || is_in needle bs
+unfoldable pub stands_in : List ℕ → List ℕ → Bool
+stands_in needle [] = begins needle []
+stands_in needle (b ∷ bs) = begins needle (b ∷ bs) || stands_in needle bs
 
 -- the bytes of a text whose case is folded (The Unicode Standard section 3.13, default case folding)
 abbrev pub folded : List ℕ → List ℕ
@@ -19,4 +19,4 @@ folded text = encode_utf8_all (default_case_fold (chars text))
 
 -- the text contains the needle, both with their case folded
 abbrev pub contains : List ℕ → List ℕ → Bool
-contains text needle = is_in (folded needle) (folded text)
+contains text needle = stands_in (folded needle) (folded text)

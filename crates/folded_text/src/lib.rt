@@ -2,7 +2,7 @@
 #![tactic(auto)]
 
 ghost use Rattle.std.specs.Prelude.{◌≡◌, IfOk};
-ghost use Rattle.folded_text.specs.Contains.{folded, is_in};
+ghost use Rattle.folded_text.specs.Contains.{folded, stands_in};
 
 use caseless::default_case_fold_str;
 use memchr::memmem;
@@ -34,15 +34,15 @@ impl FoldedText {
 
     /// Whether this text stands in another, whose case is folded here. Takes memory for the folded text.
     pub fn is_in(&self, alloc: Global, text: &str) -> Result<bool, AllocError>
-        ensures { IfOk result (λ b. b ≡ is_in self.now (folded text.now)) }
+        ensures { IfOk result (λ b. b ≡ stands_in self.now (folded text.now)) }
     {
         let folded = default_case_fold_str(alloc, text)?;
-        Ok(is_in(self.text.as_bytes(), folded.as_bytes()))
+        Ok(stands_in(self.text.as_bytes(), folded.as_bytes()))
     }
 }
 
-fn is_in(needle: &[u8], text: &[u8]) -> bool
-    ensures { result ≡ is_in needle.now text.now }
+fn stands_in(needle: &[u8], text: &[u8]) -> bool
+    ensures { result ≡ stands_in needle.now text.now }
 {
     memmem::find(text, needle).is_some()
 }
