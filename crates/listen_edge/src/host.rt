@@ -3,7 +3,7 @@ ghost use Rattle.std.specs.Prelude.{◌≡◌, ◌⊎◌, ◌≤◌, Err, OnOk};
 ghost use Rattle.io_edge.specs.Outside.{Rose};
 ghost use Rattle.listen_edge.specs.Listening.{Asks, HostShown};
 
-use crate::listener::Listener;
+use crate::listener::ThreadListener;
 use std::alloc::AllocError;
 
 /// Why there is no listener.
@@ -28,7 +28,7 @@ impl From<AllocError> for HostError {
 /// Makes the listeners of a port, one for each worker.
 pub trait Host {
     /// The listeners that it makes.
-    type L: Listener;
+    type L: ThreadListener;
 
     /// What contracts see of the host.
     ghost shown: { Self → HostShown };

@@ -8,8 +8,8 @@ use io_edge::sink::Sink;
 use io_edge::source::Source;
 use model_connection::served::Served;
 
-/// Hands out connections, one after the other, and takes them back when they were served. It may move to another thread.
-pub trait Listener: Send + Drop + 'static {
+/// Hands out connections, one after the other, and takes them back when they were served.
+pub trait Listener: Drop + 'static {
     /// What is read of a connection.
     type In: Source + Drop;
 
@@ -34,3 +34,6 @@ pub trait Listener: Send + Drop + 'static {
     // No more connections came back than were handed out.
     ghost balanced: { (l : Self) → IsBalanced (shown l) };
 }
+
+/// A listener that may move to another thread.
+pub trait ThreadListener: Listener + Send {}

@@ -3,7 +3,7 @@ ghost use Rattle.std.specs.Prelude.{◌≡◌, ◌+◌, [], IfOk, None, Some, ma
 ghost use Rattle.io_edge.specs.FailingCalls.{faults_of};
 
 use crate::host::{Host, HostError};
-use crate::listener::Listener;
+use crate::listener::{Listener, ThreadListener};
 use crate::memory_listener::MemConnection;
 use io_edge::failing_calls::FailingCalls;
 use io_edge::fault::Failed;
@@ -61,6 +61,8 @@ impl<W: Wait + Send + Drop + 'static> Listener for ShelfListener<W> {
 
     ghost balanced = { λ l. tt };
 }
+
+impl<W: Wait + Send + Drop + 'static> ThreadListener for ShelfListener<W> {}
 
 /// Makes listeners of its connections, those of the first listener first, and tells what it was asked for. It fails at the calls that it lists.
 #[derive(Drop)]

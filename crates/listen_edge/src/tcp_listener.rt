@@ -1,7 +1,7 @@
 //! Connections over TCP.
 ghost use Rattle.std.specs.Prelude.{◌≡◌, None};
 
-use crate::listener::Listener;
+use crate::listener::{Listener, ThreadListener};
 use io_edge::fault::Failed;
 use io_edge::source::Source;
 use io_edge::streams::{ReaderSource, WriterSink};
@@ -101,6 +101,14 @@ where
 
     ghost balanced = { λ l. tt };
 }
+
+impl<
+    R: Wait + Clock + Copy + Send + Drop + 'static,
+    L: OpenListener + Send + Drop + 'static,
+> ThreadListener for TcpConnections<R, L>
+where
+    L::Stream: Read + Write + OpenStream + Drop,
+{}
 
 fn pause(clock: &impl Clock) {
     clock.sleep(Duration::from_millis(PAUSE_MILLISECONDS));

@@ -1,0 +1,4 @@
+//! The accounts of a site that workers share.
+#![tactic(auto)]
+
+pub mod accounts;
