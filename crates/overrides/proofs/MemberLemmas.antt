@@ -11,7 +11,7 @@ use Rattle.model_json.specs.Edit.{with_pair}
 use Rattle.model_json.specs.ObjectKeys.{is_above, keys_rise}
 use Rattle.property_table.specs.Names.{has_name}
 use Rattle.overrides.proofs.PatchLemmas.{above_filter, lookup_kept, not_kept}
-use Rattle.overrides.specs.Parts.{always_needed, is_needed, kept, put_missing, with_member, with_members}
+use Rattle.overrides.specs.Parts.{always_needed, is_needed, kept, put_missing, with_member, with_each_member}
 
 -- Members are kept by what a test says of their names.
 same_at : (f g : List ℕ → Bool) (p : Pair) (ps : List Pair) → f p.0 ≡ g p.0 → kept f ps ≡ kept g ps → kept f (p ∷ ps) ≡ kept g (p ∷ ps)
@@ -113,15 +113,15 @@ or_none : (a : Bool) → a ≡ (a || false)
 or_none true = refl
 or_none false = refl
 
-members_put : (f : List ℕ → Bool) (ns : List (List ℕ)) (ps : List Pair) → keys_rise ps ≡ true → with_members ns ps (kept f ps) ≡ kept (or_names f ns) ps
+members_put : (f : List ℕ → Bool) (ns : List (List ℕ)) (ps : List Pair) → keys_rise ps ≡ true → with_each_member ns ps (kept f ps) ≡ kept (or_names f ns) ps
 members_put f [] ps r = same_kept f (or_names f []) (λ k. or_none (f k)) ps
 members_put f (n ∷ ns) ps r =
-    ap (with_members ns ps) (member_at f n ps r (f n) refl) ∙ members_put (or_name f n) ns ps r
+    ap (with_each_member ns ps) (member_at f n ps r (f n) refl) ∙ members_put (or_name f n) ns ps r
     ∙ same_kept (or_names (or_name f n) ns) (or_names f (n ∷ ns)) (λ k. or_three (f k) (bytes_eq n k) (has_name ns k)) ps
 
 -- all that is needed is kept
-pub all_needed_put : (firsts : List (List ℕ)) (ps : List Pair) → keys_rise ps ≡ true → with_members firsts ps (with_members always_needed ps []) ≡ kept (is_needed firsts) ps
+pub all_needed_put : (firsts : List (List ℕ)) (ps : List Pair) → keys_rise ps ≡ true → with_each_member firsts ps (with_each_member always_needed ps []) ≡ kept (is_needed firsts) ps
 all_needed_put firsts ps r =
-    ap (λ part. with_members firsts ps (with_members always_needed ps part)) (sym (none_kept ps))
-    ∙ ap (with_members firsts ps) (members_put (λ k. false) always_needed ps r)
+    ap (λ part. with_each_member firsts ps (with_each_member always_needed ps part)) (sym (none_kept ps))
+    ∙ ap (with_each_member firsts ps) (members_put (λ k. false) always_needed ps r)
     ∙ members_put (has_name always_needed) firsts ps r

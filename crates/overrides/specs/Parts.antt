@@ -23,9 +23,9 @@ abbrev pub with_member : List ℕ → List Pair → List Pair → List Pair
 with_member name ps part = put_missing name (lookup name part) (lookup name ps) part
 
 -- and with those of all these names
-abbrev pub with_members : List (List ℕ) → List Pair → List Pair → List Pair
-with_members [] ps part = part
-with_members (name ∷ names) ps part = with_members names ps (with_member name ps part)
+abbrev pub with_each_member : List (List ℕ) → List Pair → List Pair → List Pair
+with_each_member [] ps part = part
+with_each_member (name ∷ names) ps part = with_each_member names ps (with_member name ps part)
 
 -- an object of these members
 abbrev pub object_of : List Pair → Data

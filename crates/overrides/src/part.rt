@@ -4,7 +4,7 @@ ghost use Rattle.model_json.specs.Parts.{members_in};
 ghost use Rattle.model_json.specs.Pointer.{parts};
 ghost use Rattle.model_json.specs.TreeData.{data_of, pair_of};
 ghost use Rattle.property_table.specs.Names.{has_name as is_name_of};
-ghost use Rattle.overrides.specs.Parts.{always_needed, are_all_needed, first_part, firsts_of, is_needed, part_with, with_member, with_members};
+ghost use Rattle.overrides.specs.Parts.{always_needed, are_all_needed, first_part, firsts_of, is_needed, part_with, with_member, with_each_member};
 
 use crate::fixed::has_name;
 use model_json::text::Text;
@@ -81,7 +81,7 @@ fn put_names(
     names: &[&str],
     part: &mut TreeObject,
 ) -> Result<(), AllocError>
-    ensures { OnOk result (part.new ≡ with_members (map (λ name. name.now) names.now) (members_in (data_of event.now)) part.old) }
+    ensures { OnOk result (part.new ≡ with_each_member (map (λ name. name.now) names.now) (members_in (data_of event.now)) part.old) }
 {
     for name in names {
         put_member(alloc, event, name, part)?;
@@ -95,7 +95,7 @@ fn put_firsts(
     firsts: &[Text],
     part: &mut TreeObject,
 ) -> Result<(), AllocError>
-    ensures { OnOk result (part.new ≡ with_members firsts.now (members_in (data_of event.now)) part.old) }
+    ensures { OnOk result (part.new ≡ with_each_member firsts.now (members_in (data_of event.now)) part.old) }
 {
     for first in firsts {
         put_member(alloc, event, first.as_str(), part)?;
