@@ -2,3 +2,4 @@ mod LocalTextLemmas
 mod EventLemmas
 mod ExceptionLemmas
 mod OccurrenceLemmas
+pub mod SeriesLemmas

@@ -1,9 +1,8 @@
 -- The series of an event (RFC 8984 section 4.3).
-use Rattle.std.specs.Prelude.{◌≡◌, List, [], ℤ, Option, Some, None}
+use Rattle.std.specs.Prelude.{◌≡◌, List, ℤ, Some}
 use Rattle.model_event.specs.Events.{is_occupying, length_in, start_in}
 use Rattle.model_json.specs.Data.{Data}
 use Rattle.model_recurrence.specs.Overrides.{exceptions_in}
-use Rattle.model_recurrence.specs.Recurrence.{bad_properties_of_event}
 use Rattle.model_recurrence.specs.RulesOf.{rules_of_event}
 use Rattle.model_series.specs.Occurrences.{IsOccurrence}
 use Rattle.model_series.specs.declared.occurrence.Occurrence.{Occurrence}
@@ -17,11 +16,6 @@ pub record IsSeriesOf (zones : List ZoneText) (d : Data) (s : Series) : Type 0 w
   pub occupying : s.occupying ≡ is_occupying d
   pub rules : s.rules ≡ rules_of_event d
   pub exceptions : exceptions_in zones d ≡ Some s.exceptions
-
--- the series of the object, which is an event without bad properties; none where a property is bad
-abbrev pub IsSeriesRead : List ZoneText → Data → Option Series → Type 0
-IsSeriesRead zones d (Some s) = (bad_properties_of_event zones d ≡ []) × IsSeriesOf zones d s
-IsSeriesRead zones d None = bad_properties_of_event zones d ≡ [] → ⊥
 
 -- an occurrence of the series has this recurrence id
 abbrev pub HasOccurrence : Series → ℤ → Type 0

@@ -1,9 +1,10 @@
 //! Laws of the definitions.
-ghost use Rattle.std.specs.Prelude.{◌≡◌, ◌↔◌, Some, List, ℕ, ℤ, true};
+ghost use Rattle.std.specs.Prelude.{◌≡◌, ◌↔◌, Some, List, [], ℕ, ℤ, true};
 ghost use Rattle.event_series.specs.EventSeries.{HasOccurrence, IsSeriesOf};
 ghost use Rattle.model_event.specs.Events.{has_recurrence};
 ghost use Rattle.model_json.specs.Data.{Data};
-ghost use Rattle.model_recurrence.specs.Recurrence.{has_occurrence};
+ghost use Rattle.model_recurrence.specs.Recurrence.{bad_properties_of_event, has_occurrence};
+ghost use Rattle.model_recurrence.specs.SeriesOf.{series_in};
 ghost use Rattle.model_series.specs.declared.series.Series.{Series};
 ghost use Rattle.model_site.specs.TimeZones.{ZoneText};
 ghost use Rattle.model_time.specs.LocalTimes.{local_in, local_text};
@@ -12,6 +13,13 @@ ghost use Rattle.model_time.specs.Walls.{is_in_years};
 /// A LocalDateTime that was read is written back.
 pub fn read_times_are_written()
     ensures { (s : List ℕ) (w : ℤ) → local_in s ≡ Some w → s ≡ local_text w }
+{}
+
+/// The series of an event is the one that tells what the event does; an event has one exactly where no property is bad.
+pub fn events_have_one_series()
+    ensures parts { (zones : List ZoneText) (d : Data) (s : Series) → series_in zones d ≡ Some s → IsSeriesOf zones d s }
+    ensures one { (zones : List ZoneText) (d : Data) (s : Series) → bad_properties_of_event zones d ≡ [] → IsSeriesOf zones d s → series_in zones d ≡ Some s }
+    ensures valid { (zones : List ZoneText) (d : Data) (s : Series) → series_in zones d ≡ Some s → bad_properties_of_event zones d ≡ [] }
 {}
 
 /// An event that has rules or overrides has the occurrences of its series: those with recurrence ids in the years 0 to 9999.

@@ -1,8 +1,9 @@
 //! Reads the series of an event.
-ghost use Rattle.std.specs.Prelude.{◌≡◌, [], IfOk};
-ghost use Rattle.event_series.specs.EventSeries.{IsSeriesOf, IsSeriesRead};
+ghost use Rattle.std.specs.Prelude.{◌≡◌, [], IfOk, Some};
+ghost use Rattle.event_series.specs.EventSeries.{IsSeriesOf};
 ghost use Rattle.model_json.specs.TreeData.{data_of};
 ghost use Rattle.model_recurrence.specs.Recurrence.{bad_properties_of_event};
+ghost use Rattle.model_recurrence.specs.SeriesOf.{series_in};
 
 use crate::exceptions::exceptions_of;
 use crate::rules::rules_of;
@@ -16,8 +17,9 @@ use zone_table::Zones;
 /// Reads the series of an event (RFC 8984 section 4.3). None where a property is bad.
 ///
 /// Takes memory for the series, for the names of bad properties, and for the parts of the event that overrides look at.
+#[tactic(auto, using(crate::proofs::SeriesLemmas::no_series))]
 pub fn read_series(alloc: Global, tree: &Tree, zones: &Zones) -> Result<Option<Series>, AllocError>
-    ensures { IfOk result (λ s. IsSeriesRead zones.now (data_of tree.now) s) }
+    ensures { IfOk result (λ s. s ≡ series_in zones.now (data_of tree.now)) }
 {
     if bad_event_names(alloc, tree, zones)?.is_empty() {
         Ok(Some(series_of(alloc, tree, zones)?))
@@ -32,7 +34,8 @@ pub fn read_series(alloc: Global, tree: &Tree, zones: &Zones) -> Result<Option<S
 /// Takes memory for the series, and for the parts of the event that overrides look at.
 pub fn series_of(alloc: Global, event: &Tree, zones: &Zones) -> Result<Series, AllocError>
     requires { bad_properties_of_event zones.now (data_of event.now) ≡ [] }
-    ensures { IfOk result (λ s. IsSeriesOf zones.now (data_of event.now) s) }
+    ensures value { IfOk result (λ s. series_in zones.now (data_of event.now) ≡ Some s) }
+    ensures parts { IfOk result (λ s. IsSeriesOf zones.now (data_of event.now) s) }
 {
     let rules = rules_of(alloc, event)?;
     let exceptions = exceptions_of(alloc, event, zones)?;

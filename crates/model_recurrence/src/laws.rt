@@ -3,12 +3,19 @@ ghost use Rattle.std.specs.Prelude.{◌≡◌, ◌<◌, ◌^◌, Some, true, ℕ
 ghost use Rattle.model_recurrence.specs.OccurrenceIds.{IsIdReadBack};
 ghost use Rattle.model_recurrence.specs.RulesOf.{rule_by_parts};
 ghost use Rattle.model_series.specs.RuleObjects.{parts_of};
+ghost use Rattle.model_recurrence.specs.SeriesOf.{series_by_parts, series_parts};
 ghost use Rattle.model_series.specs.declared.rule.Rule.{Rule};
+ghost use Rattle.model_series.specs.declared.series.Series.{Series};
 ghost use Rattle.model_time.specs.Walls.{is_in_years};
 
 /// A rule is the one that has its parts.
 pub fn rules_are_their_parts()
     ensures { (r : Rule) → rule_by_parts (parts_of r) ≡ Some r }
+{}
+
+/// A series is the one that has its parts.
+pub fn series_are_their_parts()
+    ensures { (s : Series) → series_by_parts (series_parts s) ≡ Some s }
 {}
 
 /// A synthetic id in the years 0 to 9999 that was written is read back.
