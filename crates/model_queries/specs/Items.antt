@@ -1,5 +1,6 @@
 -- What the comparators of a query see of an event (draft JMAP for Calendars, RFC 8984 sections 4.1 and 4.2).
 use Rattle.std.specs.Prelude.{ℕ, ℤ, pos, List, [], Bool, Option, Some, None, codes, option_and_then, unwrap_or, if◌then◌else◌}
+use Rattle.jiff_tz.specs.PosixText.{TzText}
 use Rattle.model_event.specs.Events.{start_in, time_zone_in}
 use Rattle.model_json.specs.Data.{Data}
 use Rattle.model_json.specs.Parts.{text_at}
@@ -11,17 +12,13 @@ use Rattle.model_time.specs.LocalTimes.{utc_in}
 use Rattle.model_window.specs.Clocks.{instant_in}
 use Rattle.model_window.specs.ZoneRules.{rule_of}
 
--- the zone of its times: its own, or that of the query where it is floating (RFC 8984 section 4.7.1)
-abbrev pub zone_of_event : List ℕ → Data → List ℕ
-zone_of_event floating d = unwrap_or (time_zone_in d) floating
-
--- the instant of a wall second in the zone of this name
-abbrev pub instant_at : List ZoneText → List ℕ → ℤ → Option ℤ
-instant_at zones name w = option_and_then (λ rule. instant_in rule w) (rule_of zones name)
+-- the rule of its zone, or of that of the query where it is floating (RFC 8984 section 4.7.1)
+abbrev pub rule_of_event : List ZoneText → List ℕ → Data → Option TzText
+rule_of_event zones floating d = rule_of zones (unwrap_or (time_zone_in d) floating)
 
 -- the instant of its own start, whatever its overrides
 abbrev pub start_instant : List ZoneText → List ℕ → Data → ℤ
-start_instant zones floating d = unwrap_or (instant_at zones (zone_of_event floating d) (start_in d)) (pos 0)
+start_instant zones floating d = unwrap_or (option_and_then (λ rule. instant_in rule (start_in d)) (rule_of_event zones floating d)) (pos 0)
 
 -- the text at a key, empty where there is none
 abbrev pub text_or_empty : List ℕ → Data → List ℕ
