@@ -1,0 +1,12 @@
+//! Queries of events, and what changed of their results (RFC 8620 sections 5.5 and 5.6), over the store of an account.
+#![tactic(auto)]
+
+mod changed;
+pub mod error;
+mod found;
+mod ids;
+pub mod item;
+pub mod request;
+pub mod result;
+pub mod sight;
+mod touched;
