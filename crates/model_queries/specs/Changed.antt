@@ -31,20 +31,20 @@ size_of_delta delta = length delta.removed + length delta.added
 abbrev pub added_item : Place → Data
 added_item place = object (members_of ((codes "id", text (id_text Event place.id)) ∷ (codes "index", whole (pos place.index)) ∷ []))
 
+-- the arguments of the reply that tells what changed, where the result has so many ids now
+abbrev pub delta_response : List ℕ → List Change → Since → ℕ → Delta → Tree
+delta_response account cs s total delta = Object (
+    (codes "accountId", text account) ∷ (codes "added", list (items_of (map added_item delta.added)))
+    ∷ (codes "newQueryState", text (state_text Event cs)) ∷ (codes "oldQueryState", text s.state)
+    ∷ (codes "removed", id_list Event delta.removed) ∷ total_member s.calculate_total total)
+
 module _ (see : Tree → Option Item) (order : List Comparator) (cs : List Change) where
   -- from the result at state k to that at the end of the history
   abbrev pub delta_since : ℕ → Delta
   delta_since k = delta_of (result_at see order cs k) (result_of see order cs) (touched_since cs k)
 
-module _ (see : Tree → Option Item) (order : List Comparator) (cs : List Change) (s : Since) where
-  abbrev pub size_refusal : ℕ → Option MethodError
-  size_refusal k = if is_within (option_map unsigned_abs s.most) (size_of_delta (delta_since see order cs k)) then None else Some TooManyChanges
+  abbrev pub size_refusal : Since → ℕ → Option MethodError
+  size_refusal s k = if is_within (option_map unsigned_abs s.most) (size_of_delta (delta_since k)) then None else Some TooManyChanges
 
-  abbrev pub delta_response : List ℕ → Delta → Tree
-  delta_response account delta = Object (
-      (codes "accountId", text account) ∷ (codes "added", list (items_of (map added_item delta.added)))
-      ∷ (codes "newQueryState", text (state_text Event cs)) ∷ (codes "oldQueryState", text s.state)
-      ∷ (codes "removed", id_list Event delta.removed) ∷ total_member s.calculate_total (length (result_of see order cs)))
-
-  abbrev pub changed_response : List ℕ → ℕ → Tree
-  changed_response account k = delta_response account (delta_since see order cs k)
+  abbrev pub changed_response : List ℕ → Since → ℕ → Tree
+  changed_response account s k = delta_response account cs s (length (result_of see order cs)) (delta_since k)

@@ -62,6 +62,13 @@ ids_within cut ids = take (cut.to - cut.from) (drop cut.from ids)
 abbrev pub no_window : Cut
 no_window = record { from = 0; to = 0 }
 
+-- the arguments of the reply that tells this window of the result
+abbrev pub window_response : List ℕ → List Change → Paging → Bool → List ℕ → Cut → Tree
+window_response account cs p expand ids cut = Object (
+    (codes "accountId", text account) ∷ (codes "canCalculateChanges", truth (not expand)) ∷ (codes "ids", id_list Event (ids_within cut ids))
+    ∷ limit_member p.limit ++ (codes "position", whole (pos cut.from)) ∷ (codes "queryState", text (state_text Event cs))
+    ∷ total_member p.calculate_total (length ids))
+
 module _ (see : Tree → Option Item) (order : List Comparator) (cs : List Change) (p : Paging) where
   -- the window that is asked for; none where the anchor isn't in the result
   abbrev pub window_found : Option Cut
@@ -70,13 +77,5 @@ module _ (see : Tree → Option Item) (order : List Comparator) (cs : List Chang
   abbrev pub anchor_refusal : Option MethodError
   anchor_refusal = option_map_or (λ cut. None) window_found (Some AnchorNotFound)
 
-  -- the arguments of the reply that tells this window
-  abbrev pub window_response : List ℕ → Bool → Cut → Tree
-  window_response account expand cut = Object (
-      (codes "accountId", text account) ∷ (codes "canCalculateChanges", truth (not expand))
-      ∷ (codes "ids", id_list Event (ids_within cut (result_of see order cs)))
-      ∷ limit_member p.limit ++ (codes "position", whole (pos cut.from)) ∷ (codes "queryState", text (state_text Event cs))
-      ∷ total_member p.calculate_total (length (result_of see order cs)))
-
   abbrev pub found_response : List ℕ → Bool → Tree
-  found_response account expand = window_response account expand (unwrap_or window_found no_window)
+  found_response account expand = window_response account cs p expand (result_of see order cs) (unwrap_or window_found no_window)

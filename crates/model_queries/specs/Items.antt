@@ -1,7 +1,6 @@
 -- What the comparators of a query see of an event (draft JMAP for Calendars, RFC 8984 sections 4.1 and 4.2).
 use Rattle.std.specs.Prelude.{ℕ, ℤ, pos, List, [], Bool, Option, Some, None, codes, option_and_then, unwrap_or, if◌then◌else◌}
-use Rattle.jiff_tz.specs.PosixText.{TzText}
-use Rattle.model_event.specs.Events.{start_in, time_zone_in}
+use Rattle.model_event.specs.Events.{start_in}
 use Rattle.model_json.specs.Data.{Data}
 use Rattle.model_json.specs.Parts.{text_at}
 use Rattle.model_json.specs.TreeData.{data_of}
@@ -10,11 +9,7 @@ use Rattle.model_query.specs.declared.item.Item.{Item}
 use Rattle.model_site.specs.TimeZones.{ZoneText}
 use Rattle.model_time.specs.LocalTimes.{utc_in}
 use Rattle.model_window.specs.Clocks.{instant_in}
-use Rattle.model_window.specs.ZoneRules.{rule_of}
-
--- the rule of its zone, or of that of the query where it is floating (RFC 8984 section 4.7.1)
-abbrev pub rule_of_event : List ZoneText → List ℕ → Data → Option TzText
-rule_of_event zones floating d = rule_of zones (unwrap_or (time_zone_in d) floating)
+use Rattle.model_window.specs.ZoneRules.{rule_of_event}
 
 -- the instant of its own start, whatever its overrides
 abbrev pub start_instant : List ZoneText → List ℕ → Data → ℤ

@@ -49,4 +49,4 @@ module _ (filters : Filters) (zones : List ZoneText) (cs : List Change) (c : Cri
       else option_or (unsupported filters zones c) (changes_refusal_since s)
 
   abbrev pub query_changes_response : List ℕ → Since → Tree
-  query_changes_response account s = changed_response (sight_of filters zones c) (order_of filters zones c) cs s account (state_named s.state)
+  query_changes_response account s = changed_response (sight_of filters zones c) (order_of filters zones c) cs account s (state_named s.state)

@@ -1,20 +1,18 @@
 //! What comparators see of an event.
-ghost use Rattle.std.specs.Prelude.{◌≡◌, IfOk, codes, option_and_then, option_map};
-ghost use Rattle.jiff_tz.specs.PosixText.{tz_view};
+ghost use Rattle.std.specs.Prelude.{◌≡◌, IfOk, codes, option_and_then};
 ghost use Rattle.model_event.specs.Events.{start_in};
 ghost use Rattle.model_json.specs.Parts.{text_at};
 ghost use Rattle.model_json.specs.TreeData.{data_of};
-ghost use Rattle.model_queries.specs.Items.{item_of, moment_at, rule_of_event, start_instant, text_or_empty};
+ghost use Rattle.model_queries.specs.Items.{item_of, moment_at, start_instant, text_or_empty};
 ghost use Rattle.model_time.specs.LocalTimes.{local_in, utc_in};
 
-use jiff_tz::posix::TimeZone;
 use model_json::text::Text;
 use model_json::tree::Tree;
 use model_query::item::Item;
 use model_time::wall::Wall;
 use std::alloc::{AllocError, Global};
 use time_text::{read_local, read_utc};
-use zone_instants::{instant, rule_of};
+use zone_instants::{instant, rule_of_event};
 use zone_table::Zones;
 
 /// What comparators see of an event: a floating one starts by the clock of the zone `floating`.
@@ -76,15 +74,6 @@ fn given_start(event: &Tree) -> Option<Wall>
     ensures { result ≡ option_and_then local_in (text_at (codes "start") (data_of event.now)) }
 {
     read_local(event.text_at("start")?.as_str().as_bytes())
-}
-
-fn rule_of_event(zones: &Zones, floating: &Text, event: &Tree) -> Option<TimeZone>
-    ensures { option_map tz_view result ≡ rule_of_event zones.now floating.now (data_of event.now) }
-{
-    match event.text_at("timeZone") {
-        Some(name) => rule_of(zones, name),
-        None => rule_of(zones, floating),
-    }
 }
 
 fn start_instant(zones: &Zones, floating: &Text, event: &Tree) -> i64

@@ -70,6 +70,7 @@ fn result_among<S: Sight>(
 }
 
 // The events of which a filter holds, each with its item.
+#[derive(Drop)]
 struct Matches {
     numbers: Vec<u64>,
     items: Vec<Item>,
