@@ -2,6 +2,8 @@
 use Rattle.std.specs.Prelude.{ℕ, List, [], ◌&&◌, Bool, true, false, not, Option, Some, None, option_map, unwrap_or, if◌then◌else◌}
 use Rattle.model_call.specs.declared.call.MethodError.{MethodError}
 use Rattle.model_call.specs.declared.call.MethodError.TheVariants.{UnsupportedFilter, UnsupportedSort}
+use Rattle.model_filter.specs.Filters.{is_bad_filter, is_unsupported_filter}
+use Rattle.model_filter.specs.Matches.{event_matches}
 use Rattle.model_json.specs.Data.{Data, no_members, null, object}
 use Rattle.model_json.specs.TreeData.{data_of}
 use Rattle.model_json.specs.declared.tree.Tree.{Tree}
@@ -40,25 +42,19 @@ pub record Criteria : Type 0 where
   pub sort : Option Tree
   pub time_zone : List ℕ
 
--- Until there are filters: what is bad of one, what isn't known of one, and where one holds.
-pub record Filters : Type 0 where
-  pub is_bad : Data → Bool
-  pub is_unsupported : Data → Bool
-  pub holds : List ZoneText → List ℕ → Data → Data → Bool
-
-module _ (filters : Filters) (zones : List ZoneText) (c : Criteria) where
+module _ (zones : List ZoneText) (c : Criteria) where
   -- the zone is known, and filter and sort are such, whether or not all of them is known
   abbrev pub are_criteria : Bool
-  are_criteria = has_zone zones c.time_zone && (not (filters.is_bad (filter_or_all c.filter)) && not (is_bad_sort (sort_in (sort_or_none c.sort))))
+  are_criteria = has_zone zones c.time_zone && (not (is_bad_filter (filter_or_all c.filter)) && not (is_bad_sort (sort_in (sort_or_none c.sort))))
 
   -- something of the filter isn't known, or of the sort
   abbrev pub unsupported : Option MethodError
   unsupported =
-      if filters.is_unsupported (filter_or_all c.filter) then Some UnsupportedFilter
+      if is_unsupported_filter (filter_or_all c.filter) then Some UnsupportedFilter
       else if is_unsupported_sort (sort_in (sort_or_none c.sort)) then Some UnsupportedSort else None
 
   abbrev pub order_of : List Comparator
   order_of = comparators_of (sort_in (sort_or_none c.sort))
 
   abbrev pub sight_of : Tree → Option Item
-  sight_of = seen_where (filters.holds zones c.time_zone (filter_or_all c.filter)) zones c.time_zone
+  sight_of = seen_where (event_matches zones c.time_zone (filter_or_all c.filter)) zones c.time_zone

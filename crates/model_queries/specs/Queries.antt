@@ -9,7 +9,7 @@ use Rattle.model_history.specs.declared.entry.Kind.TheVariants.{Event}
 use Rattle.model_json.specs.Data.{whole}
 use Rattle.model_json.specs.declared.tree.Tree.{Tree}
 use Rattle.model_queries.specs.Changed.{Since, changed_response, size_refusal}
-use Rattle.model_queries.specs.Criteria.{Criteria, Filters, are_criteria, order_of, sight_of, unsupported}
+use Rattle.model_queries.specs.Criteria.{Criteria, are_criteria, order_of, sight_of, unsupported}
 use Rattle.model_queries.specs.Found.{Paging, anchor_refusal, found_response}
 use Rattle.model_queries.specs.States.{is_known_state, is_maximum}
 use Rattle.model_site.specs.TimeZones.{ZoneText}
@@ -24,15 +24,15 @@ is_int n = nat_le (unsigned_abs n) MAX_UNSIGNED_INT
 abbrev pub is_paging : Paging → Bool
 is_paging p = (is_int p.position && is_int p.anchor_offset) && option_map_or (λ n. is_unsigned_int (whole n)) p.limit true
 
-module _ (filters : Filters) (zones : List ZoneText) (cs : List Change) (c : Criteria) (expand : Bool) where
+module _ (zones : List ZoneText) (cs : List Change) (c : Criteria) (expand : Bool) where
   abbrev pub query_refusal : Paging → Option MethodError
   query_refusal p =
       if expand then Some NotBuilt
-      else if not (is_paging p && are_criteria filters zones c) then Some InvalidArguments
-      else option_or (unsupported filters zones c) (anchor_refusal (sight_of filters zones c) (order_of filters zones c) cs p)
+      else if not (is_paging p && are_criteria zones c) then Some InvalidArguments
+      else option_or (unsupported zones c) (anchor_refusal (sight_of zones c) (order_of zones c) cs p)
 
   abbrev pub query_response : List ℕ → Paging → Tree
-  query_response account p = found_response (sight_of filters zones c) (order_of filters zones c) cs p account expand
+  query_response account p = found_response (sight_of zones c) (order_of zones c) cs p account expand
 
   -- the state that a text names
   abbrev pub state_named : List ℕ → ℕ
@@ -41,12 +41,12 @@ module _ (filters : Filters) (zones : List ZoneText) (cs : List Change) (c : Cri
   abbrev pub changes_refusal_since : Since → Option MethodError
   changes_refusal_since s =
       if expand || not (is_known_state Event cs s.state) then Some CannotCalculateChanges
-      else size_refusal (sight_of filters zones c) (order_of filters zones c) cs s (state_named s.state)
+      else size_refusal (sight_of zones c) (order_of zones c) cs s (state_named s.state)
 
   abbrev pub query_changes_refusal : Since → Option MethodError
   query_changes_refusal s =
-      if not (is_maximum s.most && are_criteria filters zones c) then Some InvalidArguments
-      else option_or (unsupported filters zones c) (changes_refusal_since s)
+      if not (is_maximum s.most && are_criteria zones c) then Some InvalidArguments
+      else option_or (unsupported zones c) (changes_refusal_since s)
 
   abbrev pub query_changes_response : List ℕ → Since → Tree
-  query_changes_response account s = changed_response (sight_of filters zones c) (order_of filters zones c) cs account s (state_named s.state)
+  query_changes_response account s = changed_response (sight_of zones c) (order_of zones c) cs account s (state_named s.state)
