@@ -1,7 +1,7 @@
 -- Which events a query asks for, and in which order (RFC 8620 section 5.5).
 use Rattle.std.specs.Prelude.{ℕ, List, [], ◌&&◌, Bool, true, false, not, Option, Some, None, option_map, unwrap_or, if◌then◌else◌}
 use Rattle.model_call.specs.declared.call.MethodError.{MethodError}
-use Rattle.model_call.specs.declared.call.MethodError.TheVariants.{UnsupportedFilter, UnsupportedSort}
+use Rattle.model_call.specs.declared.call.MethodError.TheVariants.{InvalidArguments, UnsupportedFilter, UnsupportedSort}
 use Rattle.model_filter.specs.Filters.{is_bad_filter, is_unsupported_filter}
 use Rattle.model_filter.specs.Matches.{event_matches}
 use Rattle.model_json.specs.Data.{Data, no_members, null, object}
@@ -42,10 +42,10 @@ pub record Criteria : Type 0 where
   pub sort : Option Tree
   pub time_zone : List ℕ
 
-module _ (zones : List ZoneText) (c : Criteria) where
-  -- the zone is known, and filter and sort are such, whether or not all of them is known
-  abbrev pub are_criteria : Bool
-  are_criteria = has_zone zones c.time_zone && (not (is_bad_filter (filter_or_all c.filter)) && not (is_bad_sort (sort_in (sort_or_none c.sort))))
+module _ (c : Criteria) where
+  -- filter and sort are such, whether or not all of them is known
+  abbrev pub are_terms : Bool
+  are_terms = not (is_bad_filter (filter_or_all c.filter)) && not (is_bad_sort (sort_in (sort_or_none c.sort)))
 
   -- something of the filter isn't known, or of the sort
   abbrev pub unsupported : Option MethodError
@@ -53,8 +53,18 @@ module _ (zones : List ZoneText) (c : Criteria) where
       if is_unsupported_filter (filter_or_all c.filter) then Some UnsupportedFilter
       else if is_unsupported_sort (sort_in (sort_or_none c.sort)) then Some UnsupportedSort else None
 
+  -- why filter and sort are refused
+  abbrev pub terms_refusal : Option MethodError
+  terms_refusal = if are_terms then unsupported else Some InvalidArguments
+
   abbrev pub order_of : List Comparator
   order_of = comparators_of (sort_in (sort_or_none c.sort))
 
+module _ (zones : List ZoneText) (c : Criteria) where
+  -- why criteria are refused: their zone isn't known, or filter or sort is refused
+  abbrev pub criteria_refusal : Option MethodError
+  criteria_refusal = if has_zone zones c.time_zone then terms_refusal c else Some InvalidArguments
+
+  -- what the query sees of an event's object
   abbrev pub sight_of : Tree → Option Item
   sight_of = seen_where (event_matches zones c.time_zone (filter_or_all c.filter)) zones c.time_zone

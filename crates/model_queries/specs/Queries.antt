@@ -9,7 +9,7 @@ use Rattle.model_history.specs.declared.entry.Kind.TheVariants.{Event}
 use Rattle.model_json.specs.Data.{whole}
 use Rattle.model_json.specs.declared.tree.Tree.{Tree}
 use Rattle.model_queries.specs.Changed.{Since, changed_response, size_refusal}
-use Rattle.model_queries.specs.Criteria.{Criteria, are_criteria, order_of, sight_of, unsupported}
+use Rattle.model_queries.specs.Criteria.{Criteria, criteria_refusal, order_of, sight_of}
 use Rattle.model_queries.specs.Found.{Paging, anchor_refusal, found_response}
 use Rattle.model_queries.specs.States.{is_known_state, is_maximum}
 use Rattle.model_site.specs.TimeZones.{ZoneText}
@@ -28,25 +28,25 @@ module _ (zones : List ZoneText) (cs : List Change) (c : Criteria) (expand : Boo
   abbrev pub query_refusal : Paging → Option MethodError
   query_refusal p =
       if expand then Some NotBuilt
-      else if not (is_paging p && are_criteria zones c) then Some InvalidArguments
-      else option_or (unsupported zones c) (anchor_refusal (sight_of zones c) (order_of zones c) cs p)
+      else if not (is_paging p) then Some InvalidArguments
+      else option_or (criteria_refusal zones c) (anchor_refusal (sight_of zones c) (order_of c) cs p)
 
   abbrev pub query_response : List ℕ → Paging → Tree
-  query_response account p = found_response (sight_of zones c) (order_of zones c) cs p account expand
+  query_response account p = found_response (sight_of zones c) (order_of c) cs p account expand
 
   -- the state that a text names
   abbrev pub state_named : List ℕ → ℕ
   state_named since = unwrap_or (state_in since) 0
 
-  abbrev pub changes_refusal_since : Since → Option MethodError
-  changes_refusal_since s =
+  abbrev pub since_refusal : Since → Option MethodError
+  since_refusal s =
       if expand || not (is_known_state Event cs s.state) then Some CannotCalculateChanges
-      else size_refusal (sight_of zones c) (order_of zones c) cs s (state_named s.state)
+      else size_refusal (sight_of zones c) (order_of c) cs s (state_named s.state)
 
   abbrev pub query_changes_refusal : Since → Option MethodError
   query_changes_refusal s =
-      if not (is_maximum s.most && are_criteria zones c) then Some InvalidArguments
-      else option_or (unsupported zones c) (changes_refusal_since s)
+      if not (is_maximum s.most) then Some InvalidArguments
+      else option_or (criteria_refusal zones c) (since_refusal s)
 
   abbrev pub query_changes_response : List ℕ → Since → Tree
-  query_changes_response account s = changed_response (sight_of zones c) (order_of zones c) cs account s (state_named s.state)
+  query_changes_response account s = changed_response (sight_of zones c) (order_of c) cs account s (state_named s.state)

@@ -1,13 +1,13 @@
 -- The changes of events after a state are those that the entries from some place on make.
-use Rattle.std.proofs.Common.{◌≡◌, ℕ, suc, ◌+◌, ◌<◌, ◌≤◌, Bool, true, false, cond, List, [], ◌∷◌, ◌++◌, drop, filter, get_or, length, map, take, refl, sym, ap, ◌∙◌, arith}
+use Rattle.std.proofs.Common.{◌≡◌, ℕ, suc, ◌+◌, ◌-◌, ◌<◌, ◌≤◌, Bool, true, false, cond, List, [], ◌∷◌, ◌++◌, drop, filter, get_or, length, map, take, refl, sym, ap, ◌∙◌, arith}
 use Rattle.std.proofs.Math.Seq.{drop-append_seam}
-use Rattle.std.proofs.lemmas.List.{take-append-drop}
+use Rattle.std.proofs.lemmas.List.{take-append-drop, take_rest}
 use Rattle.std.proofs.lemmas.List.Elements.{filter-append}
 use Rattle.std.proofs.lemmas.List.Filters.{length-filter_more}
 use Rattle.model_history.specs.History.{changes_of, is_kind}
 use Rattle.model_history.specs.declared.entry.Entry.{Entry}
 use Rattle.model_history.specs.declared.entry.Kind.TheVariants.{Event}
-use Rattle.model_query.specs.Matching.{of_events}
+use Rattle.model_query.specs.Matching.{of_events, touched_by, touched_since}
 
 abbrev pub is_of_event : Entry → Bool
 is_of_event e = is_kind Event e.change.kind
@@ -42,3 +42,20 @@ later_changes es place state is =
         ∙ filter-append (λ c. is_kind Event c.kind) (changes_of before) (changes_of after) in
     sym (ap (λ n. drop n (of_events (changes_of es))) (is ∙ sym (count_of_events before)) ∙ ap (drop (length (of_events (changes_of before)))) parts
     ∙ drop-append_seam (of_events (changes_of before)) (of_events (changes_of after)))
+
+twice_step : {X : Type 0} (p : X → Bool) (x : X) (xs : List X) (b : Bool) → p x ≡ b → filter p (filter p xs) ≡ filter p xs
+    → filter p (cond b (x ∷ filter p xs) (filter p xs)) ≡ cond b (x ∷ filter p xs) (filter p xs)
+twice_step p x xs true is rest = ap (λ b. cond b (x ∷ filter p (filter p xs)) (filter p (filter p xs))) is ∙ ap (λ l. x ∷ l) rest
+twice_step p x xs false is rest = rest
+
+twice : {X : Type 0} (p : X → Bool) (xs : List X) → filter p (filter p xs) ≡ filter p xs
+twice p [] = refl
+twice p (x ∷ xs) = twice_step p x xs (p x) refl (twice p xs)
+
+-- what these entries touch was touched since
+pub touched_from : (es : List Entry) (place state : ℕ) → of_events (changes_of (drop place es)) ≡ drop state (of_events (changes_of es))
+    → touched_by (changes_of (take (length es - place) (drop place es))) ≡ touched_since (changes_of es) state
+touched_from es place state is =
+    let later = changes_of (drop place es) in
+    ap (λ l. touched_by (changes_of l)) (take_rest es place)
+    ∙ ap (map (λ c. c.id)) (sym (twice (λ c. is_kind Event c.kind) later) ∙ ap of_events is)
