@@ -10,6 +10,7 @@ use Rattle.model_history.specs.declared.entry.Change.{Change}
 use Rattle.model_history.specs.declared.entry.Entry.{Entry}
 use Rattle.model_history.specs.declared.entry.Kind.TheVariants.{Event}
 use Rattle.model_json.specs.declared.tree.Tree.{Tree}
+use Rattle.model_queries.specs.Changed.{delta_since}
 use Rattle.model_query.specs.Matching.{match_of, matches, of_events, result_at, result_of, touched_since, with_number}
 use Rattle.model_query.specs.QueryChanges.{delta_of, indexed}
 use Rattle.model_query.specs.Results.{numbers_at, places}
@@ -39,12 +40,15 @@ matches_of_live see cs = some_given (λ id. match_of see id (live_object cs Even
 
 -- ---- the state that a history has come to
 
+pub state_counts : (cs : List Change) → state_at cs Event ≡ length (of_events cs)
+state_counts cs = sym (length-filter (λ c. is_kind Event c.kind) cs)
+
 -- the result at that state is that of the history
 pub result_now : (see : Tree → Option Item) (order : List Comparator) (es : List Entry) (k : ℕ) → k ≡ state_at (changes_of es) Event
     → result_among see order (changes_up_to es Event k) (live_ids (changes_up_to es Event k) Event) ≡ result_of see order (changes_of es)
 result_now see order es k is =
     let all = of_events (changes_of es) in
-    let counted : k ≡ length all = is ∙ sym (length-filter (λ c. is_kind Event c.kind) (changes_of es)) in
+    let counted : k ≡ length all = is ∙ state_counts (changes_of es) in
     ap (λ cs. result_among see order cs (live_ids cs Event)) (ap (λ n. take n all) counted ∙ take-length all)
     ∙ ap (λ ps. numbers_at (map (λ p. p.0) ps) (places order (map (λ p. p.1) ps))) (matches_of_live see all ∙ matches_of_events see (changes_of es))
 
@@ -80,5 +84,10 @@ touched_result see order es k touched =
     ap (filter (is_in touched)) (named_places order some) ∙ results_agree order (is_in touched) some (matches see cs) same
     ∙ ap (filter (is_in touched)) (sym (named_places order (matches see cs)))
 
-pub same_delta : (old before now touched : List ℕ) → filter (is_in touched) before ≡ filter (is_in touched) old → delta_of before now touched ≡ delta_of old now touched
-same_delta old before now touched same i = record { removed = same i; added = indexed (is_in touched) 0 now }
+-- what changed of those that were touched is what changed
+pub delta_is : (see : Tree → Option Item) (order : List Comparator) (cs : List Change) (k : ℕ) (before now touched : List ℕ) → touched ≡ touched_since cs k
+    → filter (is_in touched) before ≡ filter (is_in touched) (result_at see order cs k) → now ≡ result_of see order cs → delta_of before now touched ≡ delta_since see order cs k
+delta_is see order cs k before now touched t b n = same_removed b ∙ (λ i. delta_of (result_at see order cs k) (n i) (t i))
+  where
+    same_removed : filter (is_in touched) before ≡ filter (is_in touched) (result_at see order cs k) → delta_of before now touched ≡ delta_of (result_at see order cs k) now touched
+    same_removed same i = record { removed = same i; added = indexed (is_in touched) 0 now }

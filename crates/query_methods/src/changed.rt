@@ -54,7 +54,6 @@ pub(crate) fn changed<S: Sight>(
 }
 
 // Of the earlier result only those events are looked at that were touched since.
-#[tactic(auto, using(crate::proofs::ResultLemmas::same_delta))]
 fn delta_since<S: Sight>(
     alloc: Global,
     store: &Store,

@@ -80,7 +80,12 @@ fn anchor_in(ids: &[u64], anchor: &Option<Text>) -> Anchor
 fn place_of(ids: &[u64], id: &Text) -> Option<usize>
     ensures { result ≡ option_and_then (λ number. position (λ id. id == number) ids.now) (object_number Event id.now) }
 {
-    let number = read_object_id(Kind::Event, id.as_str().as_bytes())?;
+    place_of_number(ids, read_object_id(Kind::Event, id.as_str().as_bytes())?)
+}
+
+fn place_of_number(ids: &[u64], number: u64) -> Option<usize>
+    ensures { result ≡ position (λ id. id == number) ids.now }
+{
     ids.iter().position(|id| *id == number)
 }
 

@@ -4,8 +4,10 @@
 mod changed;
 pub mod error;
 mod found;
-mod ids;
+pub mod ids;
 pub mod item;
+pub mod laws;
+pub mod numbers;
 pub mod request;
 pub mod result;
 pub mod sight;
