@@ -2,12 +2,16 @@
 #![tactic(auto)]
 
 mod changed;
+mod criteria;
 pub mod error;
+mod filter_sight;
 mod found;
 pub mod ids;
 pub mod item;
 pub mod laws;
 pub mod numbers;
+pub mod query;
+pub mod query_changes;
 pub mod request;
 pub mod result;
 pub mod sight;
