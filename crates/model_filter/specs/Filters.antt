@@ -9,7 +9,7 @@ use Rattle.model_json.specs.Parts.{as_text}
 use Rattle.property_table.specs.Values.{is_text}
 
 -- What is said of filters: of what is none; of a condition, by its members; and of an operator, by the value of `operator`, its
--- members, and what is said of each of its conditions, which are none where `conditions` is no list.
+-- members, and what is said of each of its conditions, of which there is no list where `conditions` is none.
 pub record Meaning : Type 0 where
   pub other : Bool
   pub condition : List Pair → Bool
@@ -47,34 +47,55 @@ some_true bs = list_any (λ b. b) bs
 abbrev pub all_true : List Bool → Bool
 all_true bs = list_all (λ b. b) bs
 
--- BadFilter: what is no object; a known member with a value of a wrong kind, an `operator` that is no text; and `conditions` that
--- are no list of filters
-abbrev pub badness : Meaning
-badness = record {
-  other = true;
-  condition = has_bad_member;
-  operator = λ op ps conditions. not (is_text op) || option_map_or some_true conditions true;
+-- What is looked for in a filter: whether it is there in what is no filter; in a condition, by its members; in an operator itself, by
+-- the value of `operator` and its members; and in an operator without a list of conditions. Else one of the conditions has it.
+pub record Sought : Type 0 where
+  pub other : Bool
+  pub condition : List Pair → Bool
+  pub operator : Data → List Pair → Bool
+  pub unlisted : Bool
+
+abbrev pub meaning_of : Sought → Meaning
+meaning_of s = record {
+  other = s.other;
+  condition = s.condition;
+  operator = λ op ps conditions. s.operator op ps || option_map_or some_true conditions s.unlisted;
 }
+
+abbrev pub is_found : Sought → Data → Bool
+is_found s d = said (meaning_of s) d
+
+-- what makes a filter bad: that it is no object, a known member with a value of a wrong kind, an `operator` that is no text, and
+-- `conditions` that are no list of filters
+abbrev pub fault : Sought
+fault = record { other = true; condition = has_bad_member; operator = λ op ps. not (is_text op); unlisted = true }
 
 abbrev pub is_bad_filter : Data → Bool
-is_bad_filter d = said badness d
+is_bad_filter d = is_found fault d
 
--- of a filter that isn't bad: an unknown member or operator
-abbrev pub unsupport : Meaning
-unsupport = record {
-  other = false;
-  condition = has_other_than condition_names;
-  operator = λ op ps conditions. not (is_operator op) || (has_other_than operator_names ps || option_map_or some_true conditions false);
-}
+-- what isn't supported of a filter that isn't bad: an unknown member or operator
+abbrev pub unknown : Sought
+unknown = record { other = false; condition = has_other_than condition_names; operator = λ op ps. not (is_operator op) || has_other_than operator_names ps; unlisted = false }
 
 abbrev pub is_unsupported_filter : Data → Bool
-is_unsupported_filter d = said unsupport d
+is_unsupported_filter d = is_found unknown d
+
+-- a condition asks when an event is
+abbrev pub asks_time : List Pair → Bool
+asks_time ps = is_some (text_given (codes "after") ps) || is_some (text_given (codes "before") ps)
+
+abbrev pub time : Sought
+time = record { other = false; condition = asks_time; operator = λ op ps. false; unlisted = false }
+
+-- some condition of the filter does
+abbrev pub has_time : Data → Bool
+has_time d = is_found time d
 
 -- AND holds where all conditions hold, OR where one does, and NOT where none does
 abbrev pub joined : List ℕ → List Bool → Bool
 joined op holds = if bytes_eq op (codes "AND") then all_true holds else if bytes_eq op (codes "OR") then some_true holds else not (some_true holds)
 
--- a filter holds where this test of conditions says so; null, which is no filter, always does
+-- A filter holds by a test of conditions. What is no filter, such as null, always does.
 abbrev pub holding : (List Pair → Bool) → Meaning
 holding test = record {
   other = true;
@@ -84,14 +105,3 @@ holding test = record {
 
 abbrev pub holds : (List Pair → Bool) → Data → Bool
 holds test d = said (holding test) d
-
--- a condition asks when an event is
-abbrev pub asks_time : List Pair → Bool
-asks_time ps = is_some (text_given (codes "after") ps) || is_some (text_given (codes "before") ps)
-
--- some condition of the filter does
-abbrev pub timing : Meaning
-timing = record { other = false; condition = asks_time; operator = λ op ps conditions. option_map_or some_true conditions false }
-
-abbrev pub has_time : Data → Bool
-has_time d = said timing d

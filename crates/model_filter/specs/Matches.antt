@@ -1,5 +1,5 @@
 -- The events that a filter holds of (draft JMAP for Calendars).
-use Rattle.std.specs.Prelude.{ℕ, ℤ, List, [], ◌&&◌, ◌||◌, Bool, true, false, Option, Some, None, codes, is_some, option_and_then, unwrap_or, if◌then◌else◌}
+use Rattle.std.specs.Prelude.{ℕ, ℤ, List, [], ◌&&◌, ◌||◌, Bool, true, false, Option, Some, None, codes, is_some, option_and_then, option_map, unwrap_or, if◌then◌else◌}
 use Rattle.std.specs.List.{list_any}
 use Rattle.std.specs.Option.{option_map_or}
 use Rattle.std.specs.Str.{bytes_eq}
@@ -8,9 +8,9 @@ use Rattle.jiff_tz.specs.PosixText.{TzText}
 use Rattle.model_event.specs.Events.{participants_of}
 use Rattle.model_event.specs.Participants.{ParticipantProperties, any_meets}
 use Rattle.model_filter.specs.Filters.{asks_time, holds}
-use Rattle.model_filter.specs.Members.{text_given}
+use Rattle.model_filter.specs.Members.{given_at, text_given}
 use Rattle.model_json.specs.Data.{Data, Pair, lookup}
-use Rattle.model_json.specs.Parts.{object_at, text_at}
+use Rattle.model_json.specs.Parts.{members_in, object_at, text_at}
 use Rattle.model_recurrence.specs.SeriesOf.{series_in}
 use Rattle.model_series.specs.declared.series.Series.{Series}
 use Rattle.model_site.specs.TimeZones.{ZoneText}
@@ -46,15 +46,26 @@ says event needle =
 
 -- `after` and `before`
 
--- the instant of a LocalDateTime by a rule
-abbrev pub instant_named : TzText → List ℕ → Option ℤ
-instant_named clock s = option_and_then (instant_in clock) (local_in s)
+-- the wall second of the LocalDateTime of a member
+abbrev pub wall_given : List ℕ → List Pair → Option ℤ
+wall_given key ps = option_and_then local_in (text_given key ps)
 
+-- from the instant of the one to that of the other, by a rule
 abbrev pub window_of : TzText → List Pair → Window
 window_of clock ps = record {
-  after = option_and_then (instant_named clock) (text_given (codes "after") ps);
-  before = option_and_then (instant_named clock) (text_given (codes "before") ps);
+  after = option_and_then (instant_in clock) (wall_given (codes "after") ps);
+  before = option_and_then (instant_in clock) (wall_given (codes "before") ps);
 }
+
+abbrev pub both : Option ℤ → Option ℤ → Option (ℤ × ℤ)
+both after before = option_and_then (λ a. option_map (λ b. (a, b)) before) after
+
+abbrev pub walls_of : List Pair → Option (ℤ × ℤ)
+walls_of ps = both (wall_given (codes "after") ps) (wall_given (codes "before") ps)
+
+-- the wall seconds of a filter that is one condition with both members
+abbrev pub window_asked : Data → Option (ℤ × ℤ)
+window_asked filter = if is_some (given_at (codes "operator") (members_in filter)) then None else walls_of (members_in filter)
 
 -- one occurrence ends after the one instant and starts before the other; an event without series, or whose zone has no rule, has none
 abbrev pub meets_by : Option Series → Option TzText → Window → Bool
