@@ -10,12 +10,12 @@ use Rattle.property_table.specs.Values.{is_text}
 
 -- What is said of filters: of what is none; of a condition, by its members; and of an operator, by the value of `operator`, its
 -- members, and what is said of each of its conditions, of which there is no list where `conditions` is none.
-pub record Meaning : Type 0 where
+pub record FilterMeaning : Type 0 where
   pub other : Bool
   pub condition : List Pair → Bool
   pub operator : Data → List Pair → Option (List Bool) → Bool
 
-module _ (m : Meaning) where
+module _ (m : FilterMeaning) where
   abbrev mutual
     pub said : Data → Bool
     said null = m.other
@@ -55,7 +55,7 @@ pub record Sought : Type 0 where
   pub operator : Data → List Pair → Bool
   pub unlisted : Bool
 
-abbrev pub meaning_of : Sought → Meaning
+abbrev pub meaning_of : Sought → FilterMeaning
 meaning_of s = record {
   other = s.other;
   condition = s.condition;
@@ -92,15 +92,15 @@ abbrev pub has_time : Data → Bool
 has_time d = is_found time d
 
 -- AND holds where all conditions hold, OR where one does, and NOT where none does
-abbrev pub joined : List ℕ → List Bool → Bool
-joined op holds = if bytes_eq op (codes "AND") then all_true holds else if bytes_eq op (codes "OR") then some_true holds else not (some_true holds)
+abbrev pub operator_holds : List ℕ → List Bool → Bool
+operator_holds op holds = if bytes_eq op (codes "AND") then all_true holds else if bytes_eq op (codes "OR") then some_true holds else not (some_true holds)
 
 -- A filter holds by a test of conditions. What is no filter, such as null, always does.
-abbrev pub holding : (List Pair → Bool) → Meaning
+abbrev pub holding : (List Pair → Bool) → FilterMeaning
 holding test = record {
   other = true;
   condition = test;
-  operator = λ op ps conditions. joined (unwrap_or (as_text op) []) (unwrap_or conditions []);
+  operator = λ op ps conditions. operator_holds (unwrap_or (as_text op) []) (unwrap_or conditions []);
 }
 
 abbrev pub holds : (List Pair → Bool) → Data → Bool

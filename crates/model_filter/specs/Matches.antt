@@ -51,8 +51,8 @@ abbrev pub wall_given : List ℕ → List Pair → Option ℤ
 wall_given key ps = option_and_then local_in (text_given key ps)
 
 -- from the instant of the one to that of the other, by a rule
-abbrev pub window_of : TzText → List Pair → Window
-window_of clock ps = record {
+abbrev pub instants_asked : TzText → List Pair → Window
+instants_asked clock ps = record {
   after = option_and_then (instant_in clock) (wall_given (codes "after") ps);
   before = option_and_then (instant_in clock) (wall_given (codes "before") ps);
 }
@@ -60,12 +60,12 @@ window_of clock ps = record {
 abbrev pub both : Option ℤ → Option ℤ → Option (ℤ × ℤ)
 both after before = option_and_then (λ a. option_map (λ b. (a, b)) before) after
 
-abbrev pub walls_of : List Pair → Option (ℤ × ℤ)
-walls_of ps = both (wall_given (codes "after") ps) (wall_given (codes "before") ps)
+abbrev pub walls_asked : List Pair → Option (ℤ × ℤ)
+walls_asked ps = both (wall_given (codes "after") ps) (wall_given (codes "before") ps)
 
 -- the wall seconds of a filter that is one condition with both members
 abbrev pub window_asked : Data → Option (ℤ × ℤ)
-window_asked filter = if is_some (given_at (codes "operator") (members_in filter)) then None else walls_of (members_in filter)
+window_asked filter = if is_some (given_at (codes "operator") (members_in filter)) then None else walls_asked (members_in filter)
 
 -- one occurrence ends after the one instant and starts before the other; an event without series, or whose zone has no rule, has none
 abbrev pub meets_by : Option Series → Option TzText → Window → Bool
@@ -80,7 +80,7 @@ module _ (clock : TzText) (series : Option Series) (rule : Option TzText) (event
   asks key passes = option_map_or passes (text_given key ps) true
 
   abbrev pub meets_times : Bool
-  meets_times = if asks_time ps then meets_by series rule (window_of clock ps) else true
+  meets_times = if asks_time ps then meets_by series rule (instants_asked clock ps) else true
 
   -- `participant` and `participationStatus`: one participant meets both
   abbrev pub people_meet : Option (List ℕ) → Option (List ℕ) → Bool
