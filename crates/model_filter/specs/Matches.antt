@@ -73,29 +73,28 @@ meets_by None rule w = false
 meets_by (Some s) None w = false
 meets_by (Some s) (Some rule) w = has_meeting s (instant_in rule) w
 
+-- where either member stands
+abbrev pub times_meet : TzText → Option Series → Option TzText → List Pair → Bool
+times_meet clock series rule ps = if asks_time ps then meets_by series rule (instants_asked clock ps) else true
+
+-- `participant` and `participationStatus`, where either stands: one participant meets both
+abbrev pub people_meet : Data → Option (List ℕ) → Option (List ℕ) → Bool
+people_meet event needle status =
+    if is_some needle || is_some status then any_meets (option_map (λ n s. contains s n) needle) status (participants_of event) else true
+
+-- The event passes where a member is a text.
+abbrev pub asks : List ℕ → List Pair → (List ℕ → Bool) → Bool
+asks key ps passes = option_map_or passes (text_given key ps) true
+
 -- A condition holds where all its members do: by the rule of the query's zone, and by the event with its series and the rule of its zone.
-module _ (clock : TzText) (series : Option Series) (rule : Option TzText) (event : Data) (ps : List Pair) where
-  -- the text of a member passes, where there is one
-  abbrev pub asks : List ℕ → (List ℕ → Bool) → Bool
-  asks key passes = option_map_or passes (text_given key ps) true
-
-  abbrev pub meets_times : Bool
-  meets_times = if asks_time ps then meets_by series rule (instants_asked clock ps) else true
-
-  -- `participant` and `participationStatus`: one participant meets both
-  abbrev pub people_meet : Option (List ℕ) → Option (List ℕ) → Bool
-  people_meet None None = true
-  people_meet None (Some status) = any_meets None (Some status) (participants_of event)
-  people_meet (Some needle) status = any_meets (Some (λ s. contains s needle)) status (participants_of event)
-
-  unfoldable pub meets_condition : Bool
-  meets_condition =
-      asks (codes "inCalendar") (is_in_calendar event)
-      && (asks (codes "uid") (has_uid event)
-      && (meets_times
-      && (asks (codes "title") (contains_at (codes "title") event)
-      && (asks (codes "text") (says event)
-      && people_meet (text_given (codes "participant") ps) (text_given (codes "participationStatus") ps)))))
+unfoldable pub meets_condition : TzText → Option Series → Option TzText → Data → List Pair → Bool
+meets_condition clock series rule event ps =
+    asks (codes "inCalendar") ps (is_in_calendar event)
+    && (asks (codes "uid") ps (has_uid event)
+    && (times_meet clock series rule ps
+    && (asks (codes "title") ps (contains_at (codes "title") event)
+    && (asks (codes "text") ps (says event)
+    && people_meet event (text_given (codes "participant") ps) (text_given (codes "participationStatus") ps)))))
 
 -- a filter holds of an event
 abbrev pub matches_by : TzText → Option Series → Option TzText → Data → Data → Bool
