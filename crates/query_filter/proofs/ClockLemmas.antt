@@ -1,10 +1,11 @@
 -- Instants that are kept.
-use Rattle.std.proofs.Common.{◌≡◌, ◌∙◌, ℕ, zero, suc, ◌<◌, List, [], ◌∷◌, Bool, true, false, Option, Some, None, length, get_or, refl, sym, ap, arith, ℤ}
+use Rattle.std.proofs.Common.{◌≡◌, ◌∙◌, ℕ, zero, suc, ◌<◌, List, [], ◌∷◌, Bool, true, false, Option, Some, None, length, get_or, refl, ap, arith, ℤ, ◌++◌, if◌then◌else◌}
 use Rattle.std.specs.Prelude.{option_and_then}
-use Rattle.std.specs.List.{list_all}
 use Rattle.std.specs.Option.{option_map_or}
 use Rattle.std.specs.Ordering.{int_eq}
+use Rattle.std.specs.Str.{bytes_eq}
 use Rattle.std.proofs.lemmas.Bool.Decides.{Decides-int_eq}
+use Rattle.std.proofs.lemmas.Slice.Eq.{bytes_eq-Decides}
 use Rattle.jiff_core.proofs.SignedLemmas.{signed_arith}
 use Rattle.jiff_core.specs.Calendar.{IsWithin}
 use Rattle.jiff_tz.specs.declared.posix.TimeZone.{TimeZone}
@@ -15,6 +16,10 @@ use Rattle.occurrence_windows.proofs.Series.{rule_instants}
 use Rattle.query_filter.specs.TimesRead.{are_times, is_time}
 use Rattle.query_filter.specs.declared.clock.TimeRead.{TimeRead}
 use Rattle.rule_expand.proofs.Places.{and_both}
+use Rattle.rule_expand.proofs.Sets.{both_and}
+
+pub same_text : (s t : List ℕ) → bytes_eq s t ≡ true → s ≡ t
+same_text s t h = (bytes_eq-Decides s t).0 h
 
 some_eq : (x : ℤ) (o : Option ℤ) → option_map_or (int_eq x) o false ≡ true → Some x ≡ o
 some_eq x None h = cc
@@ -37,3 +42,12 @@ near_by tz (Some w) t h = let x = (rule_instants tz).showing w t h in let y = (r
 
 pub named_near : (tz : TimeZone) (text : List ℕ) (t : ℤ) → option_and_then (instant_in (tz_view tz)) (local_in text) ≡ Some t → IsWithin 300000000000 t
 named_near tz text t h = near_by tz (local_in text) t h
+
+times_more : (rule : TzText) (ts : List TimeRead) (t : TimeRead) → are_times rule ts ≡ true → option_and_then (instant_in rule) (local_in t.text) ≡ Some t.instant → are_times rule (ts ++ t ∷ []) ≡ true
+times_more rule [] t h e = both_and (is_time rule t) true (ap (λ o. option_map_or (int_eq t.instant) o false) e ∙ (Decides-int_eq t.instant t.instant).1 refl) refl
+times_more rule (x ∷ ts) t h e = let parts = and_both (is_time rule x) (are_times rule ts) h in both_and (is_time rule x) (are_times rule (ts ++ t ∷ [])) parts.0 (times_more rule ts t parts.1 e)
+
+-- whether or not there was memory for one more
+pub times_pushed : (rule : TzText) (ts : List TimeRead) (t : TimeRead) (b : Bool) → are_times rule ts ≡ true → option_and_then (instant_in rule) (local_in t.text) ≡ Some t.instant → are_times rule (if b then ts ++ t ∷ [] else ts) ≡ true
+times_pushed rule ts t true h e = times_more rule ts t h e
+times_pushed rule ts t false h e = h

@@ -1,12 +1,12 @@
 -- Filters whose members are a list.
-use Rattle.std.proofs.Common.{◌≡◌, ◌∙◌, ℕ, ◌<◌, ◌≤◌, List, [], ◌∷◌, Bool, true, false, Option, Some, None, if◌then◌else◌, refl, sym, ap, arith, map}
-use Rattle.std.specs.Prelude.{codes, option_and_then, option_map}
+use Rattle.std.proofs.Common.{◌≡◌, ◌∙◌, ℕ, ◌<◌, ◌≤◌, List, [], ◌∷◌, Bool, true, false, ◌||◌, Option, Some, None, if◌then◌else◌, refl, sym, ap, arith, map}
+use Rattle.std.specs.Prelude.{codes, option_and_then, option_map, unwrap_or}
 use Rattle.std.specs.Option.{option_map_or}
 use Rattle.std.specs.Str.{bytes_eq}
-use Rattle.model_filter.specs.Filters.{FilterMeaning, said, said_at, said_items, said_list}
+use Rattle.model_filter.specs.Filters.{FilterMeaning, Sought, holding, holds, is_found, meaning_of, operator_holds, said, said_at, said_items, said_list, some_true}
 use Rattle.model_filter.specs.Members.{given_at}
 use Rattle.model_json.specs.Data.{Data, null, truth, whole, text, list, object, Items, no_items, item, Pair, list_of, pairs_back, lookup, items_of, members_of, depth, items_depth, members_depth}
-use Rattle.model_json.specs.Parts.{as_list}
+use Rattle.model_json.specs.Parts.{as_list, as_text}
 use Rattle.query_filter.specs.Conditions.{conditions_in}
 
 by_bool : {Q : Type 0} (b : Bool) → (b ≡ true → Q) → (b ≡ false → Q) → Q
@@ -73,3 +73,28 @@ module _ (m : FilterMeaning) where
       → said m (object (members_of ps)) ≡ m.operator op ps (option_map (map (said m)) conditions)
   operator_said ps op conditions h k = object_said ps ∙ ap (λ o. option_map_or (λ x. m.operator x ps (option_map (map (said m)) (conditions_in ps))) o (m.condition ps)) h
       ∙ ap (λ o. m.operator op ps (option_map (map (said m)) o)) k
+
+-- What is sought.
+module _ (s : Sought) (ps : List Pair) where
+  pub found_condition : given_at (codes "operator") ps ≡ None → s.condition ps ≡ is_found s (object (members_of ps))
+  found_condition h = sym (condition_said (meaning_of s) ps h)
+
+  pub found_operator : (op : Data) → given_at (codes "operator") ps ≡ Some op → s.operator op ps ≡ true → true ≡ is_found s (object (members_of ps))
+  found_operator op h e = sym (operator_said (meaning_of s) ps op (conditions_in ps) h refl ∙ ap (λ b. b || option_map_or some_true (option_map (map (is_found s)) (conditions_in ps)) s.unlisted) e)
+
+  pub found_unlisted : (op : Data) → given_at (codes "operator") ps ≡ Some op → s.operator op ps ≡ false → conditions_in ps ≡ None → s.unlisted ≡ is_found s (object (members_of ps))
+  found_unlisted op h e k = sym (operator_said (meaning_of s) ps op None h k ∙ ap (λ b. b || s.unlisted) e)
+
+  pub found_listed : (op : Data) (ds : List Data) → given_at (codes "operator") ps ≡ Some op → s.operator op ps ≡ false → conditions_in ps ≡ Some ds → some_true (map (is_found s) ds) ≡ is_found s (object (members_of ps))
+  found_listed op ds h e k = sym (operator_said (meaning_of s) ps op (Some ds) h k ∙ ap (λ b. b || some_true (map (is_found s) ds)) e)
+
+-- Where a filter holds.
+module _ (test : List Pair → Bool) (ps : List Pair) where
+  pub holds_condition : given_at (codes "operator") ps ≡ None → test ps ≡ holds test (object (members_of ps))
+  holds_condition h = sym (condition_said (holding test) ps h)
+
+  pub holds_unlisted : (op : Data) → given_at (codes "operator") ps ≡ Some op → conditions_in ps ≡ None → operator_holds (unwrap_or (as_text op) []) [] ≡ holds test (object (members_of ps))
+  holds_unlisted op h k = sym (operator_said (holding test) ps op None h k)
+
+  pub holds_listed : (op : Data) (ds : List Data) → given_at (codes "operator") ps ≡ Some op → conditions_in ps ≡ Some ds → operator_holds (unwrap_or (as_text op) []) (map (holds test) ds) ≡ holds test (object (members_of ps))
+  holds_listed op ds h k = sym (operator_said (holding test) ps op (Some ds) h k)

@@ -7,5 +7,5 @@ use Rattle.model_json.specs.TreeData.{data_of}
 use Rattle.query_filter.specs.declared.condition.EventTest.{EventTest}
 
 -- the event meets a condition
-abbrev pub meets : EventTest → List Pair → Bool
-meets t = meets_condition t.clock.now (option_map (λ s. s.now) t.series) (option_map (λ r. tz_view r.now) t.rule) (data_of t.event.now)
+abbrev pub event_meets : EventTest → List Pair → Bool
+event_meets t = meets_condition t.clock.now (option_map (λ s. s.now) t.series) (option_map (λ r. tz_view r.now) t.rule) (data_of t.event.now)

@@ -4,3 +4,4 @@ pub mod ReadFilters
 pub mod TimesRead
 pub mod EventTests
 pub mod InZone
+pub mod AnyTime

@@ -77,7 +77,6 @@ impl Clock {
 }
 
 // The instant that a LocalDateTime stands for by a rule, looked up among those that were read.
-#[tactic(auto, using(crate::proofs::ClockLemmas::time_is))]
 fn instant_by(rule: &TimeZone, times: &[TimeRead], text: &Text) -> Option<i64>
     requires { are_times (tz_view rule.now) times.now ≡ true }
     ensures { result ≡ option_and_then (instant_in (tz_view rule.now)) (local_in text.now) }

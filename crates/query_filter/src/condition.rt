@@ -6,7 +6,7 @@ ghost use Rattle.model_filter.specs.Matches.{asks, contains_at, has_uid, instant
 ghost use Rattle.model_json.specs.TreeData.{data_of};
 ghost use Rattle.model_window.specs.Clocks.{instant_in};
 ghost use Rattle.occurrence_windows.specs.Bounds.{AreNear};
-ghost use Rattle.query_filter.specs.EventTests.{meets};
+ghost use Rattle.query_filter.specs.EventTests.{event_meets};
 
 use crate::clock::Clock;
 use crate::needles::Needles;
@@ -37,7 +37,7 @@ impl<'a> EventTest<'a> {
     /// Whether a condition holds. Takes memory for folded texts.
     #[tactic(auto, unfolding(model_filter::specs::Matches::meets_condition))]
     pub(crate) fn meets(&self, condition: &TreeObject) -> Result<bool, AllocError>
-        ensures { IfOk result (λ b. b ≡ meets self.now condition.now) }
+        ensures { IfOk result (λ b. b ≡ event_meets self.now condition.now) }
     {
         if !self.meets_calendar(condition)
             || !self.meets_uid(condition)

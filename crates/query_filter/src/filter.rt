@@ -1,9 +1,10 @@
 //! Filters that were read.
-ghost use Rattle.std.specs.Prelude.{◌≡◌, None, codes, is_some, if◌then◌else◌};
+ghost use Rattle.std.specs.Prelude.{◌≡◌, None, codes, false, is_some, if◌then◌else◌};
 ghost use Rattle.model_filter.specs.Filters.{has_time};
 ghost use Rattle.model_filter.specs.Matches.{wall_given, walls_asked, window_asked};
 ghost use Rattle.model_filter.specs.Members.{given_at};
 ghost use Rattle.model_json.specs.TreeData.{data_of};
+ghost use Rattle.query_filter.specs.AnyTime.{IsForAnyTime};
 ghost use Rattle.query_filter.specs.ReadFilters.{IsRead};
 ghost use Rattle.query_filter.specs.declared.filter.FilterError.TheVariants.{NoMemory};
 
@@ -66,14 +67,18 @@ impl Filter {
         Ok(Filter { tree: tree.copy()? })
     }
 
-    /// Whether some condition asks when an event is. Takes no memory.
+    /// Whether some condition asks when an event is. Where none does, neither its series nor the rule of its zone matters. Takes no
+    /// memory.
+    #[tactic(auto, using(crate::proofs::TimeLemmas::without_time))]
     pub fn has_time(&self) -> bool
-        ensures { result ≡ has_time self.now }
+        ensures value { result ≡ has_time self.now }
+        ensures without { result ≡ false → IsForAnyTime self.now }
     {
         SoughtKind::Time.is_found(&self.tree)
     }
 
     /// The wall seconds of `after` and `before`, where the filter is one condition with both. Takes no memory.
+    #[tactic(auto, using(model_json::specs::Data::pairs_back))]
     pub fn window(&self) -> Option<(Wall, Wall)>
         ensures { result ≡ window_asked self.now }
     {

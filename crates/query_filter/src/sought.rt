@@ -49,7 +49,9 @@ impl SoughtKind {
     {
         match self {
             SoughtKind::Fault => !is_text(operator),
-            SoughtKind::Unknown => { !is_operator(operator) || has_other_than(&OPERATOR_NAMES, object) }
+            SoughtKind::Unknown => {
+                !is_operator(operator) || has_other_than(&OPERATOR_NAMES, object)
+            }
             SoughtKind::Time => false,
         }
     }
@@ -79,15 +81,17 @@ impl SoughtKind {
     fn is_found_in(self, filter: &TreeObject) -> bool
         ensures { result ≡ is_found (sought_of self) (object (members_of filter.now)) }
     {
-        let Some(operator) = given(filter, "operator") else {
-            return self.is_in_condition(filter);
-        };
-        if self.is_in_operator(operator, filter) {
-            return true;
-        }
-        match conditions_of(filter) {
-            Some(conditions) => self.is_found_among(conditions),
-            None => self.is_in_unlisted(),
+        match given(filter, "operator") {
+            None => self.is_in_condition(filter),
+            Some(operator) => {
+                if self.is_in_operator(operator, filter) {
+                    return true;
+                }
+                match conditions_of(filter) {
+                    None => self.is_in_unlisted(),
+                    Some(conditions) => self.is_found_among(conditions),
+                }
+            }
         }
     }
 

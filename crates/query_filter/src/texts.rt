@@ -102,13 +102,8 @@ impl Needles {
     }
 
     // The text, if there is one, contains the other.
-    fn is_in(
-        &self,
-        alloc: Global,
-        text: Option<&Text>,
-        needle: &Text,
-    ) -> Result<bool, AllocError>
-        ensures { IfOk result (λ b. b ≡ option_map_or (λ t. contains t.now needle.now) text.entry false) }
+    fn is_in(&self, alloc: Global, text: Option<&Text>, needle: &Text) -> Result<bool, AllocError>
+        ensures { IfOk result (λ b. b ≡ option_map_or (λ t. contains t needle.now) (option_map (λ t. t.now) text.entry) false) }
     {
         match text {
             Some(text) => self.contains(alloc, text.as_str(), needle),
@@ -170,12 +165,7 @@ impl Needles {
     }
 
     // The name, the email or a text of `sendTo` contains the text.
-    fn has_text(
-        &self,
-        alloc: Global,
-        participant: &Tree,
-        needle: &Text,
-    ) -> Result<bool, AllocError>
+    fn has_text(&self, alloc: Global, participant: &Tree, needle: &Text) -> Result<bool, AllocError>
         ensures { IfOk result (λ b. b ≡ has_text (λ s. contains s needle.now) (participant_in (data_of participant.now))) }
     {
         if self.is_in(alloc, participant.text_at("name"), needle)? {
@@ -191,6 +181,7 @@ impl Needles {
     }
 
     // A text among the values of some members contains the text.
+    #[tactic(auto, using(crate::proofs::TextLemmas::any_of_some))]
     fn are_among(
         &self,
         alloc: Global,

@@ -6,7 +6,7 @@ ghost use Rattle.model_filter.specs.Matches.{matches_by};
 ghost use Rattle.model_json.specs.Data.{members_of, object};
 ghost use Rattle.model_json.specs.Parts.{as_text};
 ghost use Rattle.model_json.specs.TreeData.{data_of};
-ghost use Rattle.query_filter.specs.EventTests.{meets};
+ghost use Rattle.query_filter.specs.EventTests.{event_meets};
 
 use crate::clock::Clock;
 use crate::condition::EventTest;
@@ -15,6 +15,7 @@ use crate::filter::Filter;
 use crate::members::given;
 use crate::needles::Needles;
 use jiff_tz::posix::TimeZone;
+use model_json::text::Text;
 use model_json::tree::{Tree, TreeObject};
 use model_series::series::Series;
 use std::alloc::{AllocError, Global};
@@ -90,7 +91,7 @@ impl<'a> EventTest<'a> {
     /// Whether a filter holds. Takes memory for folded texts.
     #[cycle(holds)]
     fn holds(&self, filter: &Tree) -> Result<bool, AllocError>
-        ensures { IfOk result (λ b. b ≡ holds (meets self.now) (data_of filter.now)) }
+        ensures { IfOk result (λ b. b ≡ holds (event_meets self.now) (data_of filter.now)) }
     {
         match filter {
             Tree::Object(object) => self.object_holds(object),
@@ -100,21 +101,20 @@ impl<'a> EventTest<'a> {
 
     #[cycle(holds)]
     fn object_holds(&self, filter: &TreeObject) -> Result<bool, AllocError>
-        ensures { IfOk result (λ b. b ≡ holds (meets self.now) (object (members_of filter.now))) }
+        ensures { IfOk result (λ b. b ≡ holds (event_meets self.now) (object (members_of filter.now))) }
     {
-        let Some(operator) = given(filter, "operator") else {
-            return self.meets(filter);
-        };
-        let conditions = match conditions_of(filter) {
-            Some(conditions) => conditions,
-            None => &[],
-        };
-        self.operator_holds(name_of(operator), conditions)
+        match given(filter, "operator") {
+            None => self.meets(filter),
+            Some(operator) => match conditions_of(filter) {
+                None => self.operator_holds(name_of(operator), &[]),
+                Some(conditions) => self.operator_holds(name_of(operator), conditions),
+            },
+        }
     }
 
     #[cycle(holds)]
     fn operator_holds(&self, operator: &str, conditions: &[Tree]) -> Result<bool, AllocError>
-        ensures { IfOk result (λ b. b ≡ operator_holds operator.now (map (holds (meets self.now)) (map data_of conditions.now))) }
+        ensures { IfOk result (λ b. b ≡ operator_holds operator.now (map (holds (event_meets self.now)) (map data_of conditions.now))) }
     {
         match operator {
             "AND" => self.all_hold(conditions),
@@ -126,7 +126,7 @@ impl<'a> EventTest<'a> {
     #[cycle(holds)]
     #[tactic(auto, using(model_json::specs::TreeDepth::item_falls))]
     fn all_hold(&self, filters: &[Tree]) -> Result<bool, AllocError>
-        ensures { IfOk result (λ b. b ≡ all_true (map (holds (meets self.now)) (map data_of filters.now))) }
+        ensures { IfOk result (λ b. b ≡ all_true (map (holds (event_meets self.now)) (map data_of filters.now))) }
     {
         for filter in filters {
             if !self.holds(filter)? {
@@ -139,7 +139,7 @@ impl<'a> EventTest<'a> {
     #[cycle(holds)]
     #[tactic(auto, using(model_json::specs::TreeDepth::item_falls))]
     fn any_holds(&self, filters: &[Tree]) -> Result<bool, AllocError>
-        ensures { IfOk result (λ b. b ≡ some_true (map (holds (meets self.now)) (map data_of filters.now))) }
+        ensures { IfOk result (λ b. b ≡ some_true (map (holds (event_meets self.now)) (map data_of filters.now))) }
     {
         for filter in filters {
             if self.holds(filter)? {
@@ -215,15 +215,25 @@ fn keep_condition(
 ) -> Result<(), AllocError>
     ensures { clock.new ≡ clock.old }
 {
-    for key in &["after", "before"] {
-        if let Some(text) = condition.text_at(key) {
-            clock.keep(text)?;
-        }
+    keep_time(clock, condition.text_at("after"))?;
+    keep_time(clock, condition.text_at("before"))?;
+    keep_text(alloc, needles, condition.text_at("title"))?;
+    keep_text(alloc, needles, condition.text_at("text"))?;
+    keep_text(alloc, needles, condition.text_at("participant"))
+}
+
+fn keep_time(clock: &mut Clock, text: Option<&Text>) -> Result<(), AllocError>
+    ensures { clock.new ≡ clock.old }
+{
+    match text {
+        Some(text) => clock.keep(text),
+        None => Ok(()),
     }
-    for key in &["title", "text", "participant"] {
-        if let Some(text) = condition.text_at(key) {
-            needles.keep(alloc, text)?;
-        }
+}
+
+fn keep_text(alloc: Global, needles: &mut Needles, text: Option<&Text>) -> Result<(), AllocError> {
+    match text {
+        Some(text) => needles.keep(alloc, text),
+        None => Ok(()),
     }
-    Ok(())
 }
