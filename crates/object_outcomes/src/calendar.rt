@@ -34,7 +34,7 @@ pub(crate) fn calendar_outcome<V: AccountView>(
     names_id: bool,
     object: TreeObject,
 ) -> Result<Judged, AllocError>
-    requires before { IsBefore (V.history view.now ++ V.staged view.now) calendar_kind number (option_map (λ t. t.now) before.entry) }
+    requires before { IsBefore (V.history view.now ++ V.staged view.now) calendar_kind number (option_map (λ t. t.now) before) }
     ensures exact { IfOk result (λ j. j.outcome ≡ calendar_outcome (ground_in setting.now) (V.history view.now ++ V.staged view.now) number
         (option_map (λ t. t.now) before.entry) names_id object) }
     ensures allowed { IfOk result (IsAllowed (V.base view.now).zones (V.history view.now ++ V.staged view.now)) }
@@ -110,8 +110,8 @@ fn store<V: AccountView>(
     tree: &Tree,
     calendar: &Calendar,
 ) -> Result<Judged, AllocError>
-    requires before { IsBefore (V.history view.now ++ V.staged view.now) calendar_kind number (option_map (λ t. t.now) before.entry) }
-    requires same { has_other_zone (option_map (λ t. t.now) before.entry) (data_of tree.now) ≡ false }
+    requires before { IsBefore (V.history view.now ++ V.staged view.now) calendar_kind number (option_map (λ t. t.now) before) }
+    requires same { has_other_zone (option_map (λ t. t.now) before) (data_of tree.now) ≡ false }
     requires calendar { calendar.now ≡ calendar_in (data_of tree.now) }
     ensures exact { IfOk result (λ j. j.outcome ≡ within_quota (V.history view.now ++ V.staged view.now)
         (exceeds_resources (V.history view.now ++ V.staged view.now) number (data_of tree.now)) None (put calendar_kind number (stored (calendar_in (data_of tree.now))))) }
@@ -150,11 +150,5 @@ fn exceeds_resources<V: AccountView>(
 fn count_others(numbers: &[u64], number: u64) -> usize
     ensures { result ≡ length (filter (λ m. not (m == number)) numbers.now) }
 {
-    let mut others = 0;
-    for other in numbers {
-        if *other != number {
-            others += 1;
-        }
-    }
-    others
+    numbers.iter().filter(|other| **other != number).count()
 }

@@ -111,7 +111,7 @@ fn object_outcome<V: AccountView>(
     names_id: bool,
     object: TreeObject,
 ) -> Result<Judged, AllocError>
-    requires before { IsBefore (V.history view.now ++ V.staged view.now) setting.now.kind number (option_map (λ t. t.now) before.entry) }
+    requires before { IsBefore (V.history view.now ++ V.staged view.now) setting.now.kind number (option_map (λ t. t.now) before) }
     requires zones { (V.base view.now).zones ≡ setting.now.zones.now }
     ensures exact { IfOk result (λ j. j.outcome ≡ object_outcome (ground_in setting.now) (V.history view.now ++ V.staged view.now) setting.now.kind number
         (option_map (λ t. t.now) before.entry) names_id object) }
