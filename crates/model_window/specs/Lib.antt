@@ -1,4 +1,5 @@
 pub mod Clocks
 pub mod ZoneRules
 pub mod Windows
+pub mod Meetings
 pub mod BusyPeriods

@@ -2,3 +2,4 @@ pub mod Walking
 pub mod Meeting
 pub mod Listing
 pub mod Series
+pub mod Passing

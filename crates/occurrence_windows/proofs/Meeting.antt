@@ -54,7 +54,7 @@ unfolding span_at
 has_span at o p h = let x = span_parts (at o.start) (at (o.start +ℤ pos (86400 * o.length.days))) o.length.seconds p h in
     record { last = x.0; first = x.1.0; ends = x.1.1.0; to = x.1.1.1 }
 
-pub some_holds : (test : Period → Bool) (x : Option Period) → option_map_or test x false ≡ true → (p : Period) × ((x ≡ Some p) × (test p ≡ true))
+pub some_holds : {A : Type 0} (test : A → Bool) (x : Option A) → option_map_or test x false ≡ true → (p : A) × ((x ≡ Some p) × (test p ≡ true))
 some_holds test None h = cc
 some_holds test (Some p) h = (p, (refl, h))
 

@@ -25,7 +25,7 @@ use Rattle.rule_expand.proofs.Sets.{int_le_is, or_left, or_right}
 use Rattle.zone_instants.proofs.Bounds.{instant_near, rule_near}
 use Rattle.zone_instants.proofs.Readings.{instant-none}
 
-names : (xs : List Exception) (k : ℕ) (x : Exception) (w : ℤ) → slice_get xs k ≡ Some x → x.rid ≡ w → is_named xs w ≡ true
+pub names : (xs : List Exception) (k : ℕ) (x : Exception) (w : ℤ) → slice_get xs k ≡ Some x → x.rid ≡ w → is_named xs w ≡ true
 unfolding is_named
 names [] k x w h e = cc
 names (y ∷ ys) zero x w h e = let same : y ≡ x = cc in or_left (int_eq y.rid w) _ ((Decides-int_eq y.rid w).1 (ap (λ z. z.rid) same ∙ e))
@@ -35,7 +35,7 @@ not_is : (b : Bool) → not b ≡ true → b ≡ false
 not_is true h = sym h
 not_is false h = refl
 
-distinct_parts : (x : Exception) (xs : List Exception) → are_distinct (x ∷ xs) ≡ true → (is_named xs x.rid ≡ false) × (are_distinct xs ≡ true)
+pub distinct_parts : (x : Exception) (xs : List Exception) → are_distinct (x ∷ xs) ≡ true → (is_named xs x.rid ≡ false) × (are_distinct xs ≡ true)
 unfolding are_distinct
 distinct_parts x xs h = let z = and_both (not (is_named xs x.rid)) (are_distinct xs) h in (not_is (is_named xs x.rid) z.0, z.1)
 
@@ -46,7 +46,7 @@ same_item (z ∷ zs) zero (suc k) x y d h g e = let same : z ≡ x = cc in let n
 same_item (z ∷ zs) (suc j) zero x y d h g e = let same : z ≡ y = cc in let named = names zs j x z.rid h (e ∙ sym (ap (λ w. w.rid) same)) in let free = (distinct_parts z zs d).0 in cc
 same_item (z ∷ zs) (suc j) (suc k) x y d h g e = same_item zs j k x y (distinct_parts z zs d).1 h g e
 
-some_same : {A : Type 0} (x y : A) → Some x ≡ Some y → x ≡ y
+pub some_same : {A : Type 0} (x y : A) → Some x ≡ Some y → x ≡ y
 some_same x y h = cc
 
 span_of : Occurrence → Span
@@ -56,10 +56,10 @@ spans_same : (x y : Exception) (a b : Occurrence) → x ≡ y → IsReplacement 
 unfolding span_of
 spans_same x y a b e h g = some_same (span_of a) (span_of b) (ap (λ z. z.replaced) (sym h ∙ e ∙ g))
 
-rid_of : (x : Exception) (o : Occurrence) → IsReplacement x o → x.rid ≡ o.rid
+pub rid_of : (x : Exception) (o : Occurrence) → IsReplacement x o → x.rid ≡ o.rid
 rid_of x o h = ap (λ y. y.rid) h
 
-replaced_of : (x : Exception) (o : Occurrence) → IsReplacement x o → x.replaced ≡ Some (record { start = o.start; length = o.length; occupying = o.occupying })
+pub replaced_of : (x : Exception) (o : Occurrence) → IsReplacement x o → x.replaced ≡ Some (record { start = o.start; length = o.length; occupying = o.occupying })
 replaced_of x o h = ap (λ y. y.replaced) h
 
 pub single : (s : Series) → AreSingle (IsOccurrence s)
@@ -135,7 +135,7 @@ lasts_all xs i n le old k x e = let w = slice_get_within xs k x e in old k x (om
 pub short_at : (xs : List Exception) (i : ℕ) (x : Exception) → slice_get xs i ≡ Some x → are_short xs ≡ true → is_span_short x.replaced ≡ true
 short_at xs i x g h = lasts_short x.replaced (all_short xs i x h g)
 
-showing_is : (w : ℤ) → is_showing w ≡ true → IsShowing w
+pub showing_is : (w : ℤ) → is_showing w ≡ true → IsShowing w
 showing_is w h = let x = and_both _ _ h in (int_le_is _ w x.0, int_le_is w _ x.1)
 
 by_bool : {Q : Type 0} (b : Bool) → (b ≡ true → Q) → (b ≡ false → Q) → Q

@@ -1,9 +1,11 @@
 //! The occurrences of a series that meet a window of instants.
 #![tactic(auto)]
 
+mod laws;
 mod lengths;
 mod span;
 mod walk;
 
+pub use laws::meetings_are_found;
 pub use span::span_of;
 pub use walk::{expanded, matches_window, next_meeting};

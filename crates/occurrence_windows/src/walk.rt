@@ -4,6 +4,7 @@ ghost use Rattle.jiff_core.specs.Calendar.{IsWithin};
 ghost use Rattle.jiff_tz.specs.PosixText.{tz_view};
 ghost use Rattle.model_series.specs.SeriesLimits.{wall_seconds};
 ghost use Rattle.model_window.specs.Clocks.{instant_in};
+ghost use Rattle.model_window.specs.Meetings.{has_meeting};
 ghost use Rattle.model_window.specs.Windows.{HasMeeting, IsMeeting, keeps_limits, meets_window};
 ghost use Rattle.occurrence_windows.specs.Bounds.{first_wall, last_wall, AreNear};
 ghost use Rattle.occurrence_windows.specs.Listing.{IsAfter, IsListOf};
@@ -120,7 +121,8 @@ pub fn next_meeting(
 /// Whether some one occurrence ends after the one limit and starts before the other. Takes no memory.
 pub fn matches_window(series: &Series, rule: &TimeZone, window: Window) -> bool
     requires { AreNear window }
-    ensures { IsTrue result ↔ HasMeeting series.now (instant_in (tz_view rule.now)) window }
+    ensures one { IsTrue result ↔ HasMeeting series.now (instant_in (tz_view rule.now)) window }
+    ensures value { result ≡ has_meeting series.now (instant_in (tz_view rule.now)) window }
 {
     next_meeting(
         series,

@@ -7,4 +7,4 @@ mod rules;
 
 pub use instants::instant;
 pub use laws::instants_lie_near;
-pub use rules::rule_of;
+pub use rules::{rule_of, rule_of_event};

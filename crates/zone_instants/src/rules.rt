@@ -3,13 +3,15 @@ ghost use Rattle.std.specs.Prelude.{◌≡◌, ◌↔◌, option_map, IsSome, Is
 ghost use Rattle.std.specs.List.{list_any};
 ghost use Rattle.std.specs.Str.{bytes_eq};
 ghost use Rattle.jiff_tz.specs.PosixText.{tz_view};
+ghost use Rattle.model_json.specs.TreeData.{data_of};
 ghost use Rattle.model_site.specs.TimeZones.{has_zone};
-ghost use Rattle.model_window.specs.ZoneRules.{listed_rule, rule_of, utc_rule};
+ghost use Rattle.model_window.specs.ZoneRules.{listed_rule, rule_of, rule_of_event, utc_rule};
 
 use jiff_core::Offset;
 use jiff_tz::Abbreviation;
 use jiff_tz::posix::TimeZone;
 use model_json::text::Text;
+use model_json::tree::Tree;
 use zone_table::{Zone, Zones};
 
 /// The name of the zone that is always there.
@@ -55,4 +57,15 @@ pub fn rule_of(zones: &Zones, name: &Text) -> Option<TimeZone>
         return Some(utc());
     }
     listed_rule(zones.items(), name)
+}
+
+/// The rule of an event's zone, or of the zone of a name for an event that has none and is floating (RFC 8984 section 4.7.1). `None`
+/// where there is no such zone. Takes no memory.
+pub fn rule_of_event(zones: &Zones, floating: &Text, event: &Tree) -> Option<TimeZone>
+    ensures { option_map tz_view result ≡ rule_of_event zones.now floating.now (data_of event.now) }
+{
+    match event.text_at("timeZone") {
+        Some(name) => rule_of(zones, name),
+        None => rule_of(zones, floating),
+    }
 }

@@ -1,0 +1,2 @@
+//! Filters of events: what is wrong with one, and of which events it holds, as definitions.
+#![tactic(auto)]

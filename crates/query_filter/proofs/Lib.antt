@@ -1,0 +1,4 @@
+pub mod ConditionLemmas
+pub mod ClockLemmas
+pub mod TextLemmas
+pub mod TimeLemmas

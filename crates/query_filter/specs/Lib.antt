@@ -1,0 +1,7 @@
+pub mod Conditions
+pub mod SoughtKinds
+pub mod ReadFilters
+pub mod TimesRead
+pub mod EventTests
+pub mod InZone
+pub mod AnyTime

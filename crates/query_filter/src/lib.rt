@@ -1,0 +1,15 @@
+//! Filters of events (RFC 8620 section 5.5, draft JMAP for Calendars).
+#![tactic(auto)]
+
+mod clock;
+mod condition;
+mod conditions;
+mod filter;
+mod members;
+mod needles;
+mod sought;
+mod texts;
+mod zoned;
+
+pub use filter::{Filter, FilterError};
+pub use zoned::ZonedFilter;

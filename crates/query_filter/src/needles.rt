@@ -1,0 +1,72 @@
+//! Texts that are looked for, with their case folded.
+ghost use Rattle.std.specs.Prelude.{◌≡◌, IfOk, IfSome};
+ghost use Rattle.folded_text.specs.Contains.{contains, folded};
+
+use folded_text::FoldedText;
+use model_json::text::Text;
+use std::alloc::{AllocError, Global};
+
+/// The most texts that are kept. Others are folded for each event.
+const MOST_KEPT: usize = 16;
+
+/// A text with itself folded.
+#[derive(Drop)]
+struct Needle {
+    text: Text,
+    in_fold: FoldedText,
+    ghost is_folded: { in_fold ≡ folded text },
+}
+
+/// Texts of a filter that were folded.
+#[derive(Drop)]
+pub(crate) struct Needles {
+    items: Vec<Needle>,
+}
+
+impl Needles {
+    /// No texts. Takes no memory.
+    pub(crate) fn new(alloc: Global) -> Needles {
+        Needles {
+            items: Vec::new(alloc),
+        }
+    }
+
+    /// Folds a text, where there is room for it.
+    pub(crate) fn keep(&mut self, alloc: Global, text: &Text) -> Result<(), AllocError> {
+        if self.items.len() < MOST_KEPT {
+            let in_fold = FoldedText::new(alloc, text.as_str())?;
+            self.items.push(Needle {
+                text: text.copy()?,
+                in_fold,
+            })?;
+        }
+        Ok(())
+    }
+
+    // A text that was folded. Takes no memory.
+    fn find(&self, text: &Text) -> Option<&FoldedText>
+        ensures { IfSome result (λ f. f.now ≡ folded text.now) }
+    {
+        for needle in &self.items {
+            if needle.text.as_str() == text.as_str() {
+                return Some(&needle.in_fold);
+            }
+        }
+        None
+    }
+
+    /// Whether a text contains another, whatever their case. Takes memory for the folded texts.
+    pub(crate) fn contains(
+        &self,
+        alloc: Global,
+        text: &str,
+        needle: &Text,
+    ) -> Result<bool, AllocError>
+        ensures { IfOk result (λ b. b ≡ contains text.now needle.now) }
+    {
+        match self.find(needle) {
+            Some(in_fold) => in_fold.is_in(alloc, text),
+            None => FoldedText::new(alloc, needle.as_str())?.is_in(alloc, text),
+        }
+    }
+}

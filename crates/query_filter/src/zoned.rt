@@ -1,0 +1,239 @@
+//! Filters whose times are those of a zone.
+ghost use Rattle.std.specs.Prelude.{◌≡◌, [], IfOk, map, option_map, unwrap_or};
+ghost use Rattle.jiff_tz.specs.PosixText.{tz_view};
+ghost use Rattle.model_filter.specs.Filters.{all_true, holds, operator_holds, some_true};
+ghost use Rattle.model_filter.specs.Matches.{matches_by};
+ghost use Rattle.model_json.specs.Data.{members_of, object};
+ghost use Rattle.model_json.specs.Parts.{as_text};
+ghost use Rattle.model_json.specs.TreeData.{data_of};
+ghost use Rattle.query_filter.specs.EventTests.{event_meets};
+
+use crate::clock::Clock;
+use crate::condition::EventTest;
+use crate::conditions::conditions_of;
+use crate::filter::Filter;
+use crate::members::given;
+use crate::needles::Needles;
+use jiff_tz::posix::TimeZone;
+use model_json::text::Text;
+use model_json::tree::{Tree, TreeObject};
+use model_series::series::Series;
+use std::alloc::{AllocError, Global};
+use std::marker::Model;
+
+/// A filter whose times are those of a zone. Contracts see the filter and the rule of the zone.
+#[derive(Drop)]
+pub struct ZonedFilter {
+    filter: Filter,
+    clock: Clock,
+    needles: Needles,
+}
+
+impl Model for ZonedFilter {
+    ghost use Rattle.std.specs.Coded.{codes};
+    ghost use Rattle.model_json.specs.DataCode.{data_code};
+    ghost use Rattle.query_filter.specs.InZone.{FilterInZone};
+
+    ghost Value = { FilterInZone };
+
+    ghost coded = { Prim.hlevel (codes, data_code) };
+
+    ghost view = { λ a. record { filter = a.filter; clock = a.clock } };
+}
+
+impl Filter {
+    /// The filter, with the times of a zone of this rule. Takes memory for folded texts.
+    pub fn in_zone(self, alloc: Global, rule: TimeZone) -> Result<ZonedFilter, AllocError>
+        ensures { IfOk result (λ f. f ≡ record { filter = self; clock = tz_view rule }) }
+    {
+        let mut zoned = ZonedFilter {
+            filter: self,
+            clock: Clock::new(alloc, rule),
+            needles: Needles::new(alloc),
+        };
+        zoned.prepare(alloc)?;
+        Ok(zoned)
+    }
+}
+
+impl ZonedFilter {
+    /// Whether the filter holds of an event, by its series and the rule of its zone, where it has such (`rule_of_event`). Where the
+    /// filter doesn't ask when an event is (`has_time`), both may be left out. Takes memory for folded texts.
+    pub fn matches(
+        &self,
+        alloc: Global,
+        event: &Tree,
+        series: Option<&Series>,
+        rule: Option<&TimeZone>,
+    ) -> Result<bool, AllocError>
+        ensures { IfOk result (λ b. b ≡ matches_by self.now.clock (option_map (λ s. s.now) series.entry) (option_map (λ r. tz_view r.now) rule.entry) self.now.filter (data_of event.now)) }
+    {
+        let test = EventTest {
+            alloc,
+            clock: &self.clock,
+            needles: &self.needles,
+            event,
+            series,
+            rule,
+        };
+        test.holds(&self.filter.tree)
+    }
+
+    // Folds the texts and reads the times of the filter, as far as there is room for them.
+    fn prepare(&mut self, alloc: Global) -> Result<(), AllocError>
+        ensures { self.new ≡ self.old }
+    {
+        keep_all(alloc, &self.filter.tree, &mut self.clock, &mut self.needles)
+    }
+}
+
+impl<'a> EventTest<'a> {
+    /// Whether a filter holds. Takes memory for folded texts.
+    #[cycle(holds)]
+    fn holds(&self, filter: &Tree) -> Result<bool, AllocError>
+        ensures { IfOk result (λ b. b ≡ holds (event_meets self.now) (data_of filter.now)) }
+    {
+        match filter {
+            Tree::Object(object) => self.object_holds(object),
+            _ => Ok(true),
+        }
+    }
+
+    #[cycle(holds)]
+    fn object_holds(&self, filter: &TreeObject) -> Result<bool, AllocError>
+        ensures { IfOk result (λ b. b ≡ holds (event_meets self.now) (object (members_of filter.now))) }
+    {
+        match given(filter, "operator") {
+            None => self.meets(filter),
+            Some(operator) => match conditions_of(filter) {
+                None => self.operator_holds(name_of(operator), &[]),
+                Some(conditions) => self.operator_holds(name_of(operator), conditions),
+            },
+        }
+    }
+
+    #[cycle(holds)]
+    fn operator_holds(&self, operator: &str, conditions: &[Tree]) -> Result<bool, AllocError>
+        ensures { IfOk result (λ b. b ≡ operator_holds operator.now (map (holds (event_meets self.now)) (map data_of conditions.now))) }
+    {
+        match operator {
+            "AND" => self.all_hold(conditions),
+            "OR" => self.any_holds(conditions),
+            _ => Ok(!self.any_holds(conditions)?),
+        }
+    }
+
+    #[cycle(holds)]
+    #[tactic(auto, using(model_json::specs::TreeDepth::item_falls))]
+    fn all_hold(&self, filters: &[Tree]) -> Result<bool, AllocError>
+        ensures { IfOk result (λ b. b ≡ all_true (map (holds (event_meets self.now)) (map data_of filters.now))) }
+    {
+        for filter in filters {
+            if !self.holds(filter)? {
+                return Ok(false);
+            }
+        }
+        Ok(true)
+    }
+
+    #[cycle(holds)]
+    #[tactic(auto, using(model_json::specs::TreeDepth::item_falls))]
+    fn any_holds(&self, filters: &[Tree]) -> Result<bool, AllocError>
+        ensures { IfOk result (λ b. b ≡ some_true (map (holds (event_meets self.now)) (map data_of filters.now))) }
+    {
+        for filter in filters {
+            if self.holds(filter)? {
+                return Ok(true);
+            }
+        }
+        Ok(false)
+    }
+}
+
+// The text that a value is, or an empty one.
+fn name_of(value: &Tree) -> &str
+    ensures { result.now ≡ unwrap_or (as_text (data_of value.now)) [] }
+{
+    match value {
+        Tree::Text(text) => text.as_str(),
+        _ => "",
+    }
+}
+
+// Folds the texts and reads the times of a filter, as far as there is room for them.
+#[cycle(keep)]
+fn keep_all(
+    alloc: Global,
+    filter: &Tree,
+    clock: &mut Clock,
+    needles: &mut Needles,
+) -> Result<(), AllocError>
+    ensures { clock.new ≡ clock.old }
+{
+    match filter {
+        Tree::Object(object) => keep_object(alloc, object, clock, needles),
+        _ => Ok(()),
+    }
+}
+
+#[cycle(keep)]
+fn keep_object(
+    alloc: Global,
+    filter: &TreeObject,
+    clock: &mut Clock,
+    needles: &mut Needles,
+) -> Result<(), AllocError>
+    ensures { clock.new ≡ clock.old }
+{
+    match conditions_of(filter) {
+        Some(conditions) => keep_each(alloc, conditions, clock, needles),
+        None => keep_condition(alloc, filter, clock, needles),
+    }
+}
+
+#[cycle(keep)]
+#[tactic(auto, using(model_json::specs::TreeDepth::item_falls))]
+fn keep_each(
+    alloc: Global,
+    filters: &[Tree],
+    clock: &mut Clock,
+    needles: &mut Needles,
+) -> Result<(), AllocError>
+    ensures { clock.new ≡ clock.old }
+{
+    for filter in filters {
+        keep_all(alloc, filter, clock, needles)?;
+    }
+    Ok(())
+}
+
+fn keep_condition(
+    alloc: Global,
+    condition: &TreeObject,
+    clock: &mut Clock,
+    needles: &mut Needles,
+) -> Result<(), AllocError>
+    ensures { clock.new ≡ clock.old }
+{
+    keep_time(clock, condition.text_at("after"))?;
+    keep_time(clock, condition.text_at("before"))?;
+    keep_text(alloc, needles, condition.text_at("title"))?;
+    keep_text(alloc, needles, condition.text_at("text"))?;
+    keep_text(alloc, needles, condition.text_at("participant"))
+}
+
+fn keep_time(clock: &mut Clock, text: Option<&Text>) -> Result<(), AllocError>
+    ensures { clock.new ≡ clock.old }
+{
+    match text {
+        Some(text) => clock.keep(text),
+        None => Ok(()),
+    }
+}
+
+fn keep_text(alloc: Global, needles: &mut Needles, text: Option<&Text>) -> Result<(), AllocError> {
+    match text {
+        Some(text) => needles.keep(alloc, text),
+        None => Ok(()),
+    }
+}
