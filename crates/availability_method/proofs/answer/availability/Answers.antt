@@ -1,0 +1,36 @@
+use Rattle.std.proofs.Common.{◌≡◌, ◌&&◌, Bool, true, false, not, ℕ, List, Some, refl, sym, ◌∙◌}
+use Rattle.std.specs.Str.{bytes_eq}
+use Rattle.model_availability.specs.Availability.{availability_refusal}
+use Rattle.model_call.specs.declared.call.MethodError.TheVariants.{InvalidArguments}
+use Rattle.model_history.specs.Base.{Base}
+use Rattle.model_site.specs.TimeZones.{has_zone}
+use Rattle.availability_method.proofs.answer.availability.Goals as goal
+use Rattle.availability_method.proofs.answer.availability.Goals.{then-ne-via-then-ne, then-ne-via-else-ne+then-not-has}
+
+not_is : (b : Bool) → not b ≡ true → b ≡ false
+not_is true h = sym h
+not_is false h = refl
+
+not_all : (a b z : Bool) → z ≡ false → (a && (b && z)) ≡ false
+not_all true true z h = h
+not_all true false z h = refl
+not_all false b z h = refl
+
+-- another principal, and a zone that there isn't
+other_id : (base : Base) (id start end zone : List ℕ) → bytes_eq id base.account_id ≡ false → availability_refusal base id start end zone ≡ Some InvalidArguments
+other_id base id start end zone h = rw h refl
+
+no_zone : (base : Base) (id start end zone : List ℕ) → has_zone base.zones zone ≡ false → availability_refusal base id start end zone ≡ Some InvalidArguments
+no_zone base id start end zone h = rw (not_all (bytes_eq id base.account_id) _ _ h) refl
+
+pub returns-then-ne : goal.returns-then-ne
+returns-then-ne c =
+    let base : Base = record { account_id = c.args.account.now; zones = c.args.zones.now } in
+    let r = c.args.request.now in
+    elim c.then-ne.branch [
+      | then-ne-via-then-ne w ↦ other_id base r.id.now r.utc_start.now r.utc_end.now r.time_zone.now (rw (c.as_str.ensures, c.as_str-2.ensures) at (not_is _ (sym c.ne.ensures ∙ w.if-ne.true)))
+      | then-ne-via-else-ne+then-not-has w ↦ no_zone base r.id.now r.utc_start.now r.utc_end.now r.time_zone.now (sym w.has.ensures ∙ w.if-not-has.true)
+    ]
+
+pub response-requires : goal.response-requires
+response-requires c = rw c.periods.ensures c.in_ok-busy.ensures.years

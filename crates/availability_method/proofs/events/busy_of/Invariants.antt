@@ -1,0 +1,10 @@
+use Rattle.std.specs.Prelude.{◌≡◌, ◌&&◌, ℤ, map, take}
+use Rattle.model_availability.specs.BusyInstants.{is_taken_up}
+use Rattle.model_window.specs.BusyPeriods.{is_busy, lies_in}
+use Rattle.availability_method.proofs.events.busy_of.Given as goal
+
+abbrev pub invariant-loop-event : goal.invariant-loop-event
+invariant-loop-event l = record {
+  window : l.busy.window ≡ l.fn.window;
+  busy : (u : ℤ) → is_busy l.busy.periods.items u ≡ (lies_in u l.fn.window && is_taken_up l.zones l.floating (map (λ t. t.now) (take l.event-index l.events)) u);
+}

@@ -1,0 +1,57 @@
+//! The window that a call asks for.
+ghost use Rattle.std.specs.Prelude.{◌≡◌, ◌<ℤ◌, IfSome, true};
+ghost use Rattle.jiff_core.specs.Calendar.{IsWithin};
+ghost use Rattle.model_availability.specs.Availability.{showing_instant, window_between, window_in};
+ghost use Rattle.model_event.specs.Values.{is_showing};
+
+use model_availability::limits::MAX_WINDOW_SECONDS;
+use model_event::limits::{FIRST_START, LAST_START};
+use model_json::text::Text;
+use model_window::period::Period;
+use time_text::read_utc;
+
+/// The window between two UTCDates, or `None` where a call may not ask for it. Takes no memory.
+pub(crate) fn read_window(start: &Text, end: &Text) -> Option<Period>
+    ensures value { result ≡ window_in start.now end.now }
+    ensures from { IfSome result (λ w. is_showing w.from ≡ true) }
+    ensures to { IfSome result (λ w. is_showing w.to ≡ true) }
+    ensures order { IfSome result (λ w. w.from <ℤ w.to) }
+{
+    let from = read_instant(start)?;
+    let to = read_instant(end)?;
+    window_between(from, to)
+}
+
+// The instant of a UTCDate in the years 1 to 9998.
+fn read_instant(text: &Text) -> Option<i64>
+    ensures value { result ≡ showing_instant text.now }
+    ensures showing { IfSome result (λ u. is_showing u ≡ true) }
+{
+    let instant = read_utc(text.as_str().as_bytes())?;
+    if is_showing(instant) {
+        Some(instant)
+    } else {
+        None
+    }
+}
+
+fn is_showing(instant: i64) -> bool
+    ensures { result ≡ is_showing instant }
+{
+    FIRST_START <= instant && instant <= LAST_START
+}
+
+fn window_between(from: i64, to: i64) -> Option<Period>
+    requires from { is_showing from ≡ true }
+    requires to { is_showing to ≡ true }
+    ensures value { result ≡ window_between from to }
+    ensures from { IfSome result (λ w. w.from ≡ from) }
+    ensures to { IfSome result (λ w. w.to ≡ to) }
+    ensures order { IfSome result (λ w. w.from <ℤ w.to) }
+{
+    if from < to && to - from <= MAX_WINDOW_SECONDS as i64 {
+        Some(Period { from, to })
+    } else {
+        None
+    }
+}
