@@ -1,4 +1,5 @@
 mod OverrideLemmas
 mod PatchLemmas
+mod MemberLemmas
 mod TablePartLemmas
 mod OccurrenceLemmas

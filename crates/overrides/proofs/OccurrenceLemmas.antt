@@ -25,7 +25,7 @@ use Rattle.property_table.proofs.TableLemmas.{lookup_filter, rises_filter, value
 use Rattle.property_table.specs.Names.{has_name}
 use Rattle.property_table.specs.Table.{failing, given, required_names}
 use Rattle.overrides.proofs.OverrideLemmas.{some_name}
-use Rattle.overrides.proofs.PatchLemmas.{all_is, all_kept, all_out, all_rises, field_kept, lookup_kept, placed_members, same_failing, with_kept, with_out}
+use Rattle.overrides.proofs.PatchLemmas.{all_is, all_kept, all_out, all_rises, field_kept, lookup_kept, not_kept, placed_members, same_failing, with_kept, with_out}
 use Rattle.overrides.proofs.TablePartLemmas.{tested_by_part}
 use Rattle.overrides.specs.Parts.{IsPartOf, IsTestedByPart, all_begin_in, always_needed, are_all_needed, begins_in, begins_out, first_part, firsts_of, is_needed, kept, none_begins_in, object_of, part_with}
 
@@ -85,13 +85,6 @@ given_at k ps qs r s e = lookup_filter is_there k ps r ∙ ap (value_kept is_the
 
 none_given : (k : List ℕ) (ps : List Pair) → keys_rise ps ≡ true → lookup k ps ≡ None → lookup k (given ps) ≡ None
 none_given k ps r e = lookup_filter is_there k ps r ∙ ap (value_kept is_there k) e
-
-dropped : (f : List ℕ → Bool) (k : List ℕ) (found : Option Data) → f k ≡ false → value_kept (λ p. f p.0) k found ≡ None
-dropped f k None e = refl
-dropped f k (Some d) e = rw e refl
-
-not_kept : (f : List ℕ → Bool) (k : List ℕ) (ps : List Pair) → keys_rise ps ≡ true → f k ≡ false → lookup k (kept f ps) ≡ None
-not_kept f k ps r e = lookup_filter (λ p. f p.0) k ps r ∙ dropped f k (lookup k ps) e
 
 same_outside : (firsts : List (List ℕ)) (k : List ℕ) (ps qs : List Pair) → keys_rise ps ≡ true → keys_rise qs ≡ true → is_needed firsts k ≡ false → kept (is_other firsts) ps ≡ kept (is_other firsts) qs → lookup k ps ≡ lookup k qs
 same_outside firsts k ps qs r s e h =

@@ -20,7 +20,7 @@ above_at : (f : List ℕ → Bool) (k : List ℕ) (p : Pair) (ps : List Pair) (b
 above_at f k p ps true e h g = rw e h
 above_at f k p ps false e h g = rw e g
 
-above_filter : (f : List ℕ → Bool) (k : List ℕ) (ps : List Pair) → is_above k ps ≡ true → keys_rise ps ≡ true → is_above k (kept f ps) ≡ true
+pub above_filter : (f : List ℕ → Bool) (k : List ℕ) (ps : List Pair) → is_above k ps ≡ true → keys_rise ps ≡ true → is_above k (kept f ps) ≡ true
 above_filter f k [] h r = refl
 above_filter f k (p ∷ ps) h r =
     let rise = both (is_above p.0 ps) (keys_rise ps) r in
@@ -71,6 +71,13 @@ passing f k (Some d) t = rw t refl
 
 pub lookup_kept : (f : List ℕ → Bool) (k : List ℕ) → f k ≡ true → (ps : List Pair) → keys_rise ps ≡ true → lookup k (kept f ps) ≡ lookup k ps
 lookup_kept f k t ps r = lookup_filter (λ p. f p.0) k ps r ∙ passing f k (lookup k ps) t
+
+dropped : (f : List ℕ → Bool) (k : List ℕ) (found : Option Data) → f k ≡ false → value_kept (λ p. f p.0) k found ≡ None
+dropped f k None e = refl
+dropped f k (Some d) e = rw e refl
+
+pub not_kept : (f : List ℕ → Bool) (k : List ℕ) (ps : List Pair) → keys_rise ps ≡ true → f k ≡ false → lookup k (kept f ps) ≡ None
+not_kept f k ps r e = lookup_filter (λ p. f p.0) k ps r ∙ dropped f k (lookup k ps) e
 
 found_kept : (f : List ℕ → Bool) (k : List ℕ) (g : Data → Data) → f k ≡ true → (ps : List Pair) → keys_rise ps ≡ true → (found : Option Data)
     → kept f (on_found (λ d. with_pair k (g d) ps) found ps) ≡ on_found (λ d. with_pair k (g d) (kept f ps)) found (kept f ps)

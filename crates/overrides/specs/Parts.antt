@@ -3,6 +3,7 @@ use Rattle.std.specs.Prelude.{◌≡◌, ℕ, List, [], ◌∷◌, ◌++◌, ◌
 use Rattle.std.specs.List.{list_all}
 use Rattle.std.specs.Option.{option_map_or}
 use Rattle.model_json.specs.Data.{Data, Pair, lookup, members_of, object}
+use Rattle.model_json.specs.Edit.{with_pair}
 use Rattle.model_json.specs.Parts.{some_of}
 use Rattle.model_json.specs.Pointer.{parts}
 use Rattle.property_table.specs.Names.{has_name}
@@ -11,6 +12,20 @@ use Rattle.property_table.specs.Table.{Table, failing, required_names}
 -- the members with these names
 abbrev pub kept : (List ℕ → Bool) → List Pair → List Pair
 kept f ps = filter (λ p. f p.0) ps
+
+-- a part of some members with that of this name, none where they have none; one that is there stays
+abbrev pub put_missing : List ℕ → Option Data → Option Data → List Pair → List Pair
+put_missing name (Some d) found part = part
+put_missing name None None part = part
+put_missing name None (Some d) part = with_pair name d part
+
+abbrev pub with_member : List ℕ → List Pair → List Pair → List Pair
+with_member name ps part = put_missing name (lookup name part) (lookup name ps) part
+
+-- and with those of all these names
+abbrev pub with_each_member : List (List ℕ) → List Pair → List Pair → List Pair
+with_each_member [] ps part = part
+with_each_member (name ∷ names) ps part = with_each_member names ps (with_member name ps part)
 
 -- an object of these members
 abbrev pub object_of : List Pair → Data

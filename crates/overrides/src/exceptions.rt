@@ -271,11 +271,11 @@ fn span_of(
     ensures { IfOk result (λ s. s ≡ span_of zones.now (changed_at key.now changes.now (members_in (data_of alone.now)))) }
 {
     let firsts = firsts_of(alloc, changes.members())?;
-    let members = alone.members_in();
+    let _ordered = alone.members_in();
     if !are_needed(&firsts, bad) {
         return Ok(None);
     }
-    let part = part_of(alloc, members, &firsts)?;
+    let part = part_of(alloc, alone, &firsts)?;
     match changed_at(alloc, key, changes, part)? {
         Some(tree) => valid_span(alloc, &tree, zones),
         None => Ok(None),

@@ -1,14 +1,14 @@
 //! The part of an event that a patch looks at.
-ghost use Rattle.std.specs.Prelude.{◌≡◌, IfOk, Some, map};
-ghost use Rattle.model_json.specs.ObjectKeys.{HasOrderedKeys};
+ghost use Rattle.std.specs.Prelude.{◌≡◌, IfOk, OnOk, Some, map};
+ghost use Rattle.model_json.specs.Parts.{members_in};
 ghost use Rattle.model_json.specs.Pointer.{parts};
-ghost use Rattle.model_json.specs.TreeData.{pair_of};
+ghost use Rattle.model_json.specs.TreeData.{data_of, pair_of};
 ghost use Rattle.property_table.specs.Names.{has_name as is_name_of};
-ghost use Rattle.overrides.specs.Parts.{are_all_needed, first_part, firsts_of, is_needed, kept, part_with};
+ghost use Rattle.overrides.specs.Parts.{always_needed, are_all_needed, first_part, firsts_of, is_needed, part_with, with_member, with_each_member};
 
 use crate::fixed::has_name;
 use model_json::text::Text;
-use model_json::tree::{Member, TreeObject};
+use model_json::tree::{Member, Tree, TreeObject};
 use patch_object::{Pointer, PointerError};
 use std::alloc::{AllocError, Global};
 
@@ -44,35 +44,81 @@ fn copy_first(parts: &[Text]) -> Result<Option<Text>, AllocError>
     }
 }
 
-/// The members that are needed, where a patch has these first parts.
-#[tactic(auto, using(crate::proofs::OverrideLemmas::kept_rises), unfolding(crate::specs::Parts::part_with))]
-pub(crate) fn part_of(
-    alloc: Global,
-    members: &[Member],
-    firsts: &[Text],
-) -> Result<TreeObject, AllocError>
-    requires { HasOrderedKeys (map pair_of members.now) }
-    ensures { IfOk result (λ o. o ≡ part_with firsts.now (map pair_of members.now)) }
+/// What an event must have, and what says when it is and whether it takes up the time.
+fn always_needed() -> &'static [&'static str]
+    ensures { map (λ name. name.now) result.now ≡ always_needed }
 {
-    Ok(TreeObject::new(needed_members(alloc, members, firsts)?))
+    &[
+        "uid",
+        "calendarIds",
+        "start",
+        "duration",
+        "status",
+        "freeBusyStatus",
+    ]
 }
 
-fn needed_members(
+/// The members of an event that are needed, where a patch has these first parts.
+///
+/// Each is looked up, so the time grows with the patch and not with the event. Takes memory for copies of them.
+pub(crate) fn part_of(
     alloc: Global,
-    members: &[Member],
+    event: &Tree,
     firsts: &[Text],
-) -> Result<Vec<Member>, AllocError>
-    ensures { IfOk result (λ v. map pair_of v.items ≡ kept (is_needed firsts.now) (map pair_of members.now)) }
+) -> Result<TreeObject, AllocError>
+    ensures { IfOk result (λ o. o ≡ part_with firsts.now (members_in (data_of event.now))) }
 {
-    let mut needed = Vec::new(alloc);
-    for member in members {
-        if is_needed(firsts, member.key.as_str()) {
-            let key = member.key.copy()?;
-            let value = member.value.copy()?;
-            needed.push(Member { key, value })?;
-        }
+    let _ordered = event.members_in();
+    let mut part = TreeObject::new(Vec::new(alloc));
+    put_names(alloc, event, always_needed(), &mut part)?;
+    put_firsts(alloc, event, firsts, &mut part)?;
+    Ok(part)
+}
+
+fn put_names(
+    alloc: Global,
+    event: &Tree,
+    names: &[&str],
+    part: &mut TreeObject,
+) -> Result<(), AllocError>
+    ensures { OnOk result (part.new ≡ with_each_member (map (λ name. name.now) names.now) (members_in (data_of event.now)) part.old) }
+{
+    for name in names {
+        put_member(alloc, event, name, part)?;
     }
-    Ok(needed)
+    Ok(())
+}
+
+fn put_firsts(
+    alloc: Global,
+    event: &Tree,
+    firsts: &[Text],
+    part: &mut TreeObject,
+) -> Result<(), AllocError>
+    ensures { OnOk result (part.new ≡ with_each_member firsts.now (members_in (data_of event.now)) part.old) }
+{
+    for first in firsts {
+        put_member(alloc, event, first.as_str(), part)?;
+    }
+    Ok(())
+}
+
+// Puts the event's member of a name into the part, where it isn't there yet.
+fn put_member(
+    alloc: Global,
+    event: &Tree,
+    name: &str,
+    part: &mut TreeObject,
+) -> Result<(), AllocError>
+    ensures { OnOk result (part.new ≡ with_member name.now (members_in (data_of event.now)) part.old) }
+{
+    if part.get(name).is_some() {
+        return Ok(());
+    }
+    if let Some(value) = event.get(name) {
+        part.put(Text::from_str(alloc, name)?, value.copy()?)?;
+    }
+    Ok(())
 }
 
 /// Whether all of these names are needed, where a patch has these first parts. Takes no memory.
@@ -91,17 +137,7 @@ pub(crate) fn are_needed(firsts: &[Text], names: &[Text]) -> bool
 fn is_needed(firsts: &[Text], name: &str) -> bool
     ensures { result ≡ is_needed firsts.now name.now }
 {
-    has_name(
-        &[
-            "uid",
-            "calendarIds",
-            "start",
-            "duration",
-            "status",
-            "freeBusyStatus",
-        ],
-        name,
-    ) || is_first(firsts, name)
+    has_name(always_needed(), name) || is_first(firsts, name)
 }
 
 fn is_first(firsts: &[Text], name: &str) -> bool

@@ -10,10 +10,10 @@ use state_log::{ChangesError, Journal, Page};
 use std::alloc::{AllocError, Global};
 use std::fmt::Write;
 
-/// The page of a journal after steps that are parted by `;` and end with `?` and a question.
+/// What a journal tells after steps that are parted by `;` and end with `?` and a question.
 ///
 /// A step is `put KIND ID` or `remove KIND ID`, where the kind is `calendar` or `event`, and a question `changes KIND STATE MAXIMUM`,
-/// where the maximum may be `none`.
+/// where the maximum may be `none`, `retained KIND STATE`, `count KIND`, or `entries`.
 pub fn shown(alloc: Global, row: &str) -> Result<Option<String>, AllocError> {
     let Some((steps, question)) = row.split_once('?') else {
         return Ok(None);
@@ -76,13 +76,38 @@ fn has_done(alloc: Global, journal: &mut Journal, step: &str) -> Result<bool, Al
 
 fn answer(alloc: Global, journal: &Journal, question: &str) -> Result<Option<String>, AllocError> {
     let words = words_of(alloc, question)?;
-    let [asks, kind, since, max] = words.as_slice() else {
-        return Ok(None);
-    };
+    match words.as_slice() {
+        [asks, kind, since, max] if *asks == "changes" => {
+            changes_text(alloc, journal, kind, since, max)
+        }
+        [asks, kind, state] if *asks == "retained" => {
+            match (kind_of(kind), number(state)) {
+                (Some(kind), Some(state)) => {
+                    Ok(Some(format!(in alloc; "{}", journal.retained(kind, state))?))
+                }
+                _ => Ok(None),
+            }
+        }
+        [asks, kind] if *asks == "count" => match kind_of(kind) {
+            Some(kind) => Ok(Some(format!(in alloc; "{}", journal.count(kind))?)),
+            None => Ok(None),
+        },
+        [asks] if *asks == "entries" => Ok(Some(format!(in alloc; "{}", journal.entries().len())?)),
+        _ => Ok(None),
+    }
+}
+
+fn changes_text(
+    alloc: Global,
+    journal: &Journal,
+    kind: &str,
+    since: &str,
+    max: &str,
+) -> Result<Option<String>, AllocError> {
     let (Some(kind), Some(since)) = (kind_of(kind), number(since)) else {
         return Ok(None);
     };
-    if *asks != "changes" || (*max != "none" && number(max).is_none()) {
+    if max != "none" && number(max).is_none() {
         return Ok(None);
     }
     Ok(Some(page_text(alloc, journal.changes(kind, since, number(max)))?))
