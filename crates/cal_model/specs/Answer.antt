@@ -5,6 +5,7 @@ use Rattle.cal_model.specs.Gets.{get_response, get_error, ids_not_found, objects
 use Rattle.cal_model.specs.Operations.{Ground}
 use Rattle.cal_model.specs.SetReply.{set_arguments}
 use Rattle.cal_model.specs.Sets.{Objects, new_ids, objects, set_changes, set_refusal}
+use Rattle.model_availability.specs.Availability.{availability_refusal, availability_response}
 use Rattle.model_call.specs.declared.call.Asks.{Asks}
 use Rattle.model_call.specs.declared.call.Asks.TheVariants.{Availability, Changes, Get, Query, QueryChanges, Set}
 use Rattle.model_call.specs.declared.call.Call.{Call}
@@ -44,6 +45,10 @@ abbrev pub changes_answer : List ℕ → List Entry → Kind → List ℕ → Op
 changes_answer account h kind since most = unless_error h (changes_refusal kind (changes_of h) since most)
     (answered h (changes_response account kind (changes_of h) since most (unwrap_or (state_in since) 0)) [])
 
+abbrev pub availability_answer : Base → List Entry → List ℕ → List ℕ → List ℕ → List ℕ → Reply
+availability_answer base h id start end zone = unless_error h (availability_refusal base id start end zone)
+    (answered h (availability_response base (changes_of h) start end zone) [])
+
 module _ (base : Base) (h : List Entry) (moment : ℤ) (kind : Kind) (created : List (List ℕ × List ℕ)) where
   abbrev pub ground : Ground
   ground = record { base = base; moment = moment }
@@ -62,7 +67,7 @@ module _ (base : Base) (h : List Entry) (moment : ℤ) (created : List (List ℕ
   answer_to (Set kind if_in_state create update destroy remove_events) = set_answer base h moment kind created (objects create update destroy) if_in_state remove_events
   answer_to (Query filter sort position anchor anchor_offset limit calculate_total expand time_zone) = refused h NotBuilt
   answer_to (QueryChanges filter sort since most up_to calculate_total expand time_zone) = refused h NotBuilt
-  answer_to (Availability id utc_start utc_end time_zone) = refused h NotBuilt
+  answer_to (Availability id utc_start utc_end time_zone) = availability_answer base h id utc_start utc_end time_zone
 
   -- the changes that a call makes
   abbrev pub changes_by : Asks → List Change
