@@ -78,7 +78,7 @@ module _ (see : Tree → Option Item) (u : ℕ → Bool) where
   none_numbered id None h = refl
   none_numbered id (Some item) h = ap (λ t. cond t ((id, item) ∷ []) []) h
 
-  none_kept : (id : ℕ) (o : Option Tree) → u id ≡ false → kept (match_of see id o) ≡ []
+  pub none_kept : (id : ℕ) (o : Option Tree) → u id ≡ false → kept (match_of see id o) ≡ []
   none_kept id None h = refl
   none_kept id (Some t) h = none_numbered id (see t) h
 

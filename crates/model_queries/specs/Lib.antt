@@ -1,0 +1,6 @@
+pub mod Items
+pub mod States
+pub mod Criteria
+pub mod Found
+pub mod Changed
+pub mod Queries

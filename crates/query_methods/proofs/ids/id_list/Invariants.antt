@@ -1,0 +1,8 @@
+use Rattle.std.proofs.Common.{◌≡◌, map, take}
+use Rattle.model_history.specs.ObjectId.{id_text}
+use Rattle.model_json.specs.Data.{text}
+use Rattle.model_json.specs.TreeData.{data_of}
+use Rattle.query_methods.proofs.ids.id_list.Given as goal
+
+abbrev pub invariant-loop-number : goal.invariant-loop-number
+invariant-loop-number l = map data_of l.items.items ≡ map (λ id. text (id_text l.kind id)) (take l.number-index l.numbers)

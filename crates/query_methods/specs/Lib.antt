@@ -1,0 +1,4 @@
+pub mod Among
+pub mod FilterSights
+pub mod Requests
+pub mod Reports

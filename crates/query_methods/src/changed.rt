@@ -1,0 +1,132 @@
+//! What changed of a query's result since a state.
+ghost use Rattle.std.specs.Prelude.{◌≡◌, ◌≤◌, IfErr, IfOk, OnOk, None, map, option_map, true, unsigned_abs};
+ghost use Rattle.account_store.specs.Store.{entries};
+ghost use Rattle.model_history.specs.History.{changes_of, state_at};
+ghost use Rattle.model_history.specs.Pages.{is_within};
+ghost use Rattle.model_history.specs.declared.entry.Kind.TheVariants.{Event};
+ghost use Rattle.model_json.specs.TreeData.{data_of};
+ghost use Rattle.model_queries.specs.Changed.{added_item, changed_response, delta_response, delta_since, size_of_delta, size_refusal};
+ghost use Rattle.model_queries.specs.States.{is_maximum};
+ghost use Rattle.model_query.specs.Matching.{result_of};
+ghost use Rattle.query_methods.specs.Reports.{Reports};
+ghost use Rattle.query_methods.specs.Requests.{since_in};
+
+use crate::error::QueryError;
+use crate::ids::{id_list, number_tree, state_tree};
+use crate::request::Since;
+use crate::result::{current_result, touched_result};
+use crate::sight::Sight;
+use crate::touched::touched_since;
+use account_store::Store;
+use model_call::call::MethodError;
+use model_history::entry::Kind;
+use model_json::num::Num;
+use model_json::text::Text;
+use model_json::tree::{Tree, TreeList};
+use model_query::delta::{Delta, Place};
+use query_order::change::changes_of;
+use query_order::order::Order;
+use std::alloc::{AllocError, Global};
+use time_text::object_id_text;
+
+/// The arguments of the reply that tells what changed of a result since a state. `Method` tells that it is more than the client takes.
+pub(crate) fn changed<S: Sight>(
+    alloc: Global,
+    store: &Store,
+    account: &Text,
+    sight: &S,
+    order: &Order,
+    since: &Since<'_>,
+    state: u64,
+) -> Result<Tree, QueryError>
+    requires reached { state ≤ state_at (changes_of (entries store.now)) Event }
+    requires maximum { is_maximum since.now.most ≡ true }
+    ensures response { IfOk result (λ t. t ≡ changed_response (S.see sight.now) order.now (changes_of (entries store.now)) account.now (since_in since.now) state) }
+    ensures few { OnOk result (size_refusal (S.see sight.now) order.now (changes_of (entries store.now)) (since_in since.now) state ≡ None) }
+    ensures refused { IfErr result (λ e. Reports e (size_refusal (S.see sight.now) order.now (changes_of (entries store.now)) (since_in since.now) state)) }
+{
+    let now = current_result(alloc, store, sight, order)?;
+    let delta = delta_since(alloc, store, sight, order, state, &now)?;
+    if !is_within(since.most, &delta) {
+        return Err(QueryError::Method(MethodError::TooManyChanges));
+    }
+    Ok(delta_tree(alloc, store, account, since, now.len() as u64, &delta)?)
+}
+
+// Of the earlier result only those events are looked at that were touched since.
+fn delta_since<S: Sight>(
+    alloc: Global,
+    store: &Store,
+    sight: &S,
+    order: &Order,
+    state: u64,
+    now: &[u64],
+) -> Result<Delta, AllocError>
+    requires reached { state ≤ state_at (changes_of (entries store.now)) Event }
+    requires result { now.now ≡ result_of (S.see sight.now) order.now (changes_of (entries store.now)) }
+    ensures { IfOk result (λ delta. delta ≡ delta_since (S.see sight.now) order.now (changes_of (entries store.now)) state) }
+{
+    let touched = touched_since(alloc, store.entries(), store.count(Kind::Event), state)?;
+    let before = touched_result(alloc, store, sight, order, state, &touched)?;
+    changes_of(alloc, &before, now, &touched)
+}
+
+fn is_within(most: Option<Num>, delta: &Delta) -> bool
+    requires { is_maximum most ≡ true }
+    ensures { result ≡ is_within (option_map unsigned_abs most) (size_of_delta delta.now) }
+{
+    match most {
+        Some(most) => {
+            let removed = delta.removed.items().len();
+            let added = delta.added.items().len();
+            removed as i128 + added as i128 <= most.get()
+        }
+        None => true,
+    }
+}
+
+fn added_item(alloc: Global, place: Place) -> Result<Tree, AllocError>
+    ensures { IfOk result (λ t. data_of t ≡ added_item place) }
+{
+    let members = vec![in alloc;
+        ("id", Tree::Text(object_id_text(alloc, Kind::Event, place.id)?)),
+        ("index", number_tree(place.index)),
+    ]?;
+    Tree::object(alloc, members)
+}
+
+fn added_items(alloc: Global, places: &[Place]) -> Result<Vec<Tree>, AllocError>
+    ensures { IfOk result (λ v. map data_of v.items ≡ map added_item places.now) }
+{
+    let mut items = Vec::with_capacity(alloc, places.len())?;
+    for place in places {
+        items.push(added_item(alloc, *place)?)?;
+    }
+    Ok(items)
+}
+
+fn delta_tree(
+    alloc: Global,
+    store: &Store,
+    account: &Text,
+    since: &Since<'_>,
+    total: u64,
+    delta: &Delta,
+) -> Result<Tree, AllocError>
+    ensures { IfOk result (λ t. t ≡ delta_response account.now (changes_of (entries store.now)) (since_in since.now) total delta.now) }
+{
+    let added = Tree::List(TreeList::new(added_items(alloc, delta.added.items())?));
+    let removed = id_list(alloc, Kind::Event, delta.removed.items())?;
+    let state = state_tree(alloc, store.count(Kind::Event))?;
+    let mut members = vec![in alloc;
+        ("accountId", Tree::Text(account.copy()?)),
+        ("added", added),
+        ("newQueryState", state),
+        ("oldQueryState", Tree::Text(since.state.copy()?)),
+        ("removed", removed),
+    ]?;
+    if since.calculate_total {
+        members.push(("total", number_tree(total)))?;
+    }
+    Tree::object(alloc, members)
+}

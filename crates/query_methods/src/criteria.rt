@@ -1,0 +1,97 @@
+//! Which events a query asks for, and in which order.
+ghost use Rattle.std.specs.Prelude.{◌≡◌, IfErr, IfOk, OnOk, None};
+ghost use Rattle.model_queries.specs.Criteria.{criteria_refusal, filter_or_all, order_of, sight_of, sort_or_none, terms_refusal};
+ghost use Rattle.model_query.specs.Sorts.{by_comparators, sort_in};
+ghost use Rattle.query_filter.specs.ReadFilters.{IsRead};
+ghost use Rattle.query_methods.specs.FilterSights.{seen_by};
+ghost use Rattle.query_methods.specs.Reports.{Reports};
+ghost use Rattle.query_methods.specs.Requests.{criteria_in};
+ghost use Rattle.query_order.specs.Reports.{Reports as ReportsSort};
+
+use crate::error::QueryError;
+use crate::filter_sight::FilterSight;
+use crate::request::Criteria;
+use model_call::call::MethodError;
+use model_json::tree::{Tree, TreeObject};
+use query_filter::{Filter, FilterError};
+use query_order::order::Order;
+use query_order::sort_argument::SortError;
+use std::alloc::Global;
+use zone_instants::rule_of;
+use zone_table::Zones;
+
+/// What the criteria of a query come to.
+#[derive(Drop)]
+pub(crate) struct Terms<'a> {
+    /// The events that the filter holds of.
+    pub sight: FilterSight<'a>,
+    /// The order of the result.
+    pub order: Order,
+}
+
+/// Reads criteria. What is bad of any is told before what isn't known, and of that the filter's before the sort's.
+///
+/// Takes memory for the filter, its folded texts and the comparators.
+pub(crate) fn read_terms<'a>(
+    alloc: Global,
+    zones: &'a Zones,
+    criteria: &Criteria<'a>,
+) -> Result<Terms<'a>, QueryError>
+    ensures known { OnOk result (criteria_refusal zones.now (criteria_in criteria.now) ≡ None) }
+    ensures sight { IfOk result (λ t. seen_by t.sight ≡ sight_of zones.now (criteria_in criteria.now)) }
+    ensures order { IfOk result (λ t. t.order ≡ order_of (criteria_in criteria.now)) }
+    ensures refused { IfErr result (λ e. Reports e (criteria_refusal zones.now (criteria_in criteria.now))) }
+{
+    let Some(rule) = rule_of(zones, criteria.time_zone) else {
+        return Err(QueryError::Method(MethodError::InvalidArguments));
+    };
+    let (filter, order) = filter_and_order(alloc, criteria)?;
+    let sight = FilterSight::new(alloc, filter, rule, zones, criteria.time_zone)?;
+    Ok(Terms { sight, order })
+}
+
+// The filter and the order, where the zone is known.
+fn filter_and_order(
+    alloc: Global,
+    criteria: &Criteria<'_>,
+) -> Result<(Filter, Order), QueryError>
+    ensures known { OnOk result (terms_refusal (criteria_in criteria.now) ≡ None) }
+    ensures filter { IfOk result (λ r. r.0 ≡ filter_or_all criteria.now.filter.now) }
+    ensures order { IfOk result (λ r. r.1 ≡ order_of (criteria_in criteria.now)) }
+    ensures refused { IfErr result (λ e. Reports e (terms_refusal (criteria_in criteria.now))) }
+{
+    let filter = read_filter(alloc, criteria.filter);
+    let order = read_order(alloc, criteria.sort);
+    match (filter, order) {
+        (Ok(filter), Ok(order)) => Ok((filter, order)),
+        (Err(FilterError::NoMemory), _) | (_, Err(SortError::NoMemory)) => Err(QueryError::NoMemory),
+        (Err(FilterError::Bad), _) | (_, Err(SortError::BadSort)) => {
+            Err(QueryError::Method(MethodError::InvalidArguments))
+        }
+        (Err(FilterError::Unsupported), _) => {
+            Err(QueryError::Method(MethodError::UnsupportedFilter))
+        }
+        (_, Err(SortError::UnsupportedSort)) => {
+            Err(QueryError::Method(MethodError::UnsupportedSort))
+        }
+    }
+}
+
+fn read_filter(alloc: Global, filter: &Option<Tree>) -> Result<Filter, FilterError>
+    ensures { IsRead (filter_or_all filter.now) result }
+{
+    match filter {
+        Some(filter) => Filter::read(filter),
+        None => Filter::read(&Tree::Object(TreeObject::new(Vec::new(alloc)))),
+    }
+}
+
+fn read_order(alloc: Global, sort: &Option<Tree>) -> Result<Order, SortError>
+    ensures ok { IfOk result (λ order. sort_in (sort_or_none sort.now) ≡ by_comparators order) }
+    ensures err { IfErr result (λ error. ReportsSort error (sort_in (sort_or_none sort.now))) }
+{
+    match sort {
+        Some(sort) => Order::read(alloc, sort),
+        None => Order::read(alloc, &Tree::Null),
+    }
+}

@@ -1,0 +1,84 @@
+//! What a query of a filter sees of events.
+ghost use Rattle.std.specs.Prelude.{◌≡◌, IfOk, Some, false, unwrap_or};
+ghost use Rattle.std.specs.Coded.{codes};
+ghost use Rattle.jiff_tz.specs.PosixText.{tz_view};
+ghost use Rattle.model_filter.specs.Matches.{event_matches};
+ghost use Rattle.model_json.specs.TreeData.{data_of};
+ghost use Rattle.model_queries.specs.Items.{seen_where};
+ghost use Rattle.model_window.specs.ZoneRules.{rule_of, utc_rule};
+ghost use Rattle.query_filter.specs.AnyTime.{IsForAnyTime};
+
+use crate::item::item_of;
+use crate::sight::Sight;
+use event_series::read::read_series;
+use jiff_tz::posix::TimeZone;
+use model_json::text::Text;
+use model_json::tree::Tree;
+use model_query::item::Item;
+use query_filter::{Filter, ZonedFilter};
+use std::alloc::{AllocError, Global};
+use zone_instants::rule_of_event;
+use zone_table::Zones;
+
+/// The events that a filter holds of. Its times and floating events are of one zone.
+#[derive(Drop)]
+pub struct FilterSight<'a> {
+    filter: ZonedFilter,
+    // whether the filter asks when an event is
+    has_time: bool,
+    zones: &'a Zones,
+    floating: &'a Text,
+    ghost zoned: { filter.clock ≡ unwrap_or (rule_of zones.now floating.now) utc_rule },
+    ghost untimed: { has_time ≡ false → IsForAnyTime filter.filter } by { Prim.hlevel codes },
+}
+
+impl<'a> FilterSight<'a> {
+    ghost use Rattle.query_methods.specs.FilterSights.{seen_by};
+
+    /// What is seen by a filter whose zone has this rule. Takes memory for folded texts.
+    pub fn new(
+        alloc: Global,
+        filter: Filter,
+        rule: TimeZone,
+        zones: &'a Zones,
+        floating: &'a Text,
+    ) -> Result<FilterSight<'a>, AllocError>
+        requires { Some (tz_view rule) ≡ rule_of zones.now floating.now }
+        ensures { IfOk result (λ s. seen_by s ≡ seen_where (event_matches zones.now floating.now filter) zones.now floating.now) }
+    {
+        let has_time = filter.has_time();
+        Ok(FilterSight {
+            filter: filter.in_zone(alloc, rule)?,
+            has_time,
+            zones,
+            floating,
+        })
+    }
+
+    // Whether the filter holds of an event. Its series is read only where the filter asks when the event is.
+    fn holds(&self, alloc: Global, event: &Tree) -> Result<bool, AllocError>
+        ensures { IfOk result (λ b. b ≡ event_matches self.now.zones.now self.now.floating.now self.now.filter.filter (data_of event.now)) }
+    {
+        if !self.has_time {
+            return self.filter.matches(alloc, event, None, None);
+        }
+        let series = read_series(alloc, event, self.zones)?;
+        let rule = rule_of_event(self.zones, self.floating, event);
+        self.filter
+            .matches(alloc, event, series.as_ref(), rule.as_ref())
+    }
+}
+
+impl<'a> Sight for FilterSight<'a> {
+    ghost use Rattle.query_methods.specs.FilterSights.{seen_by};
+
+    ghost see = { seen_by };
+
+    fn see(&self, alloc: Global, event: &Tree) -> Result<Option<Item>, AllocError> {
+        if self.holds(alloc, event)? {
+            Ok(Some(item_of(alloc, self.zones, self.floating, event)?))
+        } else {
+            Ok(None)
+        }
+    }
+}

@@ -1,0 +1,142 @@
+//! The window of a result that a query asks for.
+ghost use Rattle.std.specs.Prelude.{◌≡◌, ◌==◌, IfErr, IfOk, OnOk, None, false, length, option_and_then, true};
+ghost use Rattle.std.specs.List.{position};
+ghost use Rattle.account_store.specs.Store.{entries};
+ghost use Rattle.model_history.specs.History.{changes_of};
+ghost use Rattle.model_history.specs.ObjectId.{object_number};
+ghost use Rattle.model_history.specs.declared.entry.Kind.TheVariants.{Event};
+ghost use Rattle.model_queries.specs.Found.{anchor_in, anchor_refusal, found_response, ids_within, is_own_limit, most_ids, window_in, window_response};
+ghost use Rattle.model_queries.specs.Queries.{is_paging};
+ghost use Rattle.model_query.specs.Windows.{IsInMemory};
+ghost use Rattle.query_methods.specs.Reports.{Reports};
+ghost use Rattle.query_methods.specs.Requests.{paging_in};
+
+use crate::error::QueryError;
+use crate::ids::{id_list, number_tree, state_tree};
+use crate::request::Paging;
+use crate::result::current_result;
+use crate::sight::Sight;
+use account_store::Store;
+use model_call::call::MethodError;
+use model_history::entry::Kind;
+use model_json::num::Num;
+use model_json::text::Text;
+use model_json::tree::Tree;
+use model_queries::limits::MAX_IDS_IN_QUERY;
+use model_query::window::{Anchor, Cut};
+use query_order::order::Order;
+use query_order::window::window;
+use std::alloc::{AllocError, Global};
+use std::cmp::min;
+use time_text::read_object_id;
+
+/// The arguments of the reply to a query that asks for this window of its result. `Method` tells that the anchor isn't in the result.
+pub(crate) fn found<S: Sight>(
+    alloc: Global,
+    store: &Store,
+    account: &Text,
+    sight: &S,
+    order: &Order,
+    paging: &Paging<'_>,
+) -> Result<Tree, QueryError>
+    requires { is_paging (paging_in paging.now) ≡ true }
+    ensures response { IfOk result (λ t. t ≡ found_response (S.see sight.now) order.now (changes_of (entries store.now)) (paging_in paging.now) account.now false) }
+    ensures found { OnOk result (anchor_refusal (S.see sight.now) order.now (changes_of (entries store.now)) (paging_in paging.now) ≡ None) }
+    ensures refused { IfErr result (λ e. Reports e (anchor_refusal (S.see sight.now) order.now (changes_of (entries store.now)) (paging_in paging.now))) }
+{
+    let ids = current_result(alloc, store, sight, order)?;
+    let Some(cut) = window_in(&ids, paging) else {
+        return Err(QueryError::Method(MethodError::AnchorNotFound));
+    };
+    Ok(window_tree(alloc, store, account, paging, &ids, cut)?)
+}
+
+fn window_in(ids: &[u64], paging: &Paging<'_>) -> Option<Cut>
+    requires { is_paging (paging_in paging.now) ≡ true }
+    ensures { result ≡ window_in (paging_in paging.now) ids.now }
+{
+    window(
+        ids.len() as u64,
+        paging.position.get() as i64,
+        anchor_in(ids, paging.anchor),
+        paging.anchor_offset.get() as i64,
+        most_ids(paging.limit),
+    )
+}
+
+fn anchor_in(ids: &[u64], anchor: &Option<Text>) -> Anchor
+    ensures value { result ≡ anchor_in ids.now anchor.now }
+    ensures bound { IsInMemory result }
+{
+    match anchor {
+        Some(id) => match place_of(ids, id) {
+            Some(place) => Anchor::At(place as u64),
+            None => Anchor::Missing,
+        },
+        None => Anchor::None,
+    }
+}
+
+fn place_of(ids: &[u64], id: &Text) -> Option<usize>
+    ensures { result ≡ option_and_then (λ number. position (λ id. id == number) ids.now) (object_number Event id.now) }
+{
+    place_of_number(ids, read_object_id(Kind::Event, id.as_str().as_bytes())?)
+}
+
+fn place_of_number(ids: &[u64], number: u64) -> Option<usize>
+    ensures { result ≡ position (λ id. id == number) ids.now }
+{
+    ids.iter().position(|id| *id == number)
+}
+
+fn most_ids(limit: Option<Num>) -> u64
+    ensures { result ≡ most_ids limit }
+{
+    match limit {
+        Some(limit) => min(limit.get().unsigned_abs(), MAX_IDS_IN_QUERY as u128) as u64,
+        None => MAX_IDS_IN_QUERY as u64,
+    }
+}
+
+fn is_own_limit(limit: Option<Num>) -> bool
+    ensures { result ≡ is_own_limit limit }
+{
+    match limit {
+        Some(limit) => limit.get().unsigned_abs() <= MAX_IDS_IN_QUERY as u128,
+        None => false,
+    }
+}
+
+fn ids_within(cut: Cut, ids: &[u64]) -> &[u64]
+    ensures { result.now ≡ ids_within cut ids.now }
+{
+    let from = min(cut.from, ids.len() as u64) as usize;
+    let count = min(cut.to.saturating_sub(cut.from), (ids.len() - from) as u64) as usize;
+    &ids[from..from + count]
+}
+
+fn window_tree(
+    alloc: Global,
+    store: &Store,
+    account: &Text,
+    paging: &Paging<'_>,
+    ids: &[u64],
+    cut: Cut,
+) -> Result<Tree, AllocError>
+    ensures { IfOk result (λ t. t ≡ window_response account.now (changes_of (entries store.now)) (paging_in paging.now) false ids.now cut) }
+{
+    let mut members = vec![in alloc;
+        ("accountId", Tree::Text(account.copy()?)),
+        ("canCalculateChanges", Tree::Truth(true)),
+        ("ids", id_list(alloc, Kind::Event, ids_within(cut, ids))?),
+    ]?;
+    if !is_own_limit(paging.limit) {
+        members.push(("limit", number_tree(MAX_IDS_IN_QUERY as u64)))?;
+    }
+    members.push(("position", number_tree(cut.from)))?;
+    members.push(("queryState", state_tree(alloc, store.count(Kind::Event))?))?;
+    if paging.calculate_total {
+        members.push(("total", number_tree(ids.len() as u64)))?;
+    }
+    Tree::object(alloc, members)
+}

@@ -1,0 +1,37 @@
+//! Numbers, ids and states as replies tell them.
+ghost use Rattle.std.specs.Prelude.{◌≡◌, IfOk, decimal, pos};
+ghost use Rattle.model_json.specs.TreeData.{data_of};
+ghost use Rattle.model_json.specs.declared.tree.Tree.TheVariants.{Text as text_tree, Whole as whole_tree};
+ghost use Rattle.model_queries.specs.States.{id_list};
+
+use model_history::entry::Kind;
+use model_json::num::Num;
+use model_json::text::Text;
+use model_json::tree::{Tree, TreeList};
+use std::alloc::{AllocError, Global};
+use time_text::object_id_text;
+
+/// A number. Takes no memory.
+pub(crate) fn number_tree(number: u64) -> Tree
+    ensures { result ≡ whole_tree (pos number) }
+{
+    Tree::Whole(Num::new(number as i128))
+}
+
+/// A state as clients see it (RFC 8620 section 5.1).
+pub(crate) fn state_tree(alloc: Global, state: u64) -> Result<Tree, AllocError>
+    ensures { IfOk result (λ t. t ≡ text_tree (decimal state)) }
+{
+    Ok(Tree::Text(Text::from_string(state.to_string(alloc)?)))
+}
+
+/// The ids of objects of a kind.
+pub fn id_list(alloc: Global, kind: Kind, numbers: &[u64]) -> Result<Tree, AllocError>
+    ensures { IfOk result (λ t. data_of t ≡ id_list kind numbers.now) }
+{
+    let mut items = Vec::with_capacity(alloc, numbers.len())?;
+    for number in numbers {
+        items.push(Tree::Text(object_id_text(alloc, kind, *number)?))?;
+    }
+    Ok(Tree::List(TreeList::new(items)))
+}

@@ -1,0 +1,89 @@
+//! What comparators see of an event.
+ghost use Rattle.std.specs.Prelude.{◌≡◌, IfOk, codes, option_and_then};
+ghost use Rattle.model_event.specs.Events.{start_in};
+ghost use Rattle.model_json.specs.Parts.{text_at};
+ghost use Rattle.model_json.specs.TreeData.{data_of};
+ghost use Rattle.model_queries.specs.Items.{item_of, moment_at, start_instant, text_or_empty};
+ghost use Rattle.model_time.specs.LocalTimes.{local_in, utc_in};
+
+use model_json::text::Text;
+use model_json::tree::Tree;
+use model_query::item::Item;
+use model_time::wall::Wall;
+use std::alloc::{AllocError, Global};
+use time_text::{read_local, read_utc};
+use zone_instants::{instant, rule_of_event};
+use zone_table::Zones;
+
+/// What comparators see of an event: a floating one starts by the clock of the zone `floating`.
+///
+/// Takes memory for copies of its uid and title.
+pub fn item_of(
+    alloc: Global,
+    zones: &Zones,
+    floating: &Text,
+    event: &Tree,
+) -> Result<Item, AllocError>
+    ensures { IfOk result (λ item. item ≡ item_of zones.now floating.now (data_of event.now)) }
+{
+    let uid = text_or_empty(alloc, event, "uid")?;
+    let title = text_or_empty(alloc, event, "title")?;
+    Ok(Item {
+        start: start_instant(zones, floating, event),
+        uid,
+        title,
+        created: moment_at(event, "created"),
+        updated: moment_at(event, "updated"),
+    })
+}
+
+fn text_or_empty(alloc: Global, event: &Tree, key: &str) -> Result<Text, AllocError>
+    ensures { IfOk result (λ text. text ≡ text_or_empty key.now (data_of event.now)) }
+{
+    match event.text_at(key) {
+        Some(text) => text.copy(),
+        None => Text::from_str(alloc, ""),
+    }
+}
+
+fn moment_at(event: &Tree, key: &str) -> i64
+    ensures { result ≡ moment_at key.now (data_of event.now) }
+{
+    match given_moment(event, key) {
+        Some(moment) => moment,
+        None => 0,
+    }
+}
+
+fn given_moment(event: &Tree, key: &str) -> Option<i64>
+    ensures { result ≡ option_and_then utc_in (text_at key.now (data_of event.now)) }
+{
+    read_utc(event.text_at(key)?.as_str().as_bytes())
+}
+
+fn start_of(event: &Tree) -> Wall
+    ensures { result ≡ start_in (data_of event.now) }
+{
+    match given_start(event) {
+        Some(start) => start,
+        None => Wall::new(0),
+    }
+}
+
+fn given_start(event: &Tree) -> Option<Wall>
+    ensures { result ≡ option_and_then local_in (text_at (codes "start") (data_of event.now)) }
+{
+    read_local(event.text_at("start")?.as_str().as_bytes())
+}
+
+fn start_instant(zones: &Zones, floating: &Text, event: &Tree) -> i64
+    ensures { result ≡ start_instant zones.now floating.now (data_of event.now) }
+{
+    let Some(rule) = rule_of_event(zones, floating, event) else {
+        return 0;
+    };
+    match instant(&rule, start_of(event)) {
+        Some(start) => start,
+        None => 0,
+    }
+}

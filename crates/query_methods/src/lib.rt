@@ -1,0 +1,18 @@
+//! Queries of events, and what changed of their results (RFC 8620 sections 5.5 and 5.6), over the store of an account.
+#![tactic(auto)]
+
+mod changed;
+mod criteria;
+pub mod error;
+mod filter_sight;
+mod found;
+pub mod ids;
+pub mod item;
+pub mod laws;
+pub mod numbers;
+pub mod query;
+pub mod query_changes;
+pub mod request;
+pub mod result;
+pub mod sight;
+mod touched;

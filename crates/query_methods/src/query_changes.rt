@@ -1,0 +1,74 @@
+//! `CalendarEvent/queryChanges` (RFC 8620 section 5.6, draft JMAP for Calendars).
+ghost use Rattle.std.specs.Prelude.{◌≡◌, ◌≤◌, IfErr, IfOk, IfSome, OnOk, None, if◌then◌else◌};
+ghost use Rattle.account_store.specs.Store.{entries};
+ghost use Rattle.model_history.specs.History.{changes_of, state_at};
+ghost use Rattle.model_history.specs.Pages.{is_retained};
+ghost use Rattle.model_history.specs.declared.entry.Kind.TheVariants.{Event};
+ghost use Rattle.model_queries.specs.Queries.{query_changes_refusal, query_changes_response};
+ghost use Rattle.model_queries.specs.States.{is_known_state};
+ghost use Rattle.query_methods.specs.Reports.{Reports};
+ghost use Rattle.query_methods.specs.Requests.{criteria_in, since_in};
+ghost use Rattle.time_text.specs.State.{state_in};
+
+use crate::changed::changed;
+use crate::criteria::read_terms;
+use crate::error::QueryError;
+use crate::numbers::is_maximum;
+use crate::request::{Criteria, Since};
+use account_store::Store;
+use model_call::call::MethodError;
+use model_history::entry::Kind;
+use model_json::text::Text;
+use model_json::tree::Tree;
+use state_log::WINDOW;
+use std::alloc::Global;
+use time_text::read_state;
+use zone_table::Zones;
+
+/// The arguments of the reply that tells what changed of the result of a query since a state. `Method` tells why it isn't told.
+///
+/// Takes memory for the items of the events that the filter holds of, and of those that were touched since and that it held of then.
+/// Time grows with the number of live events.
+pub fn query_changes(
+    alloc: Global,
+    store: &Store,
+    account: &Text,
+    zones: &Zones,
+    criteria: &Criteria<'_>,
+    expand: bool,
+    since: &Since<'_>,
+) -> Result<Tree, QueryError>
+    ensures response { IfOk result (λ t. t ≡ query_changes_response zones.now (changes_of (entries store.now)) (criteria_in criteria.now) expand account.now (since_in since.now)) }
+    ensures answered { OnOk result (query_changes_refusal zones.now (changes_of (entries store.now)) (criteria_in criteria.now) expand (since_in since.now) ≡ None) }
+    ensures refused { IfErr result (λ e. Reports e (query_changes_refusal zones.now (changes_of (entries store.now)) (criteria_in criteria.now) expand (since_in since.now))) }
+{
+    if !is_maximum(since.most) {
+        return Err(QueryError::Method(MethodError::InvalidArguments));
+    }
+    let terms = read_terms(alloc, zones, criteria)?;
+    match known_state(store, since.state) {
+        Some(state) if !expand => {
+            changed(alloc, store, account, &terms.sight, &terms.order, since, state)
+        }
+        _ => Err(QueryError::Method(MethodError::CannotCalculateChanges)),
+    }
+}
+
+// The state of events that a text names, where changes are told from it.
+fn known_state(store: &Store, text: &Text) -> Option<u64>
+    ensures value { result ≡ (if is_known_state Event (changes_of (entries store.now)) text.now then state_in text.now else None) }
+    ensures reached { IfSome result (λ state. state ≤ state_at (changes_of (entries store.now)) Event) }
+{
+    let state = read_state(text.as_str().as_bytes())?;
+    if is_retained(store.count(Kind::Event), state) {
+        Some(state)
+    } else {
+        None
+    }
+}
+
+fn is_retained(count: u64, state: u64) -> bool
+    ensures { result ≡ is_retained count state }
+{
+    state <= count && count - state <= WINDOW
+}
