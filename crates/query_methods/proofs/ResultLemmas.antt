@@ -1,5 +1,5 @@
 -- Results at states, by the events that are looked at.
-use Rattle.std.proofs.Common.{◌≡◌, ℕ, ◌==◌, Bool, true, false, true≢false, not, if◌then◌else◌, cond, List, [], ◌∷◌, ◌++◌, Option, Some, None, count_by, drop, filter, flat_map, is_some, length, map, take, refl, sym, ap, ◌∙◌}
+use Rattle.std.proofs.Common.{◌≡◌, ℕ, Bool, true, false, true≢false, cond, List, [], ◌∷◌, ◌++◌, Option, Some, None, filter, flat_map, is_some, length, map, take, refl, sym, ap, ◌∙◌}
 use Rattle.std.proofs.Math.Seq.{take-length}
 use Rattle.std.proofs.lemmas.List.Elements.{filter-append}
 use Rattle.std.proofs.lemmas.List.Sums.{length-filter}
@@ -11,7 +11,7 @@ use Rattle.model_history.specs.declared.entry.Entry.{Entry}
 use Rattle.model_history.specs.declared.entry.Kind.TheVariants.{Event}
 use Rattle.model_json.specs.declared.tree.Tree.{Tree}
 use Rattle.model_queries.specs.Changed.{delta_since}
-use Rattle.model_query.specs.Matching.{match_of, matches, of_events, result_at, result_of, touched_since, with_number}
+use Rattle.model_query.specs.Matching.{match_of, matches, of_events, result_at, result_of, touched_since}
 use Rattle.model_query.specs.QueryChanges.{delta_of, indexed}
 use Rattle.model_query.specs.Results.{numbers_at, places}
 use Rattle.model_query.specs.declared.comparator.Comparator.{Comparator}
@@ -80,7 +80,7 @@ touched_result see order es k touched =
     let live = live_ids cs Event in
     let some = matches_among see cs (filter (is_in touched) live) in
     let same : filter (λ p. is_in touched p.0) some ≡ filter (λ p. is_in touched p.0) (matches see cs) =
-        kept_among see (is_in touched) (λ id. live_object cs Event id) live ∙ ap (filter (λ p. is_in touched p.0)) (matches_of_live see cs) in
+    kept_among see (is_in touched) (λ id. live_object cs Event id) live ∙ ap (filter (λ p. is_in touched p.0)) (matches_of_live see cs) in
     ap (filter (is_in touched)) (named_places order some) ∙ results_agree order (is_in touched) some (matches see cs) same
     ∙ ap (filter (is_in touched)) (sym (named_places order (matches see cs)))
 

@@ -1,5 +1,5 @@
 -- The changes of events after a state are those that the entries from some place on make.
-use Rattle.std.proofs.Common.{◌≡◌, ℕ, suc, ◌+◌, ◌-◌, ◌<◌, ◌≤◌, Bool, true, false, cond, List, [], ◌∷◌, ◌++◌, drop, filter, get_or, length, map, take, refl, sym, ap, ◌∙◌, arith}
+use Rattle.std.proofs.Common.{◌≡◌, ℕ, suc, ◌+◌, ◌-◌, ◌<◌, Bool, true, false, cond, List, [], ◌∷◌, ◌++◌, drop, filter, get_or, length, map, take, refl, sym, ap, ◌∙◌}
 use Rattle.std.proofs.Math.Seq.{drop-append_seam}
 use Rattle.std.proofs.lemmas.List.{take-append-drop, take_rest}
 use Rattle.std.proofs.lemmas.List.Elements.{filter-append}
@@ -38,8 +38,8 @@ later_changes es place state is =
     let before = take place es in
     let after = drop place es in
     let parts : of_events (changes_of es) ≡ of_events (changes_of before) ++ of_events (changes_of after) =
-        ap (λ l. of_events (changes_of l)) (sym (take-append-drop place es)) ∙ ap of_events (changes_append before after)
-        ∙ filter-append (λ c. is_kind Event c.kind) (changes_of before) (changes_of after) in
+    ap (λ l. of_events (changes_of l)) (sym (take-append-drop place es)) ∙ ap of_events (changes_append before after)
+    ∙ filter-append (λ c. is_kind Event c.kind) (changes_of before) (changes_of after) in
     sym (ap (λ n. drop n (of_events (changes_of es))) (is ∙ sym (count_of_events before)) ∙ ap (drop (length (of_events (changes_of before)))) parts
     ∙ drop-append_seam (of_events (changes_of before)) (of_events (changes_of after)))
 

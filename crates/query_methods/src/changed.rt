@@ -89,7 +89,10 @@ fn added_item(alloc: Global, place: Place) -> Result<Tree, AllocError>
     ensures { IfOk result (λ t. data_of t ≡ added_item place) }
 {
     let members = vec![in alloc;
-        ("id", Tree::Text(object_id_text(alloc, Kind::Event, place.id)?)),
+        (
+            "id",
+            Tree::Text(object_id_text(alloc, Kind::Event, place.id)?)
+        ),
         ("index", number_tree(place.index)),
     ]?;
     Tree::object(alloc, members)

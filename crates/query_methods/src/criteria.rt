@@ -51,10 +51,7 @@ pub(crate) fn read_terms<'a>(
 }
 
 // The filter and the order, where the zone is known.
-fn filter_and_order(
-    alloc: Global,
-    criteria: &Criteria<'_>,
-) -> Result<(Filter, Order), QueryError>
+fn filter_and_order(alloc: Global, criteria: &Criteria<'_>) -> Result<(Filter, Order), QueryError>
     ensures known { OnOk result (terms_refusal (criteria_in criteria.now) ≡ None) }
     ensures filter { IfOk result (λ r. r.0 ≡ filter_or_all criteria.now.filter.now) }
     ensures order { IfOk result (λ r. r.1 ≡ order_of (criteria_in criteria.now)) }
@@ -64,7 +61,9 @@ fn filter_and_order(
     let order = read_order(alloc, criteria.sort);
     match (filter, order) {
         (Ok(filter), Ok(order)) => Ok((filter, order)),
-        (Err(FilterError::NoMemory), _) | (_, Err(SortError::NoMemory)) => Err(QueryError::NoMemory),
+        (Err(FilterError::NoMemory), _) | (_, Err(SortError::NoMemory)) => Err(
+            QueryError::NoMemory,
+        ),
         (Err(FilterError::Bad), _) | (_, Err(SortError::BadSort)) => {
             Err(QueryError::Method(MethodError::InvalidArguments))
         }

@@ -48,7 +48,15 @@ pub fn query_changes(
     let terms = read_terms(alloc, zones, criteria)?;
     match known_state(store, since.state) {
         Some(state) if !expand => {
-            changed(alloc, store, account, &terms.sight, &terms.order, since, state)
+            changed(
+                alloc,
+                store,
+                account,
+                &terms.sight,
+                &terms.order,
+                since,
+                state,
+            )
         }
         _ => Err(QueryError::Method(MethodError::CannotCalculateChanges)),
     }

@@ -1,4 +1,4 @@
-use Rattle.std.proofs.Common.{◌≡◌, ◌∙◌}
+use Rattle.std.proofs.Common.{◌∙◌}
 use Rattle.std.proofs.lemmas.Result.{IfOk-weaker}
 use Rattle.query_methods.proofs.TouchedLemmas.{touched_from}
 use Rattle.query_methods.proofs.touched.touched_since.Goals as goal

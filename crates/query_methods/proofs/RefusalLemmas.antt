@@ -1,0 +1,32 @@
+-- When methods are refused whose criteria aren't.
+use Rattle.std.proofs.Common.{◌≡◌, ℕ, List, Bool, true, false, if◌then◌else◌, Option, Some, None, refl, ap, sym}
+use Rattle.std.specs.Prelude.{unwrap_or}
+use Rattle.model_history.specs.declared.entry.Change.{Change}
+use Rattle.model_history.specs.declared.entry.Kind.TheVariants.{Event}
+use Rattle.model_queries.specs.Changed.{Since, size_refusal}
+use Rattle.model_queries.specs.Criteria.{Criteria, criteria_refusal, order_of, sight_of}
+use Rattle.model_queries.specs.Found.{Paging, anchor_refusal}
+use Rattle.model_queries.specs.Queries.{is_paging, query_changes_refusal, query_refusal}
+use Rattle.model_queries.specs.States.{is_known_state, is_maximum}
+use Rattle.model_site.specs.TimeZones.{ZoneText}
+use Rattle.time_text.specs.State.{state_in}
+
+-- a query is refused then for its anchor alone
+pub by_anchor : (zones : List ZoneText) (cs : List Change) (c : Criteria) (expand : Bool) (p : Paging) → expand ≡ false → is_paging p ≡ true → criteria_refusal zones c ≡ None
+    → query_refusal zones cs c expand p ≡ anchor_refusal (sight_of zones c) (order_of c) cs p
+by_anchor zones cs c expand p e h k = rw (e, h, k) refl
+
+-- the state is one that is known, and the text names it
+known_is : (b : Bool) (o : Option ℕ) (k : ℕ) → Some k ≡ (if b then o else None) → (b ≡ true) × (o ≡ Some k)
+known_is true o k h = (refl, sym h)
+known_is false o k h = cc
+
+pub named : (cs : List Change) (text : List ℕ) (k : ℕ) → Some k ≡ (if is_known_state Event cs text then state_in text else None) → k ≡ unwrap_or (state_in text) 0
+named cs text k h = ap (λ o. unwrap_or o 0) (sym (known_is (is_known_state Event cs text) (state_in text) k h).1)
+
+-- its changes are refused then for their number alone
+pub by_size : (zones : List ZoneText) (cs : List Change) (c : Criteria) (expand : Bool) (s : Since) (k : ℕ) → is_maximum s.most ≡ true → criteria_refusal zones c ≡ None → expand ≡ false
+    → Some k ≡ (if is_known_state Event cs s.state then state_in s.state else None) → query_changes_refusal zones cs c expand s ≡ size_refusal (sight_of zones c) (order_of c) cs s k
+by_size zones cs c expand s k m r e h =
+    let parts = known_is (is_known_state Event cs s.state) (state_in s.state) k h in
+    rw (m, r, e, parts.0, parts.1) refl

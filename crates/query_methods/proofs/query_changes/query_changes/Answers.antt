@@ -1,0 +1,45 @@
+use Rattle.std.proofs.Common.{◌≡◌, Some, if◌then◌else◌, None, subst, sym, ◌∙◌}
+use Rattle.std.proofs.lemmas.Result.{IfErr-weaker, IfOk-weaker, on_ok_weaker}
+use Rattle.account_store.specs.Store.{entries}
+use Rattle.model_history.specs.History.{changes_of}
+use Rattle.model_history.specs.declared.entry.Kind.TheVariants.{Event}
+use Rattle.model_queries.specs.Changed.{changed_response, size_refusal}
+use Rattle.model_queries.specs.Queries.{query_changes_refusal}
+use Rattle.model_queries.specs.States.{is_known_state}
+use Rattle.query_methods.proofs.RefusalLemmas.{by_size, named}
+use Rattle.query_methods.proofs.query_changes.query_changes.Goals as goal
+use Rattle.query_methods.specs.FilterSights.{seen_by}
+use Rattle.query_methods.specs.Reports.{Reports}
+use Rattle.query_methods.specs.Requests.{criteria_in, since_in}
+use Rattle.time_text.specs.State.{state_in}
+
+pub returns-in-Some-clause-response : goal.returns-in-Some-clause-response
+returns-in-Some-clause-response c =
+    let cs = changes_of (entries c.args.store.now) in
+    let s = since_in c.args.since.now in
+    let known : Some c.in-Some.state ≡ (if is_known_state Event cs s.state then state_in s.state else None) = sym c.in-Some.is ∙ c.known_state.ensures.value in
+    IfOk-weaker c.changed.result _ _
+    (λ t is. is ∙ (λ i. changed_response (c.in_ok-terms.ensures.sight i) (c.in_ok-terms.ensures.order i) cs c.args.account.now s (named cs s.state c.in-Some.state known i)))
+    c.changed.ensures.response
+
+pub returns-in-Some-clause-answered : goal.returns-in-Some-clause-answered
+returns-in-Some-clause-answered c =
+    let cs = changes_of (entries c.args.store.now) in
+    let asked = criteria_in c.args.criteria.now in
+    let s = since_in c.args.since.now in
+    let known : Some c.in-Some.state ≡ (if is_known_state Event cs s.state then state_in s.state else None) = sym c.in-Some.is ∙ c.known_state.ensures.value in
+    let told : query_changes_refusal c.args.zones.now cs asked c.args.expand s ≡ size_refusal (seen_by c.in_ok-terms.terms.sight) c.in_ok-terms.terms.order cs s c.in-Some.state =
+    by_size c.args.zones.now cs asked c.args.expand s c.in-Some.state (sym c.is_maximum.ensures ∙ c.if-not-is_maximum.false) c.in_ok-terms.ensures.known c.if-not-expand.true known
+    ∙ (λ i. size_refusal (sym c.in_ok-terms.ensures.sight i) (sym c.in_ok-terms.ensures.order i) cs s c.in-Some.state) in
+    on_ok_weaker c.changed.result (λ none. told ∙ none) c.changed.ensures.few
+
+pub returns-in-Some-clause-refused : goal.returns-in-Some-clause-refused
+returns-in-Some-clause-refused c =
+    let cs = changes_of (entries c.args.store.now) in
+    let asked = criteria_in c.args.criteria.now in
+    let s = since_in c.args.since.now in
+    let known : Some c.in-Some.state ≡ (if is_known_state Event cs s.state then state_in s.state else None) = sym c.in-Some.is ∙ c.known_state.ensures.value in
+    let told : query_changes_refusal c.args.zones.now cs asked c.args.expand s ≡ size_refusal (seen_by c.in_ok-terms.terms.sight) c.in_ok-terms.terms.order cs s c.in-Some.state =
+    by_size c.args.zones.now cs asked c.args.expand s c.in-Some.state (sym c.is_maximum.ensures ∙ c.if-not-is_maximum.false) c.in_ok-terms.ensures.known c.if-not-expand.true known
+    ∙ (λ i. size_refusal (sym c.in_ok-terms.ensures.sight i) (sym c.in_ok-terms.ensures.order i) cs s c.in-Some.state) in
+    IfErr-weaker c.changed.result _ _ (λ e reports. subst (Reports e) (sym told) reports) c.changed.ensures.refused
