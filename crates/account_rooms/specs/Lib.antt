@@ -1,0 +1,4 @@
+pub mod Rooms
+pub mod RoomChanges
+pub mod RoomsView
+pub mod Slots
