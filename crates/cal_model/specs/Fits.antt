@@ -19,24 +19,24 @@ use Rattle.model_series.specs.Lengths.{IsWeekLong}
 use Rattle.model_series.specs.declared.series.Series.{Series}
 use Rattle.model_site.specs.TimeZones.{ZoneText}
 
--- The resource of a number takes one more booking, of this series by this event: it has room, no occurrence is longer than 7 days, and no
--- second of all days would be covered twice.
-pub record IsBookable (zones : List ZoneText) (cs : List Change) (event calendar : ℕ) (s : Series) : Type 0 where
-  pub week : IsWeekLong s
-  pub room : length (other_bookings zones cs event calendar) < MAX_BOOKINGS
-  pub clear : IsClear (other_bookings zones cs event calendar) s
-
--- an event that may be stored: it is valid, its calendars are live, and each of them that is a resource takes its booking
-pub record IsEventFit (zones : List ZoneText) (cs : List Change) (n : ℕ) (d : Data) : Type 0 where
+-- The resource calendar of a number takes the booking of an event: the event is valid, no occurrence of it is longer than 7 days, the resource
+-- has room, and no second of all days would be covered twice.
+pub record IsBookable (zones : List ZoneText) (cs : List Change) (event calendar : ℕ) (d : Data) : Type 0 where
   pub series : Series
   pub valid : series_in zones d ≡ Some series
-  pub calendars : names_missing_calendar cs d ≡ false
-  pub bookings : (calendar : ℕ) → names_calendar calendar d ≡ true → is_resource cs calendar ≡ true → IsBookable zones cs n calendar series
+  pub week : IsWeekLong series
+  pub room : length (other_bookings zones cs event calendar) < MAX_BOOKINGS
+  pub clear : IsClear (other_bookings zones cs event calendar) series
 
--- A new calendar may be of a resource or not, and stays so; none is removed that a live event is in.
+-- the calendars of an event are live, and each of them that is a resource takes its booking
+pub record IsEventFit (zones : List ZoneText) (cs : List Change) (event : ℕ) (d : Data) : Type 0 where
+  pub calendars : names_missing_calendar cs d ≡ false
+  pub bookings : (calendar : ℕ) → names_calendar calendar d ≡ true → is_resource cs calendar ≡ true → IsBookable zones cs event calendar d
+
+-- A new calendar is of a resource or not, and stays so; none is removed that a live event is in.
 abbrev pub IsObjectFit : List ZoneText → List Change → Kind → ℕ → Option Tree → Type 0
 IsObjectFit zones cs Calendar n None = has_event cs n ≡ false
-IsObjectFit zones cs Calendar n (Some t) = (live_object cs Calendar n ≡ None) ⊎ (is_some (zone_of_resource t) ≡ is_resource cs n)
+IsObjectFit zones cs Calendar n (Some t) = (n ≡ next_number cs Calendar) ⊎ (is_some (zone_of_resource t) ≡ is_resource cs n)
 IsObjectFit zones cs Event n None = Unit {0}
 IsObjectFit zones cs Event n (Some t) = IsEventFit zones cs n (data_of t)
 
