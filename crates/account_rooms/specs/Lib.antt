@@ -1,4 +1,3 @@
 pub mod Rooms
 pub mod RoomChanges
 pub mod RoomsView
-pub mod Slots

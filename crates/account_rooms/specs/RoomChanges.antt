@@ -37,13 +37,14 @@ rooms_by zones Calendar n (Some t) rs = if is_some (zone_of_resource t) then wit
 abbrev pub rooms_after : List ZoneText → Change → List BookedRoom → List BookedRoom
 rooms_after zones c rs = rooms_by zones c.kind c.id c.object rs
 
--- the event has a series, of which no occurrence lasts longer than 7 days where the event is in one of these rooms
-pub record MayBook (zones : List ZoneText) (rs : List BookedRoom) (d : Data) : Type 0 where
+-- an event has a series that may be booked: none of its occurrences lasts longer than 7 days
+pub record HasShortSeries (zones : List ZoneText) (d : Data) : Type 0 where
   pub series : Series
   pub valid : series_in zones d ≡ Some series
-  pub week : (n : ℕ) → has_room n rs ≡ true → names_calendar n d ≡ true → IsWeekLong series
+  pub week : IsWeekLong series
 
+-- an event that is put has such a series where it is in one of these rooms
 abbrev pub MayChange : List ZoneText → List BookedRoom → Kind → Option Tree → Type 0
 MayChange zones rs Calendar o = Unit {0}
 MayChange zones rs Event None = Unit {0}
-MayChange zones rs Event (Some t) = MayBook zones rs (data_of t)
+MayChange zones rs Event (Some t) = (n : ℕ) → has_room n rs ≡ true → names_calendar n (data_of t) ≡ true → HasShortSeries zones (data_of t)

@@ -1,7 +1,4 @@
 //! The rooms of an account: its resource calendars with their bookings, beside a history of changes.
 #![tactic(auto)]
 
-mod slot;
-mod rooms;
-
-pub use rooms::Rooms;
+mod laws;

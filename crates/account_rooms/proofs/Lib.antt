@@ -1,0 +1,4 @@
+pub mod Numbers
+pub mod Changes
+pub mod Counts
+pub mod Following
