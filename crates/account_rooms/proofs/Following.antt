@@ -276,3 +276,83 @@ updated_rooms zones cs id t known same = by_cases (is_resource cs id) refl ∙ s
         ap (λ z. if z then with_room id (rooms_at zones cs) else rooms_at zones cs) (same ∙ e)
         ∙ with_room_by id (rooms_at zones cs) true (room_of_resource zones cs id e)
     by_cases false e = ap (λ z. if z then with_room id (rooms_at zones cs) else rooms_at zones cs) (same ∙ e)
+
+-- a calendar that is put as a resource was one, or has no bookings
+put_resource : (zones : List ZoneText) (cs : List Change) (rs : List BookedRoom) (id : ℕ) (t : Tree) → AreRooms zones cs rs → IsObjectFit zones cs Calendar id (Some t)
+    → is_in (ids_at cs Calendar) (next_number cs Calendar) ≡ false → is_some (zone_of_resource t) ≡ true → (bookings_of zones cs id ≡ []) ⊎ (is_resource cs id ≡ true)
+put_resource zones cs rs id t h fit new z =
+    elim fit [ inl next ↦ inl (h.none id (not_live cs id (ap (is_in (ids_at cs Calendar)) next ∙ new))) | inr same ↦ inr (sym same ∙ z) ]
+
+-- what holds of no bookings, and of those of each resource
+each_resource : (P : List Booking → Type 0) (zones : List ZoneText) (cs : List Change) (rs : List BookedRoom) (id : ℕ) (o : Option Tree) → AreRooms zones cs rs → IsObjectFit zones cs Calendar id o
+    → is_in (ids_at cs Calendar) (next_number cs Calendar) ≡ false → P [] → ((n : ℕ) → is_resource cs n ≡ true → P (bookings_of zones cs n))
+    → (n : ℕ) → is_resource (calendar_after cs id o) n ≡ true → P (bookings_of zones (calendar_after cs id o) n)
+each_resource P zones cs rs id o h fit new empty each n r = subst P (sym (calendar_bookings zones cs id o n)) (by_cases (n == id) refl (sym (resource_now cs id o n) ∙ r))
+  where
+    put : (q : Option Tree) → IsObjectFit zones cs Calendar id q → is_of_resource q ≡ true → P (bookings_of zones cs id)
+    put None f z = absurd (false≢true z)
+    put (Some t) f z = elim (put_resource zones cs rs id t h f new z) [ inl none ↦ subst P (sym none) empty | inr resource ↦ each id resource ]
+    by_cases : (same : Bool) → (n == id) ≡ same → (if same then is_of_resource o else is_resource cs n) ≡ true → P (bookings_of zones cs n)
+    by_cases true e z = subst (λ m. P (bookings_of zones cs m)) (sym (same_number n id e)) (put o fit z)
+    by_cases false e z = each n z
+
+calendar_none : (zones : List ZoneText) (cs : List Change) (id : ℕ) (o : Option Tree) → ((n : ℕ) → live_object cs Calendar n ≡ None → bookings_of zones cs n ≡ []) → IsObjectFit zones cs Calendar id o
+    → (n : ℕ) → live_object (calendar_after cs id o) Calendar n ≡ None → bookings_of zones (calendar_after cs id o) n ≡ []
+calendar_none zones cs id o none fit n gone = calendar_bookings zones cs id o n ∙ by_cases (n == id) refl (sym (calendar_now cs id o n) ∙ gone)
+  where
+    some_none : (t : Tree) → Some t ≡ None → ⊥
+    some_none t e = cc e
+    removed : (q : Option Tree) → IsObjectFit zones cs Calendar id q → q ≡ None → bookings_of zones cs id ≡ []
+    removed None f e = nothing_booked (bookings_of zones cs id) (not_booked zones cs id f)
+    removed (Some t) f e = absurd (some_none t e)
+    by_cases : (same : Bool) → (n == id) ≡ same → (if same then o else live_object cs Calendar n) ≡ None → bookings_of zones cs n ≡ []
+    by_cases true e g = ap (bookings_of zones cs) (same_number n id e) ∙ removed o fit g
+    by_cases false e g = none n g
+
+put_rooms : (zones : List ZoneText) (cs : List Change) (rs : List BookedRoom) (id : ℕ) (o : Option Tree) → AreRooms zones cs rs → IsObjectFit zones cs Calendar id o
+    → (id ≡ next_number cs Calendar) ⊎ (is_some (live_object cs Calendar id) ≡ true) → is_in (ids_at cs Calendar) (next_number cs Calendar) ≡ false
+    → rooms_by zones Calendar id o (rooms_at zones cs) ≡ rooms_at zones (calendar_after cs id o)
+put_rooms zones cs rs id None h fit number new = removed_rooms zones cs id
+put_rooms zones cs rs id (Some t) h fit number new = elim number [ inl next ↦ created (ap (is_in (ids_at cs Calendar)) next ∙ new) | inr live ↦ there live fit ]
+  where
+    created : is_in (ids_at cs Calendar) id ≡ false → rooms_by zones Calendar id (Some t) (rooms_at zones cs) ≡ rooms_at zones (calendar_after cs id (Some t))
+    created unknown = created_rooms zones cs id t (h.none id (not_live cs id unknown)) unknown
+    there : is_some (live_object cs Calendar id) ≡ true → (id ≡ next_number cs Calendar) ⊎ (is_some (zone_of_resource t) ≡ is_resource cs id)
+        → rooms_by zones Calendar id (Some t) (rooms_at zones cs) ≡ rooms_at zones (calendar_after cs id (Some t))
+    there live (inl next) = created (ap (is_in (ids_at cs Calendar)) next ∙ new)
+    there live (inr same) = updated_rooms zones cs id t (live_is_numbered cs Calendar id live) same
+
+calendar_follows : (zones : List ZoneText) (cs : List Change) (id : ℕ) (o : Option Tree) (rs : List BookedRoom) → AreRooms zones cs rs → IsObjectFit zones cs Calendar id o
+    → (id ≡ next_number cs Calendar) ⊎ (is_some (live_object cs Calendar id) ≡ true) → is_in (ids_at cs Calendar) (next_number cs Calendar) ≡ false
+    → AreRooms zones (calendar_after cs id o) (rooms_by zones Calendar id o rs)
+calendar_follows zones cs id o rs h fit number new = record {
+  rooms = ap (rooms_by zones Calendar id o) h.rooms ∙ put_rooms zones cs rs id o h fit number new;
+  free = each_resource IsFree zones cs rs id o h fit new (λ x. refl) h.free;
+  few = each_resource (λ bs. length bs ≤ MAX_BOOKINGS) zones cs rs id o h fit new (omega arith) h.few;
+  none = calendar_none zones cs id o h.none fit;
+}
+
+follows : (zones : List ZoneText) (cs : List Change) (kind : Kind) (id : ℕ) (o : Option Tree) (rs : List BookedRoom) → AreRooms zones cs rs → IsObjectFit zones cs kind id o
+    → (id ≡ next_number cs kind) ⊎ (is_some (live_object cs kind id) ≡ true) → is_in (ids_at cs Calendar) (next_number cs Calendar) ≡ false
+    → AreRooms zones (cs ++ change kind id o ∷ []) (rooms_by zones kind id o rs)
+follows zones cs Calendar id o rs h fit number new = calendar_follows zones cs id o rs h fit number new
+follows zones cs Event id o rs h fit number new = event_follows zones cs id o rs h fit
+
+-- a change that fits keeps what the rooms keep
+pub rooms_more : (zones : List ZoneText) (cs : List Change) (c : Change) (rs : List BookedRoom) → AreRooms zones cs rs → IsFit zones cs c → is_in (ids_at cs Calendar) (next_number cs Calendar) ≡ false
+    → AreRooms zones (cs ++ c ∷ []) (rooms_after zones c rs)
+rooms_more zones cs c rs h fit new = follows zones cs c.kind c.id c.object rs h fit.object fit.number new
+
+may_by : (zones : List ZoneText) (cs : List Change) (kind : Kind) (id : ℕ) (o : Option Tree) (rs : List BookedRoom) → AreRooms zones cs rs → IsObjectFit zones cs kind id o → MayChange zones rs kind o
+may_by zones cs Calendar id o rs h fit = tt
+may_by zones cs Event id None rs h fit = tt
+may_by zones cs Event id (Some t) rs h fit = λ n there named.
+    let takes = fit.bookings n named (resource_of_room zones cs n (sym (ap (has_room n) h.rooms) ∙ there)) in
+    record { series = takes.series; valid = takes.valid; week = takes.week }
+
+-- and its event may be booked
+pub rooms_may : (zones : List ZoneText) (cs : List Change) (c : Change) (rs : List BookedRoom) → AreRooms zones cs rs → IsFit zones cs c → MayChange zones rs c.kind c.object
+rooms_may zones cs c rs h fit = may_by zones cs c.kind c.id c.object rs h fit.object
+
+pub no_rooms : (zones : List ZoneText) → AreRooms zones [] []
+no_rooms zones = record { rooms = refl; free = λ n r. absurd (false≢true r); few = λ n r. absurd (false≢true r); none = λ n e. refl }
