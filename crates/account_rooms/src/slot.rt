@@ -1,0 +1,109 @@
+//! A resource calendar with its room, in a list of such.
+ghost use Rattle.std.specs.Prelude.{◌≡◌, IfNone, IfSome, OnOk, false, filter, map, true};
+ghost use Rattle.std.specs.List.{list_any};
+ghost use Rattle.account_rooms.specs.Rooms.{bookings_in, has_room};
+ghost use Rattle.account_rooms.specs.Slots.{booked, closed, kept_slot, retired, rooms_kept, rooms_now, takes, undone};
+ghost use Rattle.model_json.specs.TreeData.{data_of};
+ghost use Rattle.model_series.specs.Lengths.{IsWeekLong};
+
+use model_json::tree::Tree;
+use model_series::series::Series;
+use resource_book::Room;
+use single_event::calendars::names_calendar;
+use std::alloc::AllocError;
+
+/// A resource calendar with its room.
+#[derive(Drop)]
+pub struct Slot {
+    /// The number of the calendar.
+    pub calendar: u64,
+    /// Its bookings.
+    pub room: Room,
+    /// Whether the calendar is live, so that it wasn't removed since the rooms were kept.
+    pub live: bool,
+}
+
+/// Takes out the bookings of an event. Takes no memory.
+pub fn retire_in_all(slots: &mut Vec<Slot>, event: u64)
+    ensures { slots.new.items ≡ map (retired event) slots.old.items }
+{
+    for slot in slots.iter_mut() {
+        let _was_booked = slot.room.retire(event);
+    }
+}
+
+/// Takes the room of a calendar away, until it is taken back. Takes no memory.
+pub fn close(slots: &mut Vec<Slot>, calendar: u64)
+    ensures { slots.new.items ≡ map (closed calendar) slots.old.items }
+{
+    for slot in slots.iter_mut() {
+        if slot.calendar == calendar {
+            slot.live = false;
+        }
+    }
+}
+
+/// Lets the rooms be those that are gone back to. Takes no memory.
+pub fn keep_all(slots: &mut Vec<Slot>)
+    ensures { slots.new.items ≡ map kept_slot slots.old.items }
+{
+    for slot in slots.iter_mut() {
+        slot.room.keep();
+    }
+}
+
+/// Goes back to the rooms that were kept. Takes no memory.
+pub fn undo_all(slots: &mut Vec<Slot>)
+    ensures { slots.new.items ≡ map undone slots.old.items }
+{
+    for slot in slots.iter_mut() {
+        slot.room.undo();
+        slot.live = true;
+    }
+}
+
+/// Books the series of an event in the rooms of its calendars. After want of memory some of them may have it.
+pub fn book_in_all(
+    slots: &mut Vec<Slot>,
+    number: u64,
+    event: &Tree,
+    series: &Series,
+) -> Result<(), AllocError>
+    requires { IsWeekLong series.now }
+    ensures ok { OnOk result (slots.new.items ≡ map (booked number (data_of event.now) series.now) slots.old.items) }
+    ensures kept { rooms_kept slots.new.items ≡ rooms_kept slots.old.items }
+{
+    for slot in slots.iter_mut() {
+        if slot.live && names_calendar(event, slot.calendar) {
+            slot.room.reserve(series)?;
+            slot.room.book(number);
+        }
+    }
+    Ok(())
+}
+
+/// Whether an event is in a calendar that has a room. Takes no memory.
+pub fn takes_any(slots: &[Slot], event: &Tree) -> bool
+    ensures { result ≡ list_any (takes (data_of event.now)) slots.now }
+{
+    slots
+        .iter()
+        .any(|slot| slot.live && names_calendar(event, slot.calendar))
+}
+
+/// The room of a calendar that is live. Takes no memory.
+pub fn slot_of(slots: &[Slot], calendar: u64) -> Option<&Slot>
+    ensures none { IfNone result (has_room calendar (rooms_now slots.now) ≡ false) }
+    ensures some { IfSome result (λ s. (has_room calendar (rooms_now slots.now) ≡ true) × (bookings_in calendar (rooms_now slots.now) ≡ s.now.room.bookings)) }
+{
+    slots
+        .iter()
+        .find(|slot| slot.live && slot.calendar == calendar)
+}
+
+/// Leaves out the rooms of calendars that were removed. Takes no memory.
+pub fn drop_closed(slots: &mut Vec<Slot>)
+    ensures { slots.new.items ≡ filter (λ s. s.live) slots.old.items }
+{
+    slots.retain(|slot| slot.live);
+}
