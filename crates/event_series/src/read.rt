@@ -32,7 +32,6 @@ pub fn read_series(alloc: Global, tree: &Tree, zones: &Zones) -> Result<Option<S
 /// overrides make of it is.
 ///
 /// Takes memory for the series, and for the parts of the event that overrides look at.
-#[tactic(auto, using(crate::proofs::SeriesLemmas::one_series))]
 pub fn series_of(alloc: Global, event: &Tree, zones: &Zones) -> Result<Series, AllocError>
     requires { bad_properties_of_event zones.now (data_of event.now) ≡ [] }
     ensures value { IfOk result (λ s. series_in zones.now (data_of event.now) ≡ Some s) }
