@@ -12,7 +12,7 @@ ghost use Rattle.model_series.specs.Lengths.{IsWeekLong};
 ghost use Rattle.rule_expand.specs.Least.{IsLeastOf};
 ghost use Rattle.std.specs.List.{list_any};
 
-use crate::slot::{Slot, book_in_all, close, drop_closed, keep_all, retire_in_all, slot_of, takes_any, undo_all};
+use crate::slot::{Slot, book_in_all, calendars_of, close, drop_closed, keep_all, retire_in_all, slot_of, takes_any, undo_all};
 use event_series::read::series_of;
 use model_history::entry::{Change, Kind};
 use model_json::tree::Tree;
@@ -63,13 +63,7 @@ impl Rooms {
     pub fn calendars(&self, alloc: Global) -> Result<Vec<u64>, AllocError>
         ensures { IfOk result (λ v. v.items ≡ map (λ r. r.calendar) self.now.rooms) }
     {
-        let mut calendars = Vec::new(alloc);
-        for slot in &self.slots {
-            if slot.live {
-                calendars.push(slot.calendar)?;
-            }
-        }
-        Ok(calendars)
+        calendars_of(alloc, &self.slots)
     }
 
     /// How many bookings a resource calendar has beside that of an event. Takes no memory.
@@ -177,6 +171,7 @@ impl Rooms {
     }
 
     // Books an event anew, in the rooms of its calendars. Its series is read only where there is such a room.
+    #[tactic(auto, using(event_series::proofs::SeriesLemmas::series_is_valid))]
     fn book(&mut self, zones: &Zones, number: u64, event: &Tree) -> Result<(), AllocError>
         requires { MayChange zones.now self.old.rooms event_kind (Some event.now) }
         ensures ok { OnOk result (self.new.rooms ≡ map (booked_again zones.now number (Some event.now)) self.old.rooms) }

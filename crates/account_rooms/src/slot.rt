@@ -1,5 +1,5 @@
 //! A resource calendar with its room, in a list of such.
-ghost use Rattle.std.specs.Prelude.{◌≡◌, IfNone, IfSome, OnOk, false, filter, map, true};
+ghost use Rattle.std.specs.Prelude.{◌≡◌, IfNone, IfOk, IfSome, OnOk, false, filter, map, true};
 ghost use Rattle.std.specs.List.{list_any};
 ghost use Rattle.account_rooms.specs.Rooms.{bookings_in, has_room};
 ghost use Rattle.account_rooms.specs.Slots.{booked, closed, kept_slot, retired, rooms_kept, rooms_now, takes, undone};
@@ -10,7 +10,7 @@ use model_json::tree::Tree;
 use model_series::series::Series;
 use resource_book::Room;
 use single_event::calendars::names_calendar;
-use std::alloc::AllocError;
+use std::alloc::{AllocError, Global};
 
 /// A resource calendar with its room.
 #[derive(Drop)]
@@ -91,14 +91,30 @@ pub fn takes_any(slots: &[Slot], event: &Tree) -> bool
         .any(|slot| slot.live && names_calendar(event, slot.calendar))
 }
 
-/// The room of a calendar that is live. Takes no memory.
+/// The slot of a calendar that is live. Takes no memory.
 pub fn slot_of(slots: &[Slot], calendar: u64) -> Option<&Slot>
     ensures none { IfNone result (has_room calendar (rooms_now slots.now) ≡ false) }
     ensures some { IfSome result (λ s. (has_room calendar (rooms_now slots.now) ≡ true) × (bookings_in calendar (rooms_now slots.now) ≡ s.now.room.bookings)) }
 {
-    slots
-        .iter()
-        .find(|slot| slot.live && slot.calendar == calendar)
+    for slot in slots {
+        if slot.live && slot.calendar == calendar {
+            return Some(slot);
+        }
+    }
+    None
+}
+
+/// The numbers of the calendars that are live. Takes memory for the list.
+pub fn calendars_of(alloc: Global, slots: &[Slot]) -> Result<Vec<u64>, AllocError>
+    ensures { IfOk result (λ v. v.items ≡ map (λ r. r.calendar) (rooms_now slots.now)) }
+{
+    let mut calendars = Vec::new(alloc);
+    for slot in slots {
+        if slot.live {
+            calendars.push(slot.calendar)?;
+        }
+    }
+    Ok(calendars)
 }
 
 /// Leaves out the rooms of calendars that were removed. Takes no memory.
