@@ -8,7 +8,7 @@ use Rattle.account_rooms.proofs.Changes.{calendar_bookings, calendar_now, change
 use Rattle.account_rooms.proofs.Counts.{length-with, length-without}
 use Rattle.account_rooms.proofs.Numbers.{any_object, filter_gone, filter_same, filter_without, not_in_filter}
 use Rattle.account_rooms.specs.RoomChanges.{MayChange, booked_again, rooms_after, rooms_by, with_room, without_room}
-use Rattle.account_rooms.specs.Rooms.{AreFree, AreRooms, BookedRoom, has_room, room_at, rooms_at}
+use Rattle.account_rooms.specs.Rooms.{AreFree, AreRooms, BookedRoom, bookings_in, has_room, room_at, rooms_at}
 use Rattle.cal_model.specs.EventObject.{has_event, names_missing_calendar}
 use Rattle.cal_model.specs.Fits.{IsBookable, IsEventFit, IsFit, IsObjectFit}
 use Rattle.model_event.specs.Events.{calendars_of, names_calendar}
@@ -356,3 +356,23 @@ rooms_may zones cs c rs h fit = may_by zones cs c.kind c.id c.object rs h fit.ob
 
 pub no_rooms : (zones : List ZoneText) → AreRooms zones [] []
 no_rooms zones = record { rooms = refl; free = λ n r. absurd (false≢true r); few = λ n r. absurd (false≢true r); none = λ n e. refl }
+
+-- What rooms are.
+
+pub calendars_of_rooms : (zones : List ZoneText) (cs : List Change) (ns : List ℕ) → map (λ (r : BookedRoom). r.calendar) (map (room_at zones cs) ns) ≡ ns
+calendars_of_rooms zones cs [] = refl
+calendars_of_rooms zones cs (n ∷ ns) = ap (λ ms. n ∷ ms) (calendars_of_rooms zones cs ns)
+
+bookings_found : (zones : List ZoneText) (cs : List Change) (n : ℕ) (ns : List ℕ) → is_in ns n ≡ true → bookings_in n (map (room_at zones cs) ns) ≡ bookings_of zones cs n
+bookings_found zones cs n [] h = absurd (false≢true h)
+bookings_found zones cs n (m ∷ ns) h = by_cases (m == n) refl h (bookings_found zones cs n ns)
+  where
+    by_cases : (same : Bool) → (m == n) ≡ same → (same || is_in ns n) ≡ true → (is_in ns n ≡ true → bookings_in n (map (room_at zones cs) ns) ≡ bookings_of zones cs n)
+        → (if same then bookings_of zones cs m else bookings_in n (map (room_at zones cs) ns)) ≡ bookings_of zones cs n
+    by_cases true e g rest = ap (bookings_of zones cs) (same_number m n e)
+    by_cases false e g rest = rest g
+
+pub bookings_of_room : (zones : List ZoneText) (cs : List Change) (n : ℕ) → is_resource cs n ≡ true → bookings_in n (rooms_at zones cs) ≡ bookings_of zones cs n
+bookings_of_room zones cs n h =
+    bookings_found zones cs n (resources_at cs)
+    (in_filter (is_resource cs) (ids_at cs Calendar) n h (live_is_numbered cs Calendar n (resource_is_live cs n h)))

@@ -31,7 +31,7 @@ abbrev pub bookings_in : ℕ → List BookedRoom → List Booking
 bookings_in n [] = []
 bookings_in n (r ∷ rs) = if r.calendar == n then r.bookings else bookings_in n rs
 
--- no second of a live resource calendar is covered by two different occurrences of its bookings, over all days without end
+-- no second of a live resource calendar is covered twice, as the tests of a second tell
 abbrev pub AreFree : List ZoneText → List Change → Type 0
 AreFree zones cs = (n : ℕ) → is_resource cs n ≡ true → IsFree (bookings_of zones cs n)
 

@@ -171,7 +171,6 @@ impl Rooms {
     }
 
     // Books an event anew, in the rooms of its calendars. Its series is read only where there is such a room.
-    #[tactic(auto, using(event_series::proofs::SeriesLemmas::series_is_valid))]
     fn book(&mut self, zones: &Zones, number: u64, event: &Tree) -> Result<(), AllocError>
         requires { MayChange zones.now self.old.rooms event_kind (Some event.now) }
         ensures ok { OnOk result (self.new.rooms ≡ map (booked_again zones.now number (Some event.now)) self.old.rooms) }

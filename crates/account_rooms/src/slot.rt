@@ -1,8 +1,8 @@
 //! A resource calendar with its room, in a list of such.
-ghost use Rattle.std.specs.Prelude.{◌≡◌, IfNone, IfOk, IfSome, OnOk, false, filter, map, true};
+ghost use Rattle.std.specs.Prelude.{◌≡◌, IfNone, IfOk, IfSome, OnOk, false, filter, map, true, vec_len};
 ghost use Rattle.std.specs.List.{list_any};
 ghost use Rattle.account_rooms.specs.Rooms.{bookings_in, has_room};
-ghost use Rattle.account_rooms.specs.Slots.{booked, closed, kept_slot, retired, rooms_kept, rooms_now, takes, undone};
+ghost use Rattle.account_rooms.specs.Slots.{booked, closed, kept_slot, retired, room_kept, rooms_kept, rooms_now, takes, undone};
 ghost use Rattle.model_json.specs.TreeData.{data_of};
 ghost use Rattle.model_series.specs.Lengths.{IsWeekLong};
 
@@ -23,12 +23,54 @@ pub struct Slot {
     pub live: bool,
 }
 
+impl Slot {
+    fn retire(&mut self, event: u64)
+        ensures { self.new ≡ retired event self.old }
+    {
+        let _was_booked = self.room.retire(event);
+    }
+
+    fn close(&mut self, calendar: u64)
+        ensures { self.new ≡ closed calendar self.old }
+    {
+        if self.calendar == calendar {
+            self.live = false;
+        }
+    }
+
+    fn keep(&mut self)
+        ensures { self.new ≡ kept_slot self.old }
+    {
+        self.room.keep();
+    }
+
+    fn undo(&mut self)
+        ensures { self.new ≡ undone self.old }
+    {
+        self.room.undo();
+        self.live = true;
+    }
+
+    // After want of memory the event isn't booked.
+    fn book(&mut self, number: u64, event: &Tree, series: &Series) -> Result<(), AllocError>
+        requires { IsWeekLong series.now }
+        ensures ok { OnOk result (self.new ≡ booked number (data_of event.now) series.now self.old) }
+        ensures kept { room_kept self.new ≡ room_kept self.old }
+    {
+        if self.live && names_calendar(event, self.calendar) {
+            self.room.reserve(series)?;
+            self.room.book(number);
+        }
+        Ok(())
+    }
+}
+
 /// Takes out the bookings of an event. Takes no memory.
 pub fn retire_in_all(slots: &mut Vec<Slot>, event: u64)
     ensures { slots.new.items ≡ map (retired event) slots.old.items }
 {
     for slot in slots.iter_mut() {
-        let _was_booked = slot.room.retire(event);
+        slot.retire(event);
     }
 }
 
@@ -37,9 +79,7 @@ pub fn close(slots: &mut Vec<Slot>, calendar: u64)
     ensures { slots.new.items ≡ map (closed calendar) slots.old.items }
 {
     for slot in slots.iter_mut() {
-        if slot.calendar == calendar {
-            slot.live = false;
-        }
+        slot.close(calendar);
     }
 }
 
@@ -48,7 +88,7 @@ pub fn keep_all(slots: &mut Vec<Slot>)
     ensures { slots.new.items ≡ map kept_slot slots.old.items }
 {
     for slot in slots.iter_mut() {
-        slot.room.keep();
+        slot.keep();
     }
 }
 
@@ -57,8 +97,7 @@ pub fn undo_all(slots: &mut Vec<Slot>)
     ensures { slots.new.items ≡ map undone slots.old.items }
 {
     for slot in slots.iter_mut() {
-        slot.room.undo();
-        slot.live = true;
+        slot.undo();
     }
 }
 
@@ -72,12 +111,12 @@ pub fn book_in_all(
     requires { IsWeekLong series.now }
     ensures ok { OnOk result (slots.new.items ≡ map (booked number (data_of event.now) series.now) slots.old.items) }
     ensures kept { rooms_kept slots.new.items ≡ rooms_kept slots.old.items }
+    ensures len { vec_len slots.new ≡ vec_len slots.old }
 {
-    for slot in slots.iter_mut() {
-        if slot.live && names_calendar(event, slot.calendar) {
-            slot.room.reserve(series)?;
-            slot.room.book(number);
-        }
+    let mut i = 0;
+    while i < slots.len() {
+        slots[i].book(number, event, series)?;
+        i += 1;
     }
     Ok(())
 }
