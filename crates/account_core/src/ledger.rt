@@ -1,18 +1,24 @@
 //! The history of an account with the changes that a call is about to make.
-ghost use Rattle.std.specs.Prelude.{◌≡◌, ◌<◌, ◌≤◌, ◌^◌, ◌++◌, [], OnErr, OnOk, length};
+ghost use Rattle.std.specs.Prelude.{◌≡◌, ◌<◌, ◌≤◌, ◌^◌, ◌++◌, [], OnErr, OnOk, length, vec_capacity, vec_len};
+ghost use Rattle.std.specs.Arc.{arc_value};
 ghost use Rattle.account_core.specs.Tally.{Tallies};
+ghost use Rattle.account_rooms.specs.RoomChanges.{MayChange, rooms_after};
+ghost use Rattle.account_rooms.specs.Rooms.{AreRooms};
 ghost use Rattle.account_store.specs.Store.{entries, spare};
 ghost use Rattle.cal_model.specs.Answer.{entries_from};
 ghost use Rattle.model_history.specs.History.{changes_of};
 
 use crate::tally::Tally;
 use crate::uses::has_event;
+use account_rooms::Rooms;
 use account_store::Store;
 use cal_model::view::AccountView;
 use model_history::entry::{Change, Entry, Kind};
 use model_history::stamp::Stamp;
 use model_json::text::Text;
 use model_json::tree::Tree;
+use model_room::clash::Clash;
+use model_series::series::Series;
 use std::alloc::{AllocError, Global};
 use std::mem;
 use std::sync::Arc;
@@ -32,8 +38,12 @@ pub struct Ledger {
     pub(crate) staged: Vec<Change>,
     /// What the history and the staged changes hold.
     pub(crate) tally: Tally,
+    /// The live resource calendars with their bookings, at the history and the staged changes; it goes back to those at the history.
+    pub(crate) rooms: Rooms,
     ghost kept_told: { Tallies kept (changes_of (entries store)) },
     ghost told: { Tallies tally (changes_of (entries store) ++ staged.items) },
+    ghost kept_rooms: { AreRooms (arc_value zones) (changes_of (entries store)) rooms.kept },
+    ghost rooms_now: { AreRooms (arc_value zones) (changes_of (entries store) ++ staged.items) rooms.rooms },
 }
 
 impl Ledger {
@@ -55,6 +65,7 @@ impl Ledger {
             kept: Tally::new(),
             staged: Vec::new(alloc),
             tally: Tally::new(),
+            rooms: Rooms::new(alloc),
         }
     }
 
@@ -85,7 +96,26 @@ impl Ledger {
         let staged = mem::replace(&mut self.staged, Vec::new(self.alloc));
         push_all(&mut self.store, stamp, staged);
         self.kept = self.tally;
+        self.rooms.keep();
     }
+}
+
+// Takes memory for one staged change more, which the rooms follow.
+fn follow(
+    staged: &mut Vec<Change>,
+    rooms: &mut Rooms,
+    zones: &Zones,
+    change: &Change,
+) -> Result<(), AllocError>
+    requires { MayChange zones.now rooms.old.rooms change.now.kind change.now.object }
+    ensures staged { staged.new.items ≡ staged.old.items }
+    ensures len { vec_len staged.new ≡ vec_len staged.old }
+    ensures place { OnOk result (vec_len staged.new < vec_capacity staged.new) }
+    ensures rooms { OnOk result (rooms.new.rooms ≡ rooms_after zones.now change.now rooms.old.rooms) }
+    ensures kept { rooms.new.kept ≡ rooms.old.kept }
+{
+    staged.reserve(1)?;
+    rooms.follow(zones, change)
 }
 
 // Puts the entries of these changes at the end.
@@ -133,6 +163,18 @@ impl AccountView for Ledger {
         has_event(self, calendar)
     }
 
+    fn resources(&self, alloc: Global) -> Result<Vec<u64>, AllocError> {
+        self.rooms.calendars(alloc)
+    }
+
+    fn bookings(&self, calendar: u64, event: u64) -> usize {
+        self.rooms.bookings(calendar, event)
+    }
+
+    fn clash(&self, calendar: u64, event: u64, series: &Series) -> Option<Clash> {
+        self.rooms.clash(calendar, event, series)
+    }
+
     fn created_so_far(&self, kind: Kind) -> u64 {
         self.tally.created(kind)
     }
@@ -157,14 +199,16 @@ impl AccountView for Ledger {
     }
 
     fn stage(&mut self, change: Change, size: usize) -> Result<(), AllocError> {
-        match self.staged.reserve(1) {
+        match follow(&mut self.staged, &mut self.rooms, &self.zones, &change) {
             Ok(()) => {
                 self.tally.count(change.kind, change.id, size);
                 self.staged.push_reserved(change);
                 Ok(())
             }
             Err(error) => {
-                self.forget();
+                self.staged.clear();
+                self.tally = self.kept;
+                self.rooms.undo();
                 Err(error)
             }
         }
@@ -173,5 +217,6 @@ impl AccountView for Ledger {
     fn forget(&mut self) {
         self.staged.clear();
         self.tally = self.kept;
+        self.rooms.undo();
     }
 }

@@ -13,3 +13,7 @@ loop-i-preserved c = record {
   kept = same_kept c.loop-i.slots.items c.loop-i.i c.index_mut.result.now c.book.new.self (c.book.ensures.kept ∙ ap room_kept c.index_mut.ensures.value) ∙ c.loop-i.invariant.kept;
   len = c.loop-i.invariant.len;
 }
+
+pub returns-in_err-book-clause-kept : goal.returns-in_err-book-clause-kept
+returns-in_err-book-clause-kept c =
+    same_kept c.loop-i.slots.items c.loop-i.i c.index_mut.result.now c.book.new.self (c.book.ensures.kept ∙ ap room_kept c.index_mut.ensures.value) ∙ c.loop-i.invariant.kept
