@@ -46,11 +46,11 @@ impl Model for Account {
 
 impl Account {
     ghost use Rattle.std.specs.Arc.{arc_value};
-    ghost use Rattle.std.specs.Prelude.{ℕ, ℤ, IfNone, option_map, true};
-    ghost use Rattle.account_rooms.specs.Covered.{IsCoveredTwice};
+    ghost use Rattle.std.specs.Prelude.{IfNone, option_map, true};
+    ghost use Rattle.account_rooms.specs.Covered.{AreCoveredOnce};
     ghost use Rattle.account_rooms.specs.Rooms.{AreFree};
     ghost use Rattle.model_history.specs.History.{changes_of};
-    ghost use Rattle.model_resource.specs.Bookings.{bookings_of, other_bookings};
+    ghost use Rattle.model_resource.specs.Bookings.{other_bookings};
     ghost use Rattle.model_resource.specs.Resources.{is_resource};
     ghost use Rattle.model_room.specs.Clashes.{IsClash, IsClear, first_clash, second_of};
     ghost use Rattle.model_series.specs.Lengths.{IsWeekLong};
@@ -69,7 +69,7 @@ impl Account {
     /// It is so of each account, whatever sets it took, and this call does nothing.
     pub fn is_never_booked_twice(&self)
         ensures free { AreFree self.now.0.zones (changes_of self.now.1) }
-        ensures occurrences { (n : ℕ) (x : ℤ) → is_resource (changes_of self.now.1) n ≡ true → IsCoveredTwice (bookings_of self.now.0.zones (changes_of self.now.1) n) x → ⊥ }
+        ensures occurrences { AreCoveredOnce self.now.0.zones (changes_of self.now.1) }
     {
         self.ledger.is_never_booked_twice();
     }

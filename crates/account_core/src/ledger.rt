@@ -1,12 +1,18 @@
 //! The history of an account with the changes that a call is about to make.
-ghost use Rattle.std.specs.Prelude.{◌≡◌, ◌<◌, ◌≤◌, ◌^◌, ◌++◌, [], OnErr, OnOk, length, vec_capacity, vec_len};
+ghost use Rattle.std.specs.Prelude.{◌≡◌, ◌<◌, ◌≤◌, ◌^◌, ◌++◌, [], IfNone, OnErr, OnOk, length, option_map, true, vec_capacity, vec_len};
 ghost use Rattle.std.specs.Arc.{arc_value};
 ghost use Rattle.account_core.specs.Tally.{Tallies};
 ghost use Rattle.account_rooms.specs.RoomChanges.{MayChange, rooms_after};
-ghost use Rattle.account_rooms.specs.Rooms.{AreRooms};
+ghost use Rattle.account_rooms.specs.Covered.{AreCoveredOnce};
+ghost use Rattle.account_rooms.specs.Rooms.{AreFree, AreRooms};
 ghost use Rattle.account_store.specs.Store.{entries, spare};
 ghost use Rattle.cal_model.specs.Answer.{entries_from};
 ghost use Rattle.model_history.specs.History.{changes_of};
+ghost use Rattle.model_resource.specs.Bookings.{other_bookings};
+ghost use Rattle.model_resource.specs.Resources.{is_resource};
+ghost use Rattle.model_room.specs.Clashes.{IsClash, IsClear, first_clash, second_of};
+ghost use Rattle.model_series.specs.Lengths.{IsWeekLong};
+ghost use Rattle.rule_expand.specs.Least.{IsLeastOf};
 
 use crate::tally::Tally;
 use crate::uses::has_event;
@@ -49,7 +55,6 @@ pub struct Ledger {
 impl Ledger {
     ghost use Rattle.account_core.specs.Ledger.{base, history, ledger_entries, staged};
     ghost use Rattle.model_history.specs.Base.{Base};
-    ghost use Rattle.std.specs.Arc.{arc_value};
 
     /// A ledger of an account of this id, with these zones and no entries. Takes no memory.
     pub fn new(alloc: Global, id: Text, zones: Arc<Zones>) -> Ledger
@@ -97,6 +102,23 @@ impl Ledger {
         push_all(&mut self.store, stamp, staged);
         self.kept = self.tally;
         self.rooms.keep();
+    }
+
+    /// No second of a live resource calendar is covered by two different occurrences of its bookings. This call does nothing.
+    pub fn is_never_booked_twice(&self)
+        ensures free { AreFree (base self.now).zones (history self.now) }
+        ensures occurrences { AreCoveredOnce (base self.now).zones (history self.now) }
+    {}
+
+    /// The first clash of a series with itself or with the bookings of others in a live resource calendar. Takes no memory.
+    pub fn first_clash(&self, calendar: u64, event: u64, series: &Series) -> Option<Clash>
+        requires resource { is_resource (history self.now ++ staged self.now) calendar ≡ true }
+        requires week { IsWeekLong series.now }
+        ensures exact { result ≡ first_clash (other_bookings (base self.now).zones (history self.now ++ staged self.now) event calendar) series.now }
+        ensures clear { IfNone result (IsClear (other_bookings (base self.now).zones (history self.now ++ staged self.now) event calendar) series.now) }
+        ensures least { IsLeastOf (IsClash (other_bookings (base self.now).zones (history self.now ++ staged self.now) event calendar) series.now) (option_map second_of result) }
+    {
+        self.rooms.clash(calendar, event, series)
     }
 }
 
@@ -172,7 +194,7 @@ impl AccountView for Ledger {
     }
 
     fn clash(&self, calendar: u64, event: u64, series: &Series) -> Option<Clash> {
-        self.rooms.clash(calendar, event, series)
+        self.first_clash(calendar, event, series)
     }
 
     fn created_so_far(&self, kind: Kind) -> u64 {
