@@ -1,9 +1,9 @@
 -- The rooms of a ledger after a step.
-use Rattle.std.proofs.Common.{◌≡◌, List, [], ◌∷◌, ◌++◌, ap, append-nil, append_assoc, false, subst, sym, ◌∙◌}
+use Rattle.std.proofs.Common.{◌≡◌, ℕ, List, [], ◌∷◌, ◌++◌, ap, append-nil, append_assoc, false, map, subst, sym, true, ◌∙◌}
 use Rattle.account_core.proofs.Committing.{changes_committed}
-use Rattle.account_rooms.proofs.Following.{rooms_more}
+use Rattle.account_rooms.proofs.Following.{bookings_of_room, calendars_of_rooms, room_of_resource, rooms_more}
 use Rattle.account_rooms.specs.RoomChanges.{rooms_after}
-use Rattle.account_rooms.specs.Rooms.{AreRooms, BookedRoom}
+use Rattle.account_rooms.specs.Rooms.{AreRooms, BookedRoom, bookings_in, has_room}
 use Rattle.account_rooms.specs.RoomsView.{RoomsView}
 use Rattle.cal_model.specs.Answer.{entries_from}
 use Rattle.cal_model.specs.Fits.{IsFit}
@@ -13,6 +13,8 @@ use Rattle.model_history.specs.declared.entry.Change.{Change}
 use Rattle.model_history.specs.declared.entry.Entry.{Entry}
 use Rattle.model_history.specs.declared.entry.Kind.TheVariants.{Calendar}
 use Rattle.model_history.specs.declared.stamp.Stamp.{Stamp}
+use Rattle.model_resource.specs.Bookings.{bookings_of}
+use Rattle.model_resource.specs.Resources.{is_resource, resources_at}
 use Rattle.model_site.specs.TimeZones.{ZoneText}
 
 -- where nothing is staged
@@ -32,3 +34,14 @@ one_staged zones cs staged more c rs qs h fit new is after =
 pub rooms_committed : (zones : List ZoneText) (h h' : List Entry) (s : Stamp) (cs : List Change) (rs qs : List BookedRoom) → AreRooms zones (changes_of h ++ cs) rs → h' ≡ h ++ entries_from s 0 cs → qs ≡ rs
     → AreRooms zones (changes_of h') qs
 rooms_committed zones h h' s cs rs qs rooms is same = same_rooms zones (changes_of h ++ cs) (changes_of h') rs qs rooms (changes_committed h h' s cs is) same
+
+-- What rooms tell.
+
+pub room_is_there : (zones : List ZoneText) (cs : List Change) (rs : List BookedRoom) (n : ℕ) → AreRooms zones cs rs → is_resource cs n ≡ true → has_room n rs ≡ true
+room_is_there zones cs rs n h resource = ap (has_room n) h.rooms ∙ room_of_resource zones cs n resource
+
+pub room_is_found : (zones : List ZoneText) (cs : List Change) (rs : List BookedRoom) (n : ℕ) → AreRooms zones cs rs → is_resource cs n ≡ true → bookings_in n rs ≡ bookings_of zones cs n
+room_is_found zones cs rs n h resource = ap (bookings_in n) h.rooms ∙ bookings_of_room zones cs n resource
+
+pub resources_are_listed : (zones : List ZoneText) (cs : List Change) (rs : List BookedRoom) → AreRooms zones cs rs → map (λ (r : BookedRoom). r.calendar) rs ≡ resources_at cs
+resources_are_listed zones cs rs h = ap (map (λ (r : BookedRoom). r.calendar)) h.rooms ∙ calendars_of_rooms zones cs (resources_at cs)
