@@ -12,6 +12,8 @@ use model_call::call::{Asks, Call, MethodError, Reply};
 use model_history::book::Book;
 use model_history::stamp::Stamp;
 use model_json::text::Text;
+use model_room::clash::Clash;
+use model_series::series::Series;
 use model_time::moment::Moment;
 use set_methods::request::SetRequest;
 use std::alloc::{AllocError, Global};
@@ -44,6 +46,15 @@ impl Model for Account {
 
 impl Account {
     ghost use Rattle.std.specs.Arc.{arc_value};
+    ghost use Rattle.std.specs.Prelude.{IfNone, option_map, true};
+    ghost use Rattle.account_rooms.specs.Covered.{AreCoveredOnce};
+    ghost use Rattle.account_rooms.specs.Rooms.{AreFree};
+    ghost use Rattle.model_history.specs.History.{changes_of};
+    ghost use Rattle.model_resource.specs.Bookings.{other_bookings};
+    ghost use Rattle.model_resource.specs.Resources.{is_resource};
+    ghost use Rattle.model_room.specs.Clashes.{IsClash, IsClear, first_clash, second_of};
+    ghost use Rattle.model_series.specs.Lengths.{IsWeekLong};
+    ghost use Rattle.rule_expand.specs.Least.{IsLeastOf};
 
     /// An account of this id, with these zones and no entries. Takes no memory.
     pub fn open(alloc: Global, id: Text, zones: Arc<Zones>) -> Result<Account, AllocError>
@@ -52,6 +63,28 @@ impl Account {
         Ok(Account {
             ledger: Ledger::new(alloc, id, zones),
         })
+    }
+
+    /// No second of a live resource calendar is covered by two different occurrences of its bookings, over all days without end.
+    /// It is so of each account, whatever sets it took, and this call does nothing.
+    pub fn is_never_booked_twice(&self)
+        ensures free { AreFree self.now.0.zones (changes_of self.now.1) }
+        ensures occurrences { AreCoveredOnce self.now.0.zones (changes_of self.now.1) }
+    {
+        self.ledger.is_never_booked_twice();
+    }
+
+    /// The first second, over all days without end, that an occurrence of a series covers and that a different occurrence covers too,
+    /// of the series or of a booking of a live resource calendar beside that of an event; or `None` where there is no such second.
+    /// No occurrence of the series lasts longer than 7 days. Takes no memory.
+    pub fn first_clash(&self, calendar: u64, event: u64, series: &Series) -> Option<Clash>
+        requires resource { is_resource (changes_of self.now.1) calendar ≡ true }
+        requires week { IsWeekLong series.now }
+        ensures exact { result ≡ first_clash (other_bookings self.now.0.zones (changes_of self.now.1) event calendar) series.now }
+        ensures clear { IfNone result (IsClear (other_bookings self.now.0.zones (changes_of self.now.1) event calendar) series.now) }
+        ensures least { IsLeastOf (IsClash (other_bookings self.now.0.zones (changes_of self.now.1) event calendar) series.now) (option_map second_of result) }
+    {
+        self.ledger.first_clash(calendar, event, series)
     }
 }
 
