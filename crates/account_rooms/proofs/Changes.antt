@@ -1,7 +1,6 @@
 -- What one change more says.
-use Rattle.std.proofs.Common.{◌≡◌, ◌==◌, Bool, true, false, cond, ℕ, List, [], ◌∷◌, ◌++◌, Option, None, Some, is_some, option_and_then, if◌then◌else◌, refl, sym, ap, ◌∙◌}
-use Rattle.std.proofs.lemmas.Bool.{false≢true}
-use Rattle.model_history.specs.History.{ids_at, ids_from, is_kind, live_object, names, object_from, with_id}
+use Rattle.std.proofs.Common.{◌≡◌, ◌==◌, Bool, true, false, cond, ℕ, List, [], ◌∷◌, ◌++◌, Option, None, is_some, option_and_then, if◌then◌else◌, refl, ap, ◌∙◌}
+use Rattle.model_history.specs.History.{ids_from, is_kind, live_object, names, object_from, with_id}
 use Rattle.model_history.specs.Pages.{is_in}
 use Rattle.model_history.specs.declared.entry.Change.{Change}
 use Rattle.model_history.specs.declared.entry.Kind.{Kind}

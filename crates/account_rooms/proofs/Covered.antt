@@ -1,14 +1,12 @@
 -- Bookings of which no second is covered twice, as a fact over occurrences.
-use Rattle.std.proofs.Common.{◌≡◌, ◌<◌, ◌⊎◌, inl, inr, ◌&&◌, ◌||◌, Bool, true, false, ℕ, zero, suc, ℤ, List, [], ◌∷◌, Option, Some, slice_get, arith, refl, sym, ap, ◌∙◌, subst}
+use Rattle.std.proofs.Common.{◌≡◌, ◌<◌, ◌⊎◌, inl, inr, ◌&&◌, ◌||◌, Bool, true, false, ℕ, zero, suc, ℤ, List, [], ◌∷◌, Some, slice_get, arith, refl, sym, ap, ◌∙◌, subst}
 use Rattle.std.proofs.lemmas.Bool.{false≢true}
 use Rattle.std.proofs.lemmas.Option.{same_Some}
 use Rattle.account_rooms.specs.Covered.{IsCoveredTwice}
 use Rattle.model_room.specs.Clashes.{any_covers}
 use Rattle.model_room.specs.declared.booking.Booking.{Booking}
-use Rattle.model_series.specs.Occurrences.{Covers, IsOccurrence}
-use Rattle.model_series.specs.Shared.{IsSelfShared, covers, covers_twice}
-use Rattle.model_series.specs.declared.occurrence.Occurrence.{Occurrence}
-use Rattle.model_series.specs.declared.series.Series.{Series}
+use Rattle.model_series.specs.Occurrences.{IsOccurrence}
+use Rattle.model_series.specs.Shared.{covers, covers_twice}
 use Rattle.residue_clash.proofs.Covering.{covers_is, covers_twice_is}
 use Rattle.room_history.specs.Free.{IsFree, is_double}
 
@@ -59,8 +57,10 @@ not_covered_twice bs x free (i, j, a, b, o, p, at_i, at_j, of_a, of_b, differ, o
   where
     by_a : covers a.series x ≡ true
     by_a = (covers_is a.series x).1 (o, (of_a, over_o))
+
     by_b : covers b.series x ≡ true
     by_b = (covers_is b.series x).1 (p, (of_b, over_p))
+
     one : i ≡ j → is_double bs x ≡ true
     one same =
         let here : b ≡ a = same_Some b a (sym at_j ∙ ap (slice_get bs) (sym same) ∙ at_i) in

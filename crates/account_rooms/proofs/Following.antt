@@ -1,18 +1,17 @@
 -- The rooms of an account after a change that fits.
-use Rattle.std.proofs.Common.{◌≡◌, ◌≤◌, ◌⊎◌, inl, inr, ◌==◌, ◌&&◌, ◌||◌, Bool, true, false, not, cond, ℕ, List, [], ◌∷◌, ◌++◌, Option, None, Some, filter, is_some, length, map, option_and_then, if◌then◌else◌, arith, refl, sym, ap, subst, ◌∙◌, append-nil}
+use Rattle.std.proofs.Common.{◌≡◌, ◌≤◌, ◌⊎◌, inl, inr, ◌==◌, ◌&&◌, ◌||◌, Bool, true, false, not, cond, ℕ, List, [], ◌∷◌, ◌++◌, Option, None, Some, filter, is_some, length, map, if◌then◌else◌, arith, refl, sym, ap, subst, ◌∙◌, append-nil}
 use Rattle.std.proofs.lemmas.Bool.{false≢true}
-use Rattle.std.proofs.lemmas.Bool.Decides.{nat_tests}
 use Rattle.std.proofs.lemmas.List.Elements.{filter-append}
-use Rattle.std.specs.List.{list_all, list_any}
+use Rattle.std.specs.List.{list_all}
 use Rattle.account_rooms.proofs.Changes.{calendar_bookings, calendar_now, change, event_bookings, event_leaves_calendars, event_leaves_resources, ids_from-push, is_of_resource, resource_now, with_known, with_new}
 use Rattle.account_rooms.proofs.Counts.{length-with, length-without}
 use Rattle.account_rooms.proofs.Numbers.{any_object, filter_gone, filter_same, filter_without, not_in_filter}
 use Rattle.account_rooms.specs.RoomChanges.{MayChange, booked_again, rooms_after, rooms_by, with_room, without_room}
 use Rattle.account_rooms.specs.Rooms.{AreFree, AreRooms, BookedRoom, bookings_in, has_room, room_at, rooms_at}
 use Rattle.cal_model.specs.EventObject.{has_event, names_missing_calendar}
-use Rattle.cal_model.specs.Fits.{IsBookable, IsEventFit, IsFit, IsObjectFit}
+use Rattle.cal_model.specs.Fits.{IsFit, IsObjectFit}
 use Rattle.model_event.specs.Events.{calendars_of, names_calendar}
-use Rattle.model_history.specs.History.{ids_at, is_kind, live_object, next_number, with_id}
+use Rattle.model_history.specs.History.{ids_at, live_object, next_number, with_id}
 use Rattle.model_history.specs.Pages.{is_in}
 use Rattle.model_history.specs.declared.entry.Change.{Change}
 use Rattle.model_history.specs.declared.entry.Kind.{Kind}
@@ -107,8 +106,8 @@ event_free zones cs id None free fit n r = λ x. double-without id (bookings_of 
 event_free zones cs id (Some t) free fit n r =
     booked_by_cases IsFree zones n id t (without_booking id (bookings_of zones cs n))
     (λ named.
-        let takes = fit.bookings n named r in
-        rw takes.valid (λ x. double-with id takes.series (without_booking id (bookings_of zones cs n)) x (double-without id (bookings_of zones cs n) x (free n r x)) (takes.clear x)))
+    let takes = fit.bookings n named r in
+    rw takes.valid (λ x. double-with id takes.series (without_booking id (bookings_of zones cs n)) x (double-without id (bookings_of zones cs n) x (free n r x)) (takes.clear x)))
     (λ x. double-without id (bookings_of zones cs n) x (free n r x))
 
 event_few : (zones : List ZoneText) (cs : List Change) (id : ℕ) (o : Option Tree) → IsObjectFit zones cs Event id o → (n : ℕ) → is_resource cs n ≡ true → length (bookings_of zones cs n) ≤ MAX_BOOKINGS
@@ -117,8 +116,8 @@ event_few zones cs id None fit n r few = omega (arith, length-without id (bookin
 event_few zones cs id (Some t) fit n r few =
     booked_by_cases (λ bs. length bs ≤ MAX_BOOKINGS) zones n id t (without_booking id (bookings_of zones cs n))
     (λ named.
-        let takes = fit.bookings n named r in
-        rw takes.valid (omega (arith, length-with id takes.series (without_booking id (bookings_of zones cs n)), takes.room)))
+    let takes = fit.bookings n named r in
+    rw takes.valid (omega (arith, length-with id takes.series (without_booking id (bookings_of zones cs n)), takes.room)))
     (omega (arith, length-without id (bookings_of zones cs n), few))
 
 and_parts : (a b : Bool) → (a && b) ≡ true → (a ≡ true) × (b ≡ true)
@@ -143,7 +142,7 @@ not_false false h = sym h
 named_is_live : (cs : List Change) (t : Tree) (n : ℕ) → names_missing_calendar cs (data_of t) ≡ false → names_calendar n (data_of t) ≡ true → live_object cs Calendar n ≡ None → ⊥
 named_is_live cs t n h named gone =
     let live : is_some (live_object cs Calendar n) ≡ true =
-        all_of (λ m. is_some (live_object cs Calendar m)) (calendars_of (data_of t)) n (not_false (list_all (λ m. is_some (live_object cs Calendar m)) (calendars_of (data_of t))) h) named in
+    all_of (λ m. is_some (live_object cs Calendar m)) (calendars_of (data_of t)) n (not_false (list_all (λ m. is_some (live_object cs Calendar m)) (calendars_of (data_of t))) h) named in
     false≢true (sym (ap is_some gone) ∙ live)
 
 event_none : (zones : List ZoneText) (cs : List Change) (id : ℕ) (o : Option Tree) → IsObjectFit zones cs Event id o → (n : ℕ) → live_object cs Calendar n ≡ None → bookings_of zones cs n ≡ []
@@ -174,6 +173,7 @@ not_booked zones cs n none m = each_is (booked_in zones n) cs m ∙ by_cases (li
   where
     listed : (t : Tree) → live_object cs Event m ≡ Some t → names_calendar n (data_of t) ≡ true → has_event cs n ≡ true
     listed t e named = any_object (live_object cs Event) (λ t. names_calendar n (data_of t)) (ids_at cs Event) m t (live_is_numbered cs Event m (ap is_some e)) e named
+
     by_cases : (o : Option Tree) → live_object cs Event m ≡ o → booked_by (booked_in zones n) o ≡ None
     by_cases None e = refl
     by_cases (Some t) e =
@@ -209,6 +209,7 @@ removed_resources cs id = resources_after cs id None ∙ by_cases (is_in (ids_at
   where
     unnamed : (n : ℕ) → (n == id) ≡ true → filter (is_resource_after cs id None) (n ∷ []) ≡ []
     unnamed n e = rw e refl
+
     by_cases : (known : Bool) → is_in (ids_at cs Calendar) id ≡ known → filter (is_resource_after cs id None) (with_id (ids_at cs Calendar) id) ≡ filter (λ n. not (n == id)) (resources_at cs)
     by_cases true e = ap (filter (is_resource_after cs id None)) (with_known (ids_at cs Calendar) id e) ∙ filter_gone (is_resource cs) id (ids_at cs Calendar)
     by_cases false e =
@@ -246,8 +247,10 @@ created_rooms zones cs id t none new = by_cases (is_some (zone_of_resource t)) r
         ∙ ap (filter (is_resource_after cs id (Some t))) (with_new (ids_at cs Calendar) id new)
         ∙ filter-append (is_resource_after cs id (Some t)) (ids_at cs Calendar) (id ∷ [])
         ∙ ap (λ ns. ns ++ filter (is_resource_after cs id (Some t)) (id ∷ [])) (filter_without (is_resource cs) (is_some (zone_of_resource t)) id (ids_at cs Calendar) new)
+
     tested : (n : ℕ) (z : Bool) → (n == id) ≡ true → is_some (zone_of_resource t) ≡ z → filter (is_resource_after cs id (Some t)) (n ∷ []) ≡ (if z then n ∷ [] else [])
     tested n z e f = rw (e, f) refl
+
     by_cases : (z : Bool) → is_some (zone_of_resource t) ≡ z
         → rooms_by zones Calendar id (Some t) (rooms_at zones cs) ≡ map (room_at zones cs) (resources_at cs ++ filter (is_resource_after cs id (Some t)) (id ∷ []))
     by_cases true e =
@@ -266,11 +269,13 @@ updated_rooms zones cs id t known same = by_cases (is_resource cs id) refl ∙ s
   where
     tested : (n : ℕ) → is_resource_after cs id (Some t) n ≡ is_resource cs n
     tested n = by_test (λ b. b ≡ is_resource cs n) (n == id) (is_some (zone_of_resource t)) (is_resource cs n) (λ e. same ∙ ap (is_resource cs) (sym (same_number n id e))) (λ e. refl)
+
     listed : resources_at (calendar_after cs id (Some t)) ≡ resources_at cs
     listed =
         resources_after cs id (Some t)
         ∙ ap (filter (is_resource_after cs id (Some t))) (with_known (ids_at cs Calendar) id known)
         ∙ filter_same (is_resource_after cs id (Some t)) (is_resource cs) (ids_at cs Calendar) tested
+
     by_cases : (z : Bool) → is_resource cs id ≡ z → rooms_by zones Calendar id (Some t) (rooms_at zones cs) ≡ rooms_at zones cs
     by_cases true e =
         ap (λ z. if z then with_room id (rooms_at zones cs) else rooms_at zones cs) (same ∙ e)
@@ -292,6 +297,7 @@ each_resource P zones cs rs id o h fit new empty each n r = subst P (sym (calend
     put : (q : Option Tree) → IsObjectFit zones cs Calendar id q → is_of_resource q ≡ true → P (bookings_of zones cs id)
     put None f z = absurd (false≢true z)
     put (Some t) f z = elim (put_resource zones cs rs id t h f new z) [ inl none ↦ subst P (sym none) empty | inr resource ↦ each id resource ]
+
     by_cases : (same : Bool) → (n == id) ≡ same → (if same then is_of_resource o else is_resource cs n) ≡ true → P (bookings_of zones cs n)
     by_cases true e z = subst (λ m. P (bookings_of zones cs m)) (sym (same_number n id e)) (put o fit z)
     by_cases false e z = each n z
@@ -302,9 +308,11 @@ calendar_none zones cs id o none fit n gone = calendar_bookings zones cs id o n 
   where
     some_none : (t : Tree) → Some t ≡ None → ⊥
     some_none t e = cc e
+
     removed : (q : Option Tree) → IsObjectFit zones cs Calendar id q → q ≡ None → bookings_of zones cs id ≡ []
     removed None f e = nothing_booked (bookings_of zones cs id) (not_booked zones cs id f)
     removed (Some t) f e = absurd (some_none t e)
+
     by_cases : (same : Bool) → (n == id) ≡ same → (if same then o else live_object cs Calendar n) ≡ None → bookings_of zones cs n ≡ []
     by_cases true e g = ap (bookings_of zones cs) (same_number n id e) ∙ removed o fit g
     by_cases false e g = none n g
@@ -317,6 +325,7 @@ put_rooms zones cs rs id (Some t) h fit number new = elim number [ inl next ↦ 
   where
     created : is_in (ids_at cs Calendar) id ≡ false → rooms_by zones Calendar id (Some t) (rooms_at zones cs) ≡ rooms_at zones (calendar_after cs id (Some t))
     created unknown = created_rooms zones cs id t (h.none id (not_live cs id unknown)) unknown
+
     there : is_some (live_object cs Calendar id) ≡ true → (id ≡ next_number cs Calendar) ⊎ (is_some (zone_of_resource t) ≡ is_resource cs id)
         → rooms_by zones Calendar id (Some t) (rooms_at zones cs) ≡ rooms_at zones (calendar_after cs id (Some t))
     there live (inl next) = created (ap (is_in (ids_at cs Calendar)) next ∙ new)

@@ -1,7 +1,6 @@
 -- Numbers that pass a test.
-use Rattle.std.proofs.Common.{◌≡◌, ◌==◌, ◌||◌, Bool, true, false, not, cond, ℕ, List, [], ◌∷◌, ◌++◌, Option, None, Some, filter, flat_map, if◌then◌else◌, arith, refl, sym, ap, ◌∙◌}
+use Rattle.std.proofs.Common.{◌≡◌, ◌==◌, ◌||◌, Bool, true, false, not, cond, ℕ, List, [], ◌∷◌, Option, Some, filter, flat_map, if◌then◌else◌, refl, sym, ap, ◌∙◌}
 use Rattle.std.proofs.lemmas.Bool.{false≢true}
-use Rattle.std.proofs.lemmas.Bool.Decides.{nat_tests}
 use Rattle.std.proofs.lemmas.List.Folds.{list_any-append}
 use Rattle.std.specs.List.{list_any}
 use Rattle.model_history.specs.History.{some_object}
@@ -53,6 +52,7 @@ any_object at p (n ∷ ns) id t h e passes = list_any-append p (some_object (at 
     or_right : (a b : Bool) → b ≡ true → (a || b) ≡ true
     or_right true b g = refl
     or_right false b g = g
+
     by_cases : (same : Bool) → (n == id) ≡ same → (same || is_in ns id) ≡ true → (is_in ns id ≡ true → list_any p (flat_map (λ n. some_object (at n)) ns) ≡ true)
         → (list_any p (some_object (at n)) || list_any p (flat_map (λ n. some_object (at n)) ns)) ≡ true
     by_cases true f g rest = rw (same_number n id f, e, passes) refl

@@ -1,12 +1,12 @@
 -- Lists of slots, one step after the other.
-use Rattle.std.proofs.Common.{◌≡◌, ◌+◌, ◌<◌, ◌==◌, ◌&&◌, ◌||◌, Bool, true, false, cond, ℕ, zero, suc, List, [], ◌∷◌, ◌++◌, Some, add-one, arith, drop, filter, get_or, length, map, refl, set, subst, sym, take, ap, ◌∙◌, if◌then◌else◌}
+use Rattle.std.proofs.Common.{◌≡◌, ◌+◌, ◌<◌, ◌==◌, ◌&&◌, ◌||◌, Bool, true, false, ℕ, zero, suc, List, [], ◌∷◌, ◌++◌, Some, add-one, arith, drop, filter, get_or, length, map, refl, set, subst, sym, take, ap, ◌∙◌}
 use Rattle.std.proofs.lemmas.Bool.{false≢true}
 use Rattle.std.proofs.lemmas.Option.{same_Some}
 use Rattle.std.specs.List.{list_any}
 use Rattle.account_rooms.specs.RoomChanges.{HasShortSeries, booked_again, without_room}
-use Rattle.account_rooms.specs.Rooms.{BookedRoom, bookings_in, has_room}
+use Rattle.account_rooms.specs.Rooms.{BookedRoom, has_room}
 use Rattle.account_rooms.specs.RoomsView.{RoomsView}
-use Rattle.account_rooms.specs.Slots.{booked, closed, kept_slot, retired, room_kept, room_now, rooms_kept, rooms_now, takes, undone}
+use Rattle.account_rooms.specs.Slots.{booked, closed, kept_slot, retired, room_kept, room_now, rooms_kept, rooms_now, is_booked_by, undone}
 use Rattle.account_rooms.specs.declared.slot.Slot.{Slot}
 use Rattle.model_event.specs.Events.{names_calendar}
 use Rattle.model_json.specs.TreeData.{data_of}
@@ -152,11 +152,11 @@ not_taken_one zones n t m r true false ss e g h = rw e (ap (λ rs. room_without 
 not_taken_one zones n t m r false named ss e g h = h
 
 -- an event that is in no calendar that has a room
-pub not_taken : (zones : List ZoneText) (n : ℕ) (t : Tree) (ss : List Slot) → list_any (takes (data_of t)) (map (retired n) ss) ≡ false
+pub not_taken : (zones : List ZoneText) (n : ℕ) (t : Tree) (ss : List Slot) → list_any (is_booked_by (data_of t)) (map (retired n) ss) ≡ false
     → rooms_now (map (retired n) ss) ≡ map (booked_again zones n (Some t)) (rooms_now ss)
 not_taken zones n t [] h = refl
 not_taken zones n t (s ∷ ss) h =
-    let parts = or_false (takes (data_of t) (retired n s)) (list_any (takes (data_of t)) (map (retired n) ss)) h in
+    let parts = or_false (is_booked_by (data_of t) (retired n s)) (list_any (is_booked_by (data_of t)) (map (retired n) ss)) h in
     not_taken_one zones n t s.calendar s.room s.live (names_calendar s.calendar (data_of t)) ss refl parts.0 (not_taken zones n t ss parts.1)
 
 taken_one : (zones : List ZoneText) (n : ℕ) (t : Tree) (series : Series) (m : ℕ) (r : RoomView) (lives named : Bool) (ss : List Slot) → names_calendar m (data_of t) ≡ named
@@ -187,10 +187,10 @@ short_one zones t m r true false there ss e h may rest = rest (λ k g. may k (or
 short_one zones t m r false named there ss e h may rest = rest may h
 
 -- an event that is in a calendar that has a room has a series that may be booked
-pub short_series : (zones : List ZoneText) (n : ℕ) (t : Tree) (ss : List Slot) → MayBook zones (rooms_now ss) t → list_any (takes (data_of t)) (map (retired n) ss) ≡ true → HasShortSeries zones (data_of t)
+pub short_series : (zones : List ZoneText) (n : ℕ) (t : Tree) (ss : List Slot) → MayBook zones (rooms_now ss) t → list_any (is_booked_by (data_of t)) (map (retired n) ss) ≡ true → HasShortSeries zones (data_of t)
 short_series zones n t [] may h = absurd (false≢true h)
 short_series zones n t (s ∷ ss) may h =
-    short_one zones t s.calendar s.room s.live (names_calendar s.calendar (data_of t)) (list_any (takes (data_of t)) (map (retired n) ss)) ss refl h may (λ more. short_series zones n t ss more)
+    short_one zones t s.calendar s.room s.live (names_calendar s.calendar (data_of t)) (list_any (is_booked_by (data_of t)) (map (retired n) ss)) ss refl h may (λ more. short_series zones n t ss more)
 
 pub week_of : (zones : List ZoneText) (t : Tree) (series : Series) → HasShortSeries zones (data_of t) → series_in zones (data_of t) ≡ Some series → IsWeekLong series
 week_of zones t series short is = subst IsWeekLong (same_Some short.series series (sym short.valid ∙ is)) short.week

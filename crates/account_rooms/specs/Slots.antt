@@ -1,5 +1,5 @@
 -- The rooms that slots hold, and slots after a step.
-use Rattle.std.specs.Prelude.{ℕ, ◌==◌, ◌&&◌, Bool, true, false, not, List, None, filter, map, if◌then◌else◌}
+use Rattle.std.specs.Prelude.{ℕ, ◌==◌, ◌&&◌, Bool, true, false, List, None, filter, map, if◌then◌else◌}
 use Rattle.account_rooms.specs.Rooms.{BookedRoom}
 use Rattle.account_rooms.specs.declared.slot.Slot.{Slot}
 use Rattle.model_event.specs.Events.{names_calendar}
@@ -31,12 +31,12 @@ abbrev pub retired : ℕ → Slot → Slot
 retired n s = holding (without_booking n s.room.bookings) s
 
 -- the event is in the calendar, which is live
-abbrev pub takes : Data → Slot → Bool
-takes d s = s.live && names_calendar s.calendar d
+abbrev pub is_booked_by : Data → Slot → Bool
+is_booked_by d s = s.live && names_calendar s.calendar d
 
 -- with the booking of an event, where it is in the calendar
 abbrev pub booked : ℕ → Data → Series → Slot → Slot
-booked n d series s = if takes d s then holding (with_booking n series s.room.bookings) s else s
+booked n d series s = if is_booked_by d s then holding (with_booking n series s.room.bookings) s else s
 
 -- not live any more, where it is of this calendar
 abbrev pub closed : ℕ → Slot → Slot

@@ -12,7 +12,10 @@ ghost use Rattle.model_series.specs.Lengths.{IsWeekLong};
 ghost use Rattle.rule_expand.specs.Least.{IsLeastOf};
 ghost use Rattle.std.specs.List.{list_any};
 
-use crate::slot::{Slot, book_in_all, calendars_of, close, drop_closed, keep_all, retire_in_all, slot_of, takes_any, undo_all};
+use crate::slot::{
+    Slot, book_in_all, calendars_of, close, drop_closed, is_in_any, keep_all, retire_in_all,
+    slot_of, undo_all,
+};
 use event_series::read::series_of;
 use model_history::entry::{Change, Kind};
 use model_json::tree::Tree;
@@ -177,7 +180,7 @@ impl Rooms {
         ensures kept { self.new.kept ≡ self.old.kept }
     {
         retire_in_all(&mut self.slots, number);
-        if !takes_any(&self.slots, event) {
+        if !is_in_any(&self.slots, event) {
             return Ok(());
         }
         let series = series_of(self.alloc, event, zones)?;

@@ -2,7 +2,7 @@
 ghost use Rattle.std.specs.Prelude.{◌≡◌, IfNone, IfOk, IfSome, OnOk, false, filter, map, true, vec_len};
 ghost use Rattle.std.specs.List.{list_any};
 ghost use Rattle.account_rooms.specs.Rooms.{bookings_in, has_room};
-ghost use Rattle.account_rooms.specs.Slots.{booked, closed, kept_slot, retired, room_kept, rooms_kept, rooms_now, takes, undone};
+ghost use Rattle.account_rooms.specs.Slots.{booked, closed, kept_slot, retired, room_kept, rooms_kept, rooms_now, is_booked_by, undone};
 ghost use Rattle.model_json.specs.TreeData.{data_of};
 ghost use Rattle.model_series.specs.Lengths.{IsWeekLong};
 
@@ -122,8 +122,8 @@ pub fn book_in_all(
 }
 
 /// Whether an event is in a calendar that has a room. Takes no memory.
-pub fn takes_any(slots: &[Slot], event: &Tree) -> bool
-    ensures { result ≡ list_any (takes (data_of event.now)) slots.now }
+pub fn is_in_any(slots: &[Slot], event: &Tree) -> bool
+    ensures { result ≡ list_any (is_booked_by (data_of event.now)) slots.now }
 {
     slots
         .iter()

@@ -1,4 +1,4 @@
-use Rattle.std.proofs.Common.{arith, ap, ◌∙◌, sym}
+use Rattle.std.proofs.Common.{arith, ap, ◌∙◌}
 use Rattle.account_rooms.proofs.Slots.{one_changed, same_kept}
 use Rattle.account_rooms.specs.Slots.{booked, room_kept}
 use Rattle.model_json.specs.TreeData.{data_of}

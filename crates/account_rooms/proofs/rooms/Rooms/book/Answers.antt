@@ -4,24 +4,24 @@ use Rattle.std.specs.List.{list_any}
 use Rattle.account_rooms.proofs.Slots.{kept_take, not_taken, retired_kept, short_series, taken, week_of}
 use Rattle.account_rooms.specs.RoomChanges.{MayChange, booked_again}
 use Rattle.account_rooms.specs.RoomsView.{RoomsView}
-use Rattle.account_rooms.specs.Slots.{booked, rooms_kept, rooms_now, takes}
+use Rattle.account_rooms.specs.Slots.{booked, rooms_kept, rooms_now, is_booked_by}
 use Rattle.event_series.proofs.SeriesLemmas.{series_is_valid}
 use Rattle.model_history.specs.declared.entry.Kind.TheVariants.{Event}
 use Rattle.model_json.specs.TreeData.{data_of}
 use Rattle.account_rooms.proofs.rooms.Rooms.book.Goals as goal
 
-pub returns-then-not-takes_any-clause-ok : goal.returns-then-not-takes_any-clause-ok
-returns-then-not-takes_any-clause-ok c =
+pub returns-then-not-is_in_any-clause-ok : goal.returns-then-not-is_in_any-clause-ok
+returns-then-not-is_in_any-clause-ok c =
     let ss = c.self.inside.slots.items in
     let n = c.args.number in
     let t = c.args.event.now in
     let zones = c.args.zones.now in
-    let tested = c.takes_any.ensures ∙ ap (list_any (takes (data_of t))) (c.deref.ensures.value ∙ c.retire_in_all.ensures) in
-    let none : c.takes_any.result ≡ false = search rules in
+    let tested = c.is_in_any.ensures ∙ ap (list_any (is_booked_by (data_of t))) (c.deref.ensures.value ∙ c.retire_in_all.ensures) in
+    let none : c.is_in_any.result ≡ false = search rules in
     ap rooms_now c.retire_in_all.ensures ∙ not_taken zones n t ss (sym tested ∙ none) ∙ ap (λ (v : RoomsView). map (booked_again zones n (Some t)) v.rooms) c.self.view_is
 
-pub returns-then-not-takes_any-clause-kept : goal.returns-then-not-takes_any-clause-kept
-returns-then-not-takes_any-clause-kept c =
+pub returns-then-not-is_in_any-clause-kept : goal.returns-then-not-is_in_any-clause-kept
+returns-then-not-is_in_any-clause-kept c =
     ap (λ ss. rooms_kept (take c.self.inside.kept ss)) c.retire_in_all.ensures ∙ retired_kept c.args.number c.self.inside.kept c.self.inside.slots.items ∙ ap (λ (v : RoomsView). v.kept) c.self.view_is
 
 pub series_of-requires : goal.series_of-requires
@@ -30,8 +30,8 @@ series_of-requires c =
     let n = c.args.number in
     let t = c.args.event.now in
     let zones = c.args.zones.now in
-    let tested = c.takes_any.ensures ∙ ap (list_any (takes (data_of t))) (c.deref.ensures.value ∙ c.retire_in_all.ensures) in
-    let some : c.takes_any.result ≡ true = search rules in
+    let tested = c.is_in_any.ensures ∙ ap (list_any (is_booked_by (data_of t))) (c.deref.ensures.value ∙ c.retire_in_all.ensures) in
+    let some : c.is_in_any.result ≡ true = search rules in
     let may = subst (λ (v : RoomsView). MayChange zones v.rooms Event (Some t)) (sym c.self.view_is) c.requires in
     let short = short_series zones n t ss may (sym tested ∙ some) in
     series_is_valid zones (data_of t) short.series short.valid
@@ -46,8 +46,8 @@ book_in_all-requires c =
     let n = c.args.number in
     let t = c.args.event.now in
     let zones = c.args.zones.now in
-    let tested = c.takes_any.ensures ∙ ap (list_any (takes (data_of t))) (c.deref.ensures.value ∙ c.retire_in_all.ensures) in
-    let some : c.takes_any.result ≡ true = search rules in
+    let tested = c.is_in_any.ensures ∙ ap (list_any (is_booked_by (data_of t))) (c.deref.ensures.value ∙ c.retire_in_all.ensures) in
+    let some : c.is_in_any.result ≡ true = search rules in
     let may = subst (λ (v : RoomsView). MayChange zones v.rooms Event (Some t)) (sym c.self.view_is) c.requires in
     let short = short_series zones n t ss may (sym tested ∙ some) in
     week_of zones t c.in_ok-series.series short c.in_ok-series.ensures.value
@@ -60,9 +60,9 @@ returns-clause-ok c =
     let zones = c.args.zones.now in
     on_ok_weaker c.book_in_all.result
     (λ e.
-        ap rooms_now (e ∙ ap (map (booked n (data_of t) c.in_ok-series.series)) c.retire_in_all.ensures)
-        ∙ taken zones n t c.in_ok-series.series ss c.in_ok-series.ensures.value
-        ∙ ap (λ (v : RoomsView). map (booked_again zones n (Some t)) v.rooms) c.self.view_is)
+    ap rooms_now (e ∙ ap (map (booked n (data_of t) c.in_ok-series.series)) c.retire_in_all.ensures)
+    ∙ taken zones n t c.in_ok-series.series ss c.in_ok-series.ensures.value
+    ∙ ap (λ (v : RoomsView). map (booked_again zones n (Some t)) v.rooms) c.self.view_is)
     c.book_in_all.ensures.ok
 
 pub returns-clause-kept : goal.returns-clause-kept

@@ -1,4 +1,4 @@
-use Rattle.std.proofs.Common.{◌∙◌, ◌≤◌, arith, ap, filter, length, map, take}
+use Rattle.std.proofs.Common.{◌∙◌, arith, ap, map}
 use Rattle.std.proofs.lemmas.List.{take_all}
 use Rattle.account_rooms.proofs.Slots.{kept_kept, kept_now, view_of}
 use Rattle.account_rooms.specs.RoomsView.{RoomsView}
