@@ -24,10 +24,10 @@ impl Case {
         let (Tree::Object(asked), Tree::Object(answer)) = (asked, answer) else {
             return Ok(None);
         };
-        let Some(Tree::Text(status)) = answer.get("status") else {
-            return Ok(None);
-        };
-        let Some(words) = words_at(alloc, asked)? else {
+        let (Some(Tree::Text(words)), Some(Tree::Text(status))) = (
+            asked.get("words"),
+            answer.get("status"),
+        ) else {
             return Ok(None);
         };
         let Some(messages) = texts_at(alloc, asked, "input")? else {
@@ -37,7 +37,7 @@ impl Case {
             return Ok(None);
         };
         Ok(Some(Case {
-            words,
+            words: words_of(alloc, words.as_str())?,
             messages,
             failing_loads: numbers_at(alloc, asked, "failing_loads")?,
             status: String::from_str(alloc, status.as_str())?,
@@ -72,25 +72,6 @@ fn joined(alloc: Global, parts: &[Vec<u8>]) -> Result<Vec<u8>, AllocError> {
         all.extend_from_slice(part)?;
     }
     Ok(all)
-}
-
-/// The words of a text, parted by blanks, or those of a list.
-fn words_at(alloc: Global, asked: &TreeObject) -> Result<Option<Vec<String>>, AllocError> {
-    match asked.get("words") {
-        Some(Tree::Text(line)) => Ok(Some(words_of(alloc, line.as_str())?)),
-        Some(Tree::List(list)) => Ok(Some(listed_words(alloc, list.items())?)),
-        _ => Ok(None),
-    }
-}
-
-fn listed_words(alloc: Global, items: &[Tree]) -> Result<Vec<String>, AllocError> {
-    let mut words = Vec::new(alloc);
-    for item in items {
-        if let Tree::Text(word) = item {
-            words.push(String::from_str(alloc, word.as_str())?)?;
-        }
-    }
-    Ok(words)
 }
 
 /// The words between blanks.

@@ -30,7 +30,7 @@ fn came_of_tree(alloc: Global, asked: &Tree, tree: &Tree) -> Result<Option<Strin
 fn patched(alloc: Global, tree: &Tree, patch: &TreeObject) -> Result<String, AllocError> {
     match apply(alloc, tree, patch) {
         Ok(tree) => text_of(alloc, &tree),
-        Err(PatchError::InvalidPatch { key }) => format!(in alloc; "fails at \"{}\"", key.as_str()),
+        Err(PatchError::InvalidPatch { key }) => format!(in alloc; "fails at {}", key.as_str()),
         Err(PatchError::NoMemory) => Err(AllocError),
     }
 }

@@ -1,0 +1,74 @@
+//! What the words of the command line ask for.
+use command_line::command::{Command, read_command};
+use std::alloc::{AllocError, Global};
+use std::test::Fail;
+
+#[test]
+fn batch_may_name_a_configuration_and_a_user(rt: HostRuntime) -> Result<(), Fail> {
+    for (line, wanted) in [
+        ("batch", (None, None)),
+        ("batch --config site.json", (Some("site.json"), None)),
+        ("batch --user=u", (None, Some("u"))),
+        ("batch --user u --config=c", (Some("c"), Some("u"))),
+        ("batch --config -", (Some("-"), None)),
+    ] {
+        let words = words_of(rt.alloc(), line)?;
+        match read_command(rt.alloc(), &words)? {
+            Some(Command::Batch { config, user }) => assert_eq!(rt; (config, user), wanted),
+            _ => assert!(rt; false, "at {line}"),
+        }
+    }
+    Ok(())
+}
+
+#[test]
+fn stdio_names_a_configuration(rt: HostRuntime) -> Result<(), Fail> {
+    for (line, wanted) in [
+        ("stdio --config site.json", "site.json"),
+        ("stdio --config=a=b", "a=b"),
+    ] {
+        let words = words_of(rt.alloc(), line)?;
+        match read_command(rt.alloc(), &words)? {
+            Some(Command::Stdio { config }) => assert_eq!(rt; config, wanted),
+            _ => assert!(rt; false, "at {line}"),
+        }
+    }
+    Ok(())
+}
+
+#[test]
+fn other_words_ask_for_nothing(rt: HostRuntime) -> Result<(), Fail> {
+    assert!(rt; read_command(rt.alloc(), &[])?.is_none());
+    for line in [
+        "",
+        "listen",
+        "Batch",
+        "jmapd batch",
+        "batch more",
+        "batch --help",
+        "batch -h",
+        "batch --version",
+        "batch -V",
+        "batch --config",
+        "batch --config --user u",
+        "batch --config a --config b",
+        "batch --conf a",
+        "batch --user u --port 80",
+        "stdio",
+        "stdio --user u",
+        "stdio --config c --user u",
+        "stdio help",
+    ] {
+        let words = words_of(rt.alloc(), line)?;
+        assert!(rt; read_command(rt.alloc(), &words)?.is_none(), "at {line}");
+    }
+    Ok(())
+}
+
+fn words_of(alloc: Global, line: &str) -> Result<Vec<String>, AllocError> {
+    let mut words = Vec::new(alloc);
+    for word in line.split(' ') {
+        words.push(String::from_str(alloc, word)?)?;
+    }
+    Ok(words)
+}
