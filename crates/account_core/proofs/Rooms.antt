@@ -4,7 +4,6 @@ use Rattle.account_core.proofs.Committing.{changes_committed}
 use Rattle.account_rooms.proofs.Following.{bookings_of_room, calendars_of_rooms, room_of_resource, rooms_more}
 use Rattle.account_rooms.specs.RoomChanges.{rooms_after}
 use Rattle.account_rooms.specs.Rooms.{AreRooms, BookedRoom, bookings_in, has_room}
-use Rattle.account_rooms.specs.RoomsView.{RoomsView}
 use Rattle.cal_model.specs.Answer.{entries_from}
 use Rattle.cal_model.specs.Fits.{IsFit}
 use Rattle.model_history.specs.History.{changes_of, ids_at, next_number}
