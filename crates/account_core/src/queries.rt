@@ -61,10 +61,7 @@ pub fn query_changes(
 }
 
 /// Answers when the owner of the account is busy (draft JMAP for Calendars).
-pub fn availability(
-    ledger: &Ledger,
-    request: &AvailabilityRequest<'_>,
-) -> Result<Reply, AllocError>
+pub fn availability(ledger: &Ledger, request: &AvailabilityRequest<'_>) -> Result<Reply, AllocError>
     ensures { IfOk result (λ r. r ≡ availability_answer (base ledger.now) (ledger_entries ledger.now) request.now.id.now request.now.utc_start.now request.now.utc_end.now request.now.time_zone.now) }
 {
     let alloc = ledger.alloc;

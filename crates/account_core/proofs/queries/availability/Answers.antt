@@ -18,4 +18,4 @@ returns-in-Some c =
     let response = availability_response base (changes_of h) q.utc_start.now q.utc_end.now q.time_zone.now in
     let told = subst (λ r. MatchOption r (refusal ≡ Some InvalidArguments) (λ t. (refusal ≡ None) × (t ≡ response))) c.in-Some.is c.in_ok-arguments.ensures in
     subst (λ zs. c.reply.result ≡ availability_answer (record { account_id = l.id; zones = zs }) h q.id.now q.utc_start.now q.utc_end.now q.time_zone.now) c.deref.ensures
-        (c.reply.ensures ∙ ap (answered h c.in-Some.arguments) (c.new-in-Some.ensures ∙ c.new.ensures.items) ∙ ap (λ t. answered h t []) told.1 ∙ ap (λ e. unless_error h e (answered h response [])) (sym told.0))
+    (c.reply.ensures ∙ ap (answered h c.in-Some.arguments) (c.new-in-Some.ensures ∙ c.new.ensures.items) ∙ ap (λ t. answered h t []) told.1 ∙ ap (λ e. unless_error h e (answered h response [])) (sym told.0))

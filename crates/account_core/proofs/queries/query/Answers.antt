@@ -15,5 +15,5 @@ returns c =
     let zones = c.deref.result.now in
     let found = c.query-found.ensures in
     subst (λ zs. IfOk c.told.result (λ r. r ≡ query_answer (record { account_id = l.id; zones = zs }) (ledger_entries l) criteria c.args.expand paging)) c.deref.ensures
-        (c.told.ensures (query_refusal zones (changes_of (ledger_entries l)) criteria c.args.expand paging)
-        (query_response zones (changes_of (ledger_entries l)) criteria c.args.expand l.id paging) found.response found.answered found.refused)
+    (c.told.ensures (query_refusal zones (changes_of (ledger_entries l)) criteria c.args.expand paging)
+    (query_response zones (changes_of (ledger_entries l)) criteria c.args.expand l.id paging) found.response found.answered found.refused)

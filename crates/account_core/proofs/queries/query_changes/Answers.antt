@@ -15,5 +15,5 @@ returns c =
     let zones = c.deref.result.now in
     let changed = c.query_changes-changed.ensures in
     subst (λ zs. IfOk c.told.result (λ r. r ≡ query_changes_answer (record { account_id = l.id; zones = zs }) (ledger_entries l) criteria c.args.expand since)) c.deref.ensures
-        (c.told.ensures (query_changes_refusal zones (changes_of (ledger_entries l)) criteria c.args.expand since)
-        (query_changes_response zones (changes_of (ledger_entries l)) criteria c.args.expand l.id since) changed.response changed.answered changed.refused)
+    (c.told.ensures (query_changes_refusal zones (changes_of (ledger_entries l)) criteria c.args.expand since)
+    (query_changes_response zones (changes_of (ledger_entries l)) criteria c.args.expand l.id since) changed.response changed.answered changed.refused)
