@@ -98,8 +98,11 @@ module _ (b : Base) (h h' : List Entry) (same : changes_of h ≡ changes_of h') 
     same_to (Get kind ids properties) = same_get kind ids properties
     same_to (Changes kind since most) = same_page kind since most
     same_to (Set kind if_in_state create update destroy remove_events) = same_set kind (objects create update destroy) if_in_state remove_events
-    same_to (Query filter sort position anchor anchor_offset limit calculate_total expand time_zone) = same_query _ expand _
-    same_to (QueryChanges filter sort since most up_to calculate_total expand time_zone) = same_query_changes _ expand _
+    same_to (Query filter sort position anchor anchor_offset limit calculate_total expand time_zone) =
+        same_query (record { filter = filter; sort = sort; time_zone = time_zone }) expand
+        (record { position = position; anchor = anchor; anchor_offset = anchor_offset; limit = limit; calculate_total = calculate_total })
+    same_to (QueryChanges filter sort since most up_to calculate_total expand time_zone) =
+        same_query_changes (record { filter = filter; sort = sort; time_zone = time_zone }) expand (record { state = since; most = most; calculate_total = calculate_total })
     same_to (Availability id utc_start utc_end time_zone) = same_availability id utc_start utc_end time_zone
 
     same_changes : (asks : Asks) → changes_by b h m created asks ≡ changes_by b h' m created asks
