@@ -18,9 +18,13 @@ pub changes_back : (s : Stamp) (cs : List Change) (n : ℕ) → changes_of (entr
 changes_back s [] n = refl
 changes_back s (c ∷ cs) n = ap (λ ds. c ∷ ds) (changes_back s cs (suc n))
 
+-- the changes of a history that the staged changes became part of
+pub changes_committed : (h h' : List Entry) (s : Stamp) (cs : List Change) → h' ≡ h ++ entries_from s 0 cs → changes_of h' ≡ changes_of h ++ cs
+changes_committed h h' s cs is = rw (is, map-append, changes_back) refl
+
 -- the tally of a history with its staged changes is that of the history which they became part of
 pub tally_committed : (t : Tally) (h h' : List Entry) (s : Stamp) (cs : List Change) → Tallies t (changes_of h ++ cs) → h' ≡ h ++ entries_from s 0 cs → Tallies t (changes_of h')
-tally_committed t h h' s cs tallies is = rw (is, map-append, changes_back) tallies
+tally_committed t h h' s cs tallies is = rw (changes_committed h h' s cs is) tallies
 
 pub object_from_append : (cs ds : List Change) (before : Option Tree) (kind : Kind) (id : ℕ) → object_from before (cs ++ ds) kind id ≡ object_from (object_from before cs kind id) ds kind id
 object_from_append [] ds before kind id = refl

@@ -4,15 +4,21 @@ use Rattle.std.proofs.Common.{◌≡◌, ◌≤◌, ◌+◌, ◌⊎◌, inl, inr
 use Rattle.std.proofs.lemmas.List.FromFn.{length-range_with_len}
 use Rattle.std.proofs.lemmas.List.Sums.{sum_by-append}
 use Rattle.std.specs.List.{range_with_len}
-use Rattle.account_core.proofs.Numbers.{ids_from-push, in_range, next_is, numbered_if_live, numbers_counted}
+use Rattle.account_core.proofs.Numbers.{in_range, next_is, numbers_counted}
+use Rattle.account_rooms.proofs.Changes.{ids_from-push}
 use Rattle.account_core.specs.Tally.{Tallies, count_created}
 use Rattle.account_core.specs.declared.tally.Tally.{Tally}
-use Rattle.cal_model.specs.Quota.{IsFit, size_of, size_of_object}
+use Rattle.cal_model.specs.Quota.{size_of, size_of_object}
 use Rattle.model_history.specs.History.{ids_at, is_kind, live_object, next_number}
 use Rattle.model_history.specs.Pages.{is_in}
 use Rattle.model_history.specs.declared.entry.Change.{Change}
 use Rattle.model_history.specs.declared.entry.Kind.{Kind}
 use Rattle.model_history.specs.declared.entry.Kind.TheVariants.{Calendar, Event}
+use Rattle.model_resource.proofs.Numbered.{numbered_if_live}
+
+-- the change is of the next object or of one that is there
+abbrev pub IsNumbered : List Change → Change → Type 0
+IsNumbered cs c = (c.id ≡ next_number cs c.kind) ⊎ (is_some (live_object cs c.kind c.id) ≡ true)
 
 size_more : (cs : List Change) (c : Change) → size_of (cs ++ c ∷ []) ≡ size_of cs + size_of_object c.object
 size_more cs c = sum_by-append _ cs (c ∷ []) ∙ ap (λ n. size_of cs + n) (zero-add (size_of_object c.object))
@@ -23,18 +29,18 @@ same_kind Event Event e = refl
 same_kind Calendar Event e = absurd (false≢true e)
 same_kind Event Calendar e = absurd (false≢true e)
 
-numbers_by : (t u : Tally) (cs : List Change) (c : Change) (k : Kind) (same : Bool) → Tallies t cs → IsFit cs c → is_kind k c.kind ≡ same
+numbers_by : (t u : Tally) (cs : List Change) (c : Change) (k : Kind) (same : Bool) → Tallies t cs → IsNumbered cs c → is_kind k c.kind ≡ same
     → count_created u k ≡ cond same (max (count_created t k) c.id) (count_created t k) → ids_at (cs ++ c ∷ []) k ≡ cond same (range_with_len 1 (max (count_created t k) c.id)) (ids_at cs k) → ids_at (cs ++ c ∷ []) k ≡ range_with_len 1 (count_created u k)
 numbers_by t u cs c k true h fit is more ids = ids ∙ ap (range_with_len 1) (sym more)
 numbers_by t u cs c k false h fit is more ids = ids ∙ h.numbers k ∙ ap (range_with_len 1) (sym more)
 
-ids_by : (t : Tally) (cs : List Change) (c : Change) (k : Kind) (same : Bool) → Tallies t cs → IsFit cs c → is_kind k c.kind ≡ same
+ids_by : (t : Tally) (cs : List Change) (c : Change) (k : Kind) (same : Bool) → Tallies t cs → IsNumbered cs c → is_kind k c.kind ≡ same
     → ids_at (cs ++ c ∷ []) k ≡ cond same (range_with_len 1 (max (count_created t k) c.id)) (ids_at cs k)
 ids_by t cs c k false h fit is = ids_from-push cs [] c k ∙ rw is refl
 ids_by t cs c k true h fit is =
-    ids_from-push cs [] c k ∙ rw (is, same_kind k c.kind is) (numbers_counted cs c (count_created t c.kind) (h.numbers c.kind) fit.number)
+    ids_from-push cs [] c k ∙ rw (is, same_kind k c.kind is) (numbers_counted cs c (count_created t c.kind) (h.numbers c.kind) fit)
 
-pub tally_counted : (t u : Tally) (cs : List Change) (c : Change) (size : ℕ) → Tallies t cs → IsFit cs c → size ≡ size_of_object c.object
+pub tally_counted : (t u : Tally) (cs : List Change) (c : Change) (size : ℕ) → Tallies t cs → IsNumbered cs c → size ≡ size_of_object c.object
     → u.entries ≡ t.entries + 1 → u.size ≡ t.size + size → ((k : Kind) → count_created u k ≡ cond (is_kind k c.kind) (max (count_created t k) c.id) (count_created t k)) → Tallies u (cs ++ c ∷ [])
 tally_counted t u cs c size h fit is entries total more = record {
   entries = omega (arith, length-append cs (c ∷ []), h.entries, entries);
@@ -47,8 +53,8 @@ next_by : (t : Tally) (cs : List Change) (c : Change) → Tallies t cs → (c.id
 next_by t cs c h (inl next) = omega (arith, next, next_is cs (count_created t c.kind) c.kind (h.numbers c.kind))
 next_by t cs c h (inr live) = omega (arith, in_range 1 (count_created t c.kind) c.id (subst (λ ids. is_in ids c.id ≡ true) (h.numbers c.kind) (numbered_if_live cs c.kind c.id _ [] (λ e. absurd (false≢true e)) live)))
 
-pub next : (t : Tally) (cs : List Change) (c : Change) → Tallies t cs → IsFit cs c → c.id ≤ count_created t c.kind + 1
-next t cs c h fit = next_by t cs c h fit.number
+pub next : (t : Tally) (cs : List Change) (c : Change) → Tallies t cs → IsNumbered cs c → c.id ≤ count_created t c.kind + 1
+next t cs c h fit = next_by t cs c h fit
 
 pub length_created : (t : Tally) (cs : List Change) (k : Kind) → Tallies t cs → length (ids_at cs k) ≡ count_created t k
 length_created t cs k h = ap length (h.numbers k) ∙ length-range_with_len 1 (count_created t k)

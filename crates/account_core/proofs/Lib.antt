@@ -1,6 +1,7 @@
 pub mod Numbers
 pub mod Counting
 pub mod Committing
+pub mod Rooms
 pub mod Pages
 pub mod LiveEvents
 pub mod AskedLemmas

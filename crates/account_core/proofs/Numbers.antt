@@ -1,15 +1,15 @@
 -- Numbers that are given in order.
 use Rattle.std.proofs.lemmas.Bool.{false≢true}
-use Rattle.std.proofs.Common.{◌≡◌, ◌⊎◌, inl, inr, ◌+◌, ◌<◌, ◌==◌, ◌&&◌, ◌||◌, Bool, true, false, cond, ℕ, zero, suc, List, [], ◌∷◌, ◌++◌, Option, is_some, length, arith, add-zero, add-one, refl, sym, ap, ◌∙◌, max, subst}
+use Rattle.std.proofs.Common.{◌≡◌, ◌⊎◌, inl, inr, ◌+◌, ◌<◌, ◌==◌, ◌||◌, Bool, true, false, ℕ, zero, suc, List, [], ◌∷◌, ◌++◌, is_some, length, arith, add-zero, add-one, refl, sym, ap, ◌∙◌, max, subst}
 use Rattle.std.proofs.lemmas.Bool.Decides.{nat_tests}
-use Rattle.std.proofs.lemmas.List.Folds.{list_any-append}
 use Rattle.std.proofs.lemmas.List.FromFn.{length-range_with_len}
 use Rattle.std.specs.List.{range_with_len}
-use Rattle.model_history.specs.History.{ids_at, ids_from, is_kind, next_number, live_object, object_from, with_id}
+use Rattle.account_rooms.proofs.Changes.{with_known}
+use Rattle.model_history.specs.History.{ids_at, next_number, live_object, with_id}
 use Rattle.model_history.specs.Pages.{is_in}
 use Rattle.model_history.specs.declared.entry.Change.{Change}
 use Rattle.model_history.specs.declared.entry.Kind.{Kind}
-use Rattle.model_json.specs.declared.tree.Tree.{Tree}
+use Rattle.model_resource.proofs.Numbered.{numbered_if_live}
 
 -- one number more
 range_more : (a n : ℕ) → range_with_len a (suc n) ≡ range_with_len a n ++ (a + n) ∷ []
@@ -28,49 +28,6 @@ with_next : (n : ℕ) → with_id (range_with_len 1 n) (n + 1) ≡ range_with_le
 with_next n =
     let last : range_with_len 1 (n + 1) ≡ range_with_len 1 n ++ (n + 1) ∷ [] = rw (add-one n) (range_more 1 n ∙ ap (λ m. range_with_len 1 n ++ m ∷ []) (omega arith)) in
     rw (is_new 1 n (n + 1) (omega arith)) (sym last)
-
--- a number that was given adds nothing
-with_known : (ids : List ℕ) (id : ℕ) → is_in ids id ≡ true → with_id ids id ≡ ids
-with_known ids id known = rw known refl
-
-pub ids_from-push : (cs : List Change) (ids : List ℕ) (c : Change) (kind : Kind) → ids_from ids (cs ++ c ∷ []) kind ≡ cond (is_kind kind c.kind) (with_id (ids_from ids cs kind) c.id) (ids_from ids cs kind)
-ids_from-push [] ids c kind = refl
-ids_from-push (d ∷ cs) ids c kind = ids_from-push cs _ c kind
-
-same_number : (a b : ℕ) → (a == b) ≡ true → (b == a) ≡ true
-same_number a b e = grind (arith, nat_tests)
-
-true_later : (a b : Bool) → b ≡ true → (cond a true b) ≡ true
-true_later true b e = refl
-true_later false b e = e
-
-in_with_by : (ids : List ℕ) (id q : ℕ) (known : Bool) → is_in ids id ≡ known → is_in ids q ≡ true → is_in (cond known ids (ids ++ id ∷ [])) q ≡ true
-in_with_by ids id q true is h = h
-in_with_by ids id q false is h = rw (list_any-append, h) refl
-
--- what was in stays in
-in_with : (ids : List ℕ) (id q : ℕ) → is_in ids q ≡ true → is_in (with_id ids id) q ≡ true
-in_with ids id q h = in_with_by ids id q (is_in ids id) refl h
-
-put_in_by : (ids : List ℕ) (id : ℕ) (known : Bool) → is_in ids id ≡ known → is_in (cond known ids (ids ++ id ∷ [])) id ≡ true
-put_in_by ids id true is = is
-put_in_by ids id false is = rw (list_any-append, is, same_number id id (grind (arith, nat_tests))) refl
-
-in_put : (ids : List ℕ) (id : ℕ) → is_in (with_id ids id) id ≡ true
-in_put ids id = put_in_by ids id (is_in ids id) refl
-
-step_by : (ids : List ℕ) (before o : Option Tree) (c id : ℕ) (kind same : Bool) → (id == c) ≡ same → (is_some before ≡ true → is_in ids id ≡ true)
-    → is_some (cond (kind && same) o before) ≡ true → is_in (cond kind (with_id ids c) ids) id ≡ true
-step_by ids before o c id false same is h live = h live
-step_by ids before o c id true false is h live = in_with ids c id (h live)
-step_by ids before o c id true true is h live = grind (arith, nat_tests, in_put)
-
--- an object that is live was given its number
-pub numbered_if_live : (cs : List Change) (kind : Kind) (id : ℕ) (before : Option Tree) (ids : List ℕ) → (is_some before ≡ true → is_in ids id ≡ true)
-    → is_some (object_from before cs kind id) ≡ true → is_in (ids_from ids cs kind) id ≡ true
-numbered_if_live [] kind id before ids h live = h live
-numbered_if_live (c ∷ cs) kind id before ids h live =
-    numbered_if_live cs kind id _ _ (λ l. step_by ids before c.object c.id id (is_kind kind c.kind) (id == c.id) refl h l) live
 
 pub next_is : (cs : List Change) (n : ℕ) (kind : Kind) → ids_at cs kind ≡ range_with_len 1 n → next_number cs kind ≡ n + 1
 next_is cs n kind h = omega (arith, ap length h, length-range_with_len 1 n)
@@ -93,3 +50,7 @@ numbers_counted cs c n h (inl next) =
 numbers_counted cs c n h (inr live) =
     let known : is_in (range_with_len 1 n) c.id ≡ true = subst (λ ids. is_in ids c.id ≡ true) h (numbered_if_live cs c.kind c.id _ [] (λ e. absurd (false≢true e)) live) in
     rw h (with_known (range_with_len 1 n) c.id known ∙ ap (range_with_len 1) (omega (arith, in_range 1 n c.id known)))
+
+-- the next number was not given
+pub new_is_next : (cs : List Change) (n : ℕ) (kind : Kind) → ids_at cs kind ≡ range_with_len 1 n → is_in (ids_at cs kind) (next_number cs kind) ≡ false
+new_is_next cs n kind h = ap (λ ids. is_in ids (next_number cs kind)) h ∙ is_new 1 n (next_number cs kind) (omega (arith, next_is cs n kind h))

@@ -2,7 +2,8 @@
 use Rattle.std.proofs.Common.{◌≡◌, ℕ, ℤ, [], List, Bool, true, false, Option, Some, option_map, unsigned_abs, refl}
 use Rattle.account_core.specs.PageObject.{page_object}
 use Rattle.cal_model.specs.Answer.{answered, changes_answer}
-use Rattle.cal_model.specs.Changes.{is_maximum, page_response}
+use Rattle.cal_model.specs.Changes.{page_response}
+use Rattle.model_queries.specs.States.{is_maximum}
 use Rattle.model_history.specs.History.{changes_of, state_at}
 use Rattle.model_history.specs.Pages.{is_retained, mentions, page_end}
 use Rattle.model_history.specs.declared.entry.Change.{Change}

@@ -1,6 +1,6 @@
 -- What a reply tells of a page.
 use Rattle.std.specs.Prelude.{ℕ, List, [], ◌∷◌, ◌==◌, not, codes, decimal}
-use Rattle.cal_model.specs.Changes.{id_list}
+use Rattle.model_queries.specs.States.{id_list}
 use Rattle.model_history.specs.declared.entry.Kind.{Kind}
 use Rattle.model_json.specs.Data.{text, truth}
 use Rattle.model_json.specs.declared.tree.Tree.{Tree}

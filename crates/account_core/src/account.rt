@@ -6,13 +6,17 @@ ghost use Rattle.cal_model.specs.Answer.{added, answer};
 use crate::changes::changes;
 use crate::get::get;
 use crate::ledger::Ledger;
-use crate::reply::refusal;
+use crate::queries::{availability, query, query_changes};
 use crate::set::set;
-use model_call::call::{Asks, Call, MethodError, Reply};
+use availability_method::AvailabilityRequest;
+use model_call::call::{Asks, Call, Reply};
 use model_history::book::Book;
 use model_history::stamp::Stamp;
 use model_json::text::Text;
+use model_room::clash::Clash;
+use model_series::series::Series;
 use model_time::moment::Moment;
+use query_methods::request::{Criteria, Paging, Since};
 use set_methods::request::SetRequest;
 use std::alloc::{AllocError, Global};
 use std::marker::Model;
@@ -44,6 +48,15 @@ impl Model for Account {
 
 impl Account {
     ghost use Rattle.std.specs.Arc.{arc_value};
+    ghost use Rattle.std.specs.Prelude.{IfNone, option_map, true};
+    ghost use Rattle.account_rooms.specs.Covered.{AreCoveredOnce};
+    ghost use Rattle.account_rooms.specs.Rooms.{AreFree};
+    ghost use Rattle.model_history.specs.History.{changes_of};
+    ghost use Rattle.model_resource.specs.Bookings.{other_bookings};
+    ghost use Rattle.model_resource.specs.Resources.{is_resource};
+    ghost use Rattle.model_room.specs.Clashes.{IsClash, IsClear, first_clash, second_of};
+    ghost use Rattle.model_series.specs.Lengths.{IsWeekLong};
+    ghost use Rattle.rule_expand.specs.Least.{IsLeastOf};
 
     /// An account of this id, with these zones and no entries. Takes no memory.
     pub fn open(alloc: Global, id: Text, zones: Arc<Zones>) -> Result<Account, AllocError>
@@ -52,6 +65,28 @@ impl Account {
         Ok(Account {
             ledger: Ledger::new(alloc, id, zones),
         })
+    }
+
+    /// No second of a live resource calendar is covered by two different occurrences of its bookings, over all days without end.
+    /// It is so of each account, whatever sets it took, and this call does nothing.
+    pub fn is_never_booked_twice(&self)
+        ensures free { AreFree self.now.0.zones (changes_of self.now.1) }
+        ensures occurrences { AreCoveredOnce self.now.0.zones (changes_of self.now.1) }
+    {
+        self.ledger.is_never_booked_twice();
+    }
+
+    /// The first second, over all days without end, that an occurrence of a series covers and that a different occurrence covers too,
+    /// of the series or of a booking of a live resource calendar beside that of an event; or `None` where there is no such second.
+    /// No occurrence of the series lasts longer than 7 days. Takes no memory.
+    pub fn first_clash(&self, calendar: u64, event: u64, series: &Series) -> Option<Clash>
+        requires resource { is_resource (changes_of self.now.1) calendar ≡ true }
+        requires week { IsWeekLong series.now }
+        ensures exact { result ≡ first_clash (other_bookings self.now.0.zones (changes_of self.now.1) event calendar) series.now }
+        ensures clear { IfNone result (IsClear (other_bookings self.now.0.zones (changes_of self.now.1) event calendar) series.now) }
+        ensures least { IsLeastOf (IsClash (other_bookings self.now.0.zones (changes_of self.now.1) event calendar) series.now) (option_map second_of result) }
+    {
+        self.ledger.first_clash(calendar, event, series)
     }
 }
 
@@ -127,8 +162,66 @@ fn answer(ledger: &mut Ledger, stamp: &Stamp, call: &Call) -> Result<Reply, Allo
             };
             set(ledger, stamp, &request, &call.created)
         }
-        Asks::Query { .. } | Asks::QueryChanges { .. } | Asks::Availability { .. } => {
-            Ok(refusal(ledger.alloc, &ledger.store, MethodError::NotBuilt))
+        Asks::Query {
+            filter,
+            sort,
+            position,
+            anchor,
+            anchor_offset,
+            limit,
+            calculate_total,
+            expand,
+            time_zone,
+        } => {
+            let criteria = Criteria {
+                filter,
+                sort,
+                time_zone,
+            };
+            let paging = Paging {
+                position: *position,
+                anchor,
+                anchor_offset: *anchor_offset,
+                limit: *limit,
+                calculate_total: *calculate_total,
+            };
+            query(ledger, &criteria, *expand, &paging)
+        }
+        Asks::QueryChanges {
+            filter,
+            sort,
+            since,
+            max,
+            up_to: _,
+            calculate_total,
+            expand,
+            time_zone,
+        } => {
+            let criteria = Criteria {
+                filter,
+                sort,
+                time_zone,
+            };
+            let since = Since {
+                state: since,
+                most: *max,
+                calculate_total: *calculate_total,
+            };
+            query_changes(ledger, &criteria, *expand, &since)
+        }
+        Asks::Availability {
+            id,
+            utc_start,
+            utc_end,
+            time_zone,
+        } => {
+            let request = AvailabilityRequest {
+                id,
+                utc_start,
+                utc_end,
+                time_zone,
+            };
+            availability(ledger, &request)
         }
     }
 }

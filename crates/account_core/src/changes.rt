@@ -4,7 +4,7 @@ ghost use Rattle.account_core.specs.Ledger.{base, ledger_entries};
 ghost use Rattle.account_store.specs.Store.{entries};
 ghost use Rattle.account_core.specs.PageObject.{page_object};
 ghost use Rattle.cal_model.specs.Answer.{changes_answer};
-ghost use Rattle.cal_model.specs.Changes.{id_list, is_maximum};
+ghost use Rattle.model_queries.specs.States.{id_list, is_maximum};
 ghost use Rattle.model_json.specs.TreeData.{data_of};
 
 use crate::ledger::Ledger;

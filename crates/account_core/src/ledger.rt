@@ -1,18 +1,30 @@
 //! The history of an account with the changes that a call is about to make.
-ghost use Rattle.std.specs.Prelude.{◌≡◌, ◌<◌, ◌≤◌, ◌^◌, ◌++◌, [], OnErr, OnOk, length};
+ghost use Rattle.std.specs.Prelude.{◌≡◌, ◌<◌, ◌≤◌, ◌^◌, ◌++◌, [], IfNone, OnErr, OnOk, length, option_map, true, vec_capacity, vec_len};
+ghost use Rattle.std.specs.Arc.{arc_value};
 ghost use Rattle.account_core.specs.Tally.{Tallies};
+ghost use Rattle.account_rooms.specs.RoomChanges.{MayChange, rooms_after};
+ghost use Rattle.account_rooms.specs.Covered.{AreCoveredOnce};
+ghost use Rattle.account_rooms.specs.Rooms.{AreFree, AreRooms};
 ghost use Rattle.account_store.specs.Store.{entries, spare};
 ghost use Rattle.cal_model.specs.Answer.{entries_from};
 ghost use Rattle.model_history.specs.History.{changes_of};
+ghost use Rattle.model_resource.specs.Bookings.{other_bookings};
+ghost use Rattle.model_resource.specs.Resources.{is_resource};
+ghost use Rattle.model_room.specs.Clashes.{IsClash, IsClear, first_clash, second_of};
+ghost use Rattle.model_series.specs.Lengths.{IsWeekLong};
+ghost use Rattle.rule_expand.specs.Least.{IsLeastOf};
 
 use crate::tally::Tally;
 use crate::uses::has_event;
+use account_rooms::Rooms;
 use account_store::Store;
 use cal_model::view::AccountView;
 use model_history::entry::{Change, Entry, Kind};
 use model_history::stamp::Stamp;
 use model_json::text::Text;
 use model_json::tree::Tree;
+use model_room::clash::Clash;
+use model_series::series::Series;
 use std::alloc::{AllocError, Global};
 use std::mem;
 use std::sync::Arc;
@@ -32,14 +44,17 @@ pub struct Ledger {
     pub(crate) staged: Vec<Change>,
     /// What the history and the staged changes hold.
     pub(crate) tally: Tally,
+    /// The live resource calendars with their bookings, at the history and the staged changes; it goes back to those at the history.
+    pub(crate) rooms: Rooms,
     ghost kept_told: { Tallies kept (changes_of (entries store)) },
     ghost told: { Tallies tally (changes_of (entries store) ++ staged.items) },
+    ghost kept_rooms: { AreRooms (arc_value zones) (changes_of (entries store)) rooms.kept },
+    ghost rooms_now: { AreRooms (arc_value zones) (changes_of (entries store) ++ staged.items) rooms.rooms },
 }
 
 impl Ledger {
     ghost use Rattle.account_core.specs.Ledger.{base, history, ledger_entries, staged};
     ghost use Rattle.model_history.specs.Base.{Base};
-    ghost use Rattle.std.specs.Arc.{arc_value};
 
     /// A ledger of an account of this id, with these zones and no entries. Takes no memory.
     pub fn new(alloc: Global, id: Text, zones: Arc<Zones>) -> Ledger
@@ -55,6 +70,7 @@ impl Ledger {
             kept: Tally::new(),
             staged: Vec::new(alloc),
             tally: Tally::new(),
+            rooms: Rooms::new(alloc),
         }
     }
 
@@ -85,7 +101,43 @@ impl Ledger {
         let staged = mem::replace(&mut self.staged, Vec::new(self.alloc));
         push_all(&mut self.store, stamp, staged);
         self.kept = self.tally;
+        self.rooms.keep();
     }
+
+    /// No second of a live resource calendar is covered by two different occurrences of its bookings. This call does nothing.
+    pub fn is_never_booked_twice(&self)
+        ensures free { AreFree (base self.now).zones (history self.now) }
+        ensures occurrences { AreCoveredOnce (base self.now).zones (history self.now) }
+    {}
+
+    /// The first clash of a series with itself or with the bookings of others in a live resource calendar. Takes no memory.
+    pub fn first_clash(&self, calendar: u64, event: u64, series: &Series) -> Option<Clash>
+        requires resource { is_resource (history self.now ++ staged self.now) calendar ≡ true }
+        requires week { IsWeekLong series.now }
+        ensures exact { result ≡ first_clash (other_bookings (base self.now).zones (history self.now ++ staged self.now) event calendar) series.now }
+        ensures clear { IfNone result (IsClear (other_bookings (base self.now).zones (history self.now ++ staged self.now) event calendar) series.now) }
+        ensures least { IsLeastOf (IsClash (other_bookings (base self.now).zones (history self.now ++ staged self.now) event calendar) series.now) (option_map second_of result) }
+    {
+        self.rooms.clash(calendar, event, series)
+    }
+}
+
+// Takes memory for one staged change more, which the rooms follow.
+fn follow(
+    staged: &mut Vec<Change>,
+    rooms: &mut Rooms,
+    zones: &Zones,
+    change: &Change,
+) -> Result<(), AllocError>
+    requires { MayChange zones.now rooms.old.rooms change.now.kind change.now.object }
+    ensures staged { staged.new.items ≡ staged.old.items }
+    ensures len { vec_len staged.new ≡ vec_len staged.old }
+    ensures place { OnOk result (vec_len staged.new < vec_capacity staged.new) }
+    ensures rooms { OnOk result (rooms.new.rooms ≡ rooms_after zones.now change.now rooms.old.rooms) }
+    ensures kept { rooms.new.kept ≡ rooms.old.kept }
+{
+    staged.reserve(1)?;
+    rooms.follow(zones, change)
 }
 
 // Puts the entries of these changes at the end.
@@ -133,6 +185,18 @@ impl AccountView for Ledger {
         has_event(self, calendar)
     }
 
+    fn resources(&self, alloc: Global) -> Result<Vec<u64>, AllocError> {
+        self.rooms.calendars(alloc)
+    }
+
+    fn bookings(&self, calendar: u64, event: u64) -> usize {
+        self.rooms.bookings(calendar, event)
+    }
+
+    fn clash(&self, calendar: u64, event: u64, series: &Series) -> Option<Clash> {
+        self.first_clash(calendar, event, series)
+    }
+
     fn created_so_far(&self, kind: Kind) -> u64 {
         self.tally.created(kind)
     }
@@ -157,14 +221,16 @@ impl AccountView for Ledger {
     }
 
     fn stage(&mut self, change: Change, size: usize) -> Result<(), AllocError> {
-        match self.staged.reserve(1) {
+        match follow(&mut self.staged, &mut self.rooms, &self.zones, &change) {
             Ok(()) => {
                 self.tally.count(change.kind, change.id, size);
                 self.staged.push_reserved(change);
                 Ok(())
             }
             Err(error) => {
-                self.forget();
+                self.staged.clear();
+                self.tally = self.kept;
+                self.rooms.undo();
                 Err(error)
             }
         }
@@ -173,5 +239,6 @@ impl AccountView for Ledger {
     fn forget(&mut self) {
         self.staged.clear();
         self.tally = self.kept;
+        self.rooms.undo();
     }
 }

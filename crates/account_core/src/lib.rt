@@ -9,6 +9,7 @@ mod get;
 mod ledger;
 mod occurrences;
 mod properties;
+mod queries;
 mod reply;
 mod set;
 mod tally;

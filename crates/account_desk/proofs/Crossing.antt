@@ -2,12 +2,24 @@
 use denote.Param.Send.{IsSend, sendable}
 use Rattle.std.proofs.Crossing.{crosses}
 use Rattle.model_json.proofs.tree.TreeList.TheLaws.TheKnot as tree
+use Rattle.resource_book.specs.contracts.room.Room as room
+use Rattle.account_rooms.specs.contracts.slot.Slot as slot
+use Rattle.account_rooms.specs.contracts.rooms.Rooms as rooms
 use Rattle.account_core.specs.contracts.account.Account as account
 use Rattle.account_desk.proofs.gate.Gate.TheSendSync as gate
 use Rattle.account_desk.specs.contracts.gated.Gated as gated
 
+room_sent : IsSend room.the_row
+room_sent = search (crosses, sendable) depth 60 fits 20000
+
+slot_sent : IsSend slot.the_row
+slot_sent = search (room_sent, crosses, sendable) depth 60 fits 20000
+
+rooms_sent : IsSend rooms.the_row
+rooms_sent = search (slot_sent, crosses, sendable) depth 60 fits 20000
+
 account_sent : IsSend account.the_row
-account_sent = search (crosses, tree.crosses, sendable) depth 60 fits 20000
+account_sent = search (rooms_sent, crosses, tree.crosses, sendable) depth 60 fits 20000
 
 pub gated_sent : IsSend gated.the_row
 gated_sent = search (account_sent, gate.the_field_send, gate.the_send, crosses, sendable) depth 60 fits 20000

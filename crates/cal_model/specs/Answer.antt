@@ -5,11 +5,11 @@ use Rattle.cal_model.specs.Gets.{get_response, get_error, ids_not_found, objects
 use Rattle.cal_model.specs.Operations.{Ground}
 use Rattle.cal_model.specs.SetReply.{set_arguments}
 use Rattle.cal_model.specs.Sets.{Objects, new_ids, objects, set_changes, set_refusal}
+use Rattle.model_availability.specs.Availability.{availability_refusal, availability_response}
 use Rattle.model_call.specs.declared.call.Asks.{Asks}
 use Rattle.model_call.specs.declared.call.Asks.TheVariants.{Availability, Changes, Get, Query, QueryChanges, Set}
 use Rattle.model_call.specs.declared.call.Call.{Call}
 use Rattle.model_call.specs.declared.call.MethodError.{MethodError}
-use Rattle.model_call.specs.declared.call.MethodError.TheVariants.{NotBuilt}
 use Rattle.model_call.specs.declared.call.Reply.{Reply}
 use Rattle.model_history.specs.Base.{Base}
 use Rattle.model_history.specs.History.{changes_of}
@@ -19,6 +19,10 @@ use Rattle.model_history.specs.declared.entry.Kind.{Kind}
 use Rattle.model_history.specs.declared.stamp.Stamp.{Stamp}
 use Rattle.model_json.specs.declared.tree.Tree.{Tree}
 use Rattle.model_json.specs.declared.tree.Tree.TheVariants.{Null}
+use Rattle.model_queries.specs.Changed.{Since}
+use Rattle.model_queries.specs.Criteria.{Criteria}
+use Rattle.model_queries.specs.Found.{Paging}
+use Rattle.model_queries.specs.Queries.{query_changes_refusal, query_changes_response, query_refusal, query_response}
 use Rattle.time_text.specs.State.{state_in}
 
 abbrev pub answered : List Entry → Tree → List (List ℕ × List ℕ) → Reply
@@ -44,6 +48,18 @@ abbrev pub changes_answer : List ℕ → List Entry → Kind → List ℕ → Op
 changes_answer account h kind since most = unless_error h (changes_refusal kind (changes_of h) since most)
     (answered h (changes_response account kind (changes_of h) since most (unwrap_or (state_in since) 0)) [])
 
+abbrev pub query_answer : Base → List Entry → Criteria → Bool → Paging → Reply
+query_answer base h criteria expand paging = unless_error h (query_refusal base.zones (changes_of h) criteria expand paging)
+    (answered h (query_response base.zones (changes_of h) criteria expand base.account_id paging) [])
+
+abbrev pub query_changes_answer : Base → List Entry → Criteria → Bool → Since → Reply
+query_changes_answer base h criteria expand since = unless_error h (query_changes_refusal base.zones (changes_of h) criteria expand since)
+    (answered h (query_changes_response base.zones (changes_of h) criteria expand base.account_id since) [])
+
+abbrev pub availability_answer : Base → List Entry → List ℕ → List ℕ → List ℕ → List ℕ → Reply
+availability_answer base h id start end zone = unless_error h (availability_refusal base id start end zone)
+    (answered h (availability_response base (changes_of h) start end zone) [])
+
 module _ (base : Base) (h : List Entry) (moment : ℤ) (kind : Kind) (created : List (List ℕ × List ℕ)) where
   abbrev pub ground : Ground
   ground = record { base = base; moment = moment }
@@ -60,9 +76,12 @@ module _ (base : Base) (h : List Entry) (moment : ℤ) (created : List (List ℕ
   answer_to (Get kind ids properties) = get_answer base.account_id h kind created ids properties
   answer_to (Changes kind since most) = changes_answer base.account_id h kind since most
   answer_to (Set kind if_in_state create update destroy remove_events) = set_answer base h moment kind created (objects create update destroy) if_in_state remove_events
-  answer_to (Query filter sort position anchor anchor_offset limit calculate_total expand time_zone) = refused h NotBuilt
-  answer_to (QueryChanges filter sort since most up_to calculate_total expand time_zone) = refused h NotBuilt
-  answer_to (Availability id utc_start utc_end time_zone) = refused h NotBuilt
+  answer_to (Query filter sort position anchor anchor_offset limit calculate_total expand time_zone) = query_answer base h
+      (record { filter = filter; sort = sort; time_zone = time_zone }) expand
+      (record { position = position; anchor = anchor; anchor_offset = anchor_offset; limit = limit; calculate_total = calculate_total })
+  answer_to (QueryChanges filter sort since most up_to calculate_total expand time_zone) = query_changes_answer base h
+      (record { filter = filter; sort = sort; time_zone = time_zone }) expand (record { state = since; most = most; calculate_total = calculate_total })
+  answer_to (Availability id utc_start utc_end time_zone) = availability_answer base h id utc_start utc_end time_zone
 
   -- the changes that a call makes
   abbrev pub changes_by : Asks → List Change

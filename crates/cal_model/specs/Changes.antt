@@ -1,35 +1,20 @@
 -- What changed since a state (RFC 8620 section 5.2).
-use Rattle.std.specs.Prelude.{ℕ, ℤ, pos, List, [], ◌∷◌, ◌==◌, ◌&&◌, Bool, true, false, not, Option, Some, None, codes, decimal, int_le, map, option_map, unsigned_abs, if◌then◌else◌}
-use Rattle.std.specs.Option.{option_map_or}
+use Rattle.std.specs.Prelude.{ℕ, ℤ, List, [], ◌∷◌, ◌==◌, not, Option, Some, None, codes, decimal, option_map, unsigned_abs, if◌then◌else◌}
 use Rattle.model_call.specs.declared.call.MethodError.{MethodError}
 use Rattle.model_call.specs.declared.call.MethodError.TheVariants.{CannotCalculateChanges, InvalidArguments}
-use Rattle.model_core.specs.declared.numbers.TheConstants.{MAX_UNSIGNED_INT}
 use Rattle.model_history.specs.History.{state_at}
-use Rattle.model_history.specs.ObjectId.{id_text}
-use Rattle.model_history.specs.Pages.{created, destroyed, is_retained, mentions, page_end, updated}
+use Rattle.model_history.specs.Pages.{created, destroyed, mentions, page_end, updated}
 use Rattle.model_history.specs.declared.entry.Change.{Change}
 use Rattle.model_history.specs.declared.entry.Kind.{Kind}
-use Rattle.model_json.specs.Data.{Data, items_of, list, text, truth}
+use Rattle.model_json.specs.Data.{text, truth}
 use Rattle.model_json.specs.declared.tree.Tree.{Tree}
 use Rattle.model_json.specs.declared.tree.Tree.TheVariants.{Object}
-use Rattle.time_text.specs.State.{state_in}
-
--- a maximum is an UnsignedInt above 0 (RFC 8620 section 1.3)
-abbrev pub is_maximum : Option ℤ → Bool
-is_maximum None = true
-is_maximum (Some n) = int_le (pos 1) n && int_le n (pos MAX_UNSIGNED_INT)
-
--- pages are made from the state that this text names
-abbrev pub is_known_state : Kind → List Change → List ℕ → Bool
-is_known_state kind cs since = option_map_or (λ k. is_retained (state_at cs kind) k) (state_in since) false
+use Rattle.model_queries.specs.States.{id_list, is_known_state, is_maximum}
 
 abbrev pub changes_refusal : Kind → List Change → List ℕ → Option ℤ → Option MethodError
 changes_refusal kind cs since most =
     if not (is_maximum most) then Some InvalidArguments
     else if not (is_known_state kind cs since) then Some CannotCalculateChanges else None
-
-abbrev pub id_list : Kind → List ℕ → Data
-id_list kind ids = list (items_of (map (λ id. text (id_text kind id)) ids))
 
 -- the page from state k to state j
 abbrev pub page_response : List ℕ → Kind → List Change → List ℕ → ℕ → ℕ → Tree

@@ -1,15 +1,15 @@
 -- What comes of creating, updating or destroying one object (RFC 8620 section 5.3).
-use Rattle.std.specs.Prelude.{ℕ, ℤ, List, [], ◌∷◌, ◌++◌, Bool, true, false, not, Option, Some, None, Result, Ok, Err, is_some, codes, if◌then◌else◌}
+use Rattle.std.specs.Prelude.{ℕ, ℤ, List, [], ◌∷◌, ◌++◌, ◌==◌, ◌&&◌, ◌||◌, Bool, true, false, not, Option, Some, None, Result, Ok, Err, is_some, codes, filter, length, nat_le, if◌then◌else◌}
 use Rattle.std.specs.Option.{option_map_or}
 use Rattle.std.specs.Str.{bytes_eq}
-use Rattle.cal_model.specs.Calendar.{bad_properties, calendar_in, stored}
+use Rattle.cal_model.specs.Calendar.{bad_properties, calendar_in, stored, text_or_null}
 use Rattle.cal_model.specs.CreatedIds.{object_named, resolved_object, resolved_patch}
 use Rattle.cal_model.specs.EventObject.{event_members, has_event, has_other_uid, names_missing_calendar}
 use Rattle.cal_model.specs.Occurrences.{occurrence_named}
 use Rattle.cal_model.specs.Quota.{exceeds_quota, size_of_object}
 use Rattle.cal_model.specs.declared.outcome.Outcome.{Outcome}
 use Rattle.cal_model.specs.declared.outcome.Outcome.TheVariants.{Accepted, Refused}
-use Rattle.cal_model.specs.declared.set_error.SetError.TheVariants.{CalendarHasEvent, Forbidden, InvalidPatch, InvalidProperties, NotBuilt, NotFound, OverQuota, WillDestroy}
+use Rattle.cal_model.specs.declared.set_error.SetError.TheVariants.{CalendarHasEvent, Clashes, Forbidden, InvalidPatch, InvalidProperties, NotFound, OverQuota, WillDestroy}
 use Rattle.model_history.specs.Base.{Base}
 use Rattle.model_history.specs.History.{next_number}
 use Rattle.model_history.specs.ObjectId.{id_text}
@@ -18,12 +18,18 @@ use Rattle.model_history.specs.declared.entry.Kind.{Kind}
 use Rattle.model_history.specs.declared.entry.Kind.TheVariants.{Calendar, Event}
 use Rattle.model_json.specs.Data.{Data, Pair, lookup, members_of, object, text}
 use Rattle.model_json.specs.Edit.{with_pair}
-use Rattle.model_json.specs.Parts.{as_text, members_in}
+use Rattle.model_json.specs.Parts.{as_text, members_in, text_at}
 use Rattle.model_json.specs.Patch.{patched}
+use Rattle.model_json.specs.SameData.{same_data}
 use Rattle.model_json.specs.TreeData.{data_of}
 use Rattle.model_json.specs.declared.tree.Tree.{Tree}
 use Rattle.model_json.specs.declared.tree.Tree.TheVariants.{Object}
 use Rattle.model_recurrence.specs.Recurrence.{bad_properties_of_event}
+use Rattle.model_resource.specs.BookingRules.{has_long_override, is_in_other_zone, is_long_booking}
+use Rattle.model_resource.specs.Bookings.{clash_of_event, has_full_resource}
+use Rattle.model_resource.specs.Resources.{resources_at, zone_of_resource}
+use Rattle.model_resource.specs.declared.limits.TheConstants.{MAX_RESOURCES}
+use Rattle.model_room.specs.declared.clash.Clash.{Clash}
 use Rattle.property_table.specs.Names.{put_name}
 use Rattle.property_table.specs.Table.{given}
 
@@ -44,13 +50,18 @@ put kind n ps = record { kind = kind; id = n; object = Some (Object ps) }
 abbrev pub removal : Kind → ℕ → Change
 removal kind n = record { kind = kind; id = n; object = None }
 
-abbrev pub within_quota : List Change → Change → Outcome
-within_quota cs c = if exceeds_quota cs (size_of_object c.object) then Refused OverQuota else Accepted c
+abbrev pub unless_clash : Option (ℕ × Clash) → Change → Outcome
+unless_clash None c = Accepted c
+unless_clash (Some q) c = Refused (Clashes q.0 q.1)
 
--- a valid object makes its change where the account has room for it; of another all bad properties are told
-abbrev pub after_tests : List Change → Change → List (List ℕ) → Outcome
-after_tests cs c [] = within_quota cs c
-after_tests cs c (name ∷ names) = Refused (InvalidProperties (name ∷ names))
+-- refused where the account would have more than it may, or its resources are full; then where the event would clash in a resource
+abbrev pub within_quota : List Change → Bool → Option (ℕ × Clash) → Change → Outcome
+within_quota cs is_full clash c = if exceeds_quota cs (size_of_object c.object) || is_full then Refused OverQuota else unless_clash clash c
+
+-- a valid object makes its change where the account has room for it and it clashes with nothing; of another all bad properties are told
+abbrev pub after_tests : List Change → Bool → Option (ℕ × Clash) → Change → List (List ℕ) → Outcome
+after_tests cs is_full clash c [] = within_quota cs is_full clash c
+after_tests cs is_full clash c (name ∷ names) = Refused (InvalidProperties (name ∷ names))
 
 -- the object of these members, with the id that the server sets
 abbrev pub with_own_id : Kind → ℕ → List Pair → Data
@@ -59,9 +70,18 @@ with_own_id kind n ps = object (members_of (with_pair (codes "id") (text (id_tex
 abbrev pub with_name_if : Bool → List ℕ → List (List ℕ) → List (List ℕ)
 with_name_if b name names = if b then put_name name names else names
 
--- a calendar that asks for a booking zone, which isn't built
-abbrev pub is_resource : List Pair → Bool
-is_resource ps = is_some (lookup (codes "resourceZone") (given ps))
+-- the time zone of a resource
+abbrev pub zone_given : Data → Option (List ℕ)
+zone_given d = text_at (codes "resourceZone") d
+
+-- a calendar stays that of the resource, if any, and with its time zone, that it is created for
+abbrev pub has_other_zone : Option Tree → Data → Bool
+has_other_zone None d = false
+has_other_zone (Some before) d = not (same_data (text_or_null (zone_given d)) (text_or_null (zone_of_resource before)))
+
+-- the calendar would be one resource more than an account may have
+abbrev pub exceeds_resources : List Change → ℕ → Data → Bool
+exceeds_resources cs n d = is_some (zone_given d) && nat_le MAX_RESOURCES (length (filter (λ m. not (m == n)) (resources_at cs)))
 
 abbrev pub is_this_text : Data → List ℕ → Bool
 is_this_text d s = option_map_or (λ t. bytes_eq t s) (as_text d) false
@@ -76,26 +96,40 @@ is_in_use cs Calendar n = has_event cs n
 is_in_use cs Event n = false
 
 module _ (g : Ground) (cs : List Change) where
-  -- what comes of storing calendar n with these members; `names_id` says whether the client gives an id that it may not give
-  abbrev pub calendar_outcome : ℕ → Bool → List Pair → Outcome
-  calendar_outcome n names_id ps = if is_resource ps then Refused NotBuilt else after_tests cs
-      (put Calendar n (stored (calendar_in (with_own_id Calendar n ps))))
-      (with_name_if names_id (codes "id") (bad_properties g.base.zones (with_own_id Calendar n ps)))
+  -- the bad properties of a calendar, with those that what it was before makes bad
+  abbrev pub bad_of_calendar : Option Tree → Bool → Data → List (List ℕ)
+  bad_of_calendar before names_id d =
+      with_name_if names_id (codes "id") (with_name_if (has_other_zone before d) (codes "resourceZone") (bad_properties g.base.zones d))
+
+  abbrev pub stored_calendar_outcome : ℕ → Option Tree → Bool → Data → Outcome
+  stored_calendar_outcome n before names_id d =
+      after_tests cs (exceeds_resources cs n d) None (put Calendar n (stored (calendar_in d))) (bad_of_calendar before names_id d)
+
+  -- what comes of storing calendar n with these members, in place of what it was before; `names_id` says whether the client gives an id
+  -- that it may not give
+  abbrev pub calendar_outcome : ℕ → Option Tree → Bool → List Pair → Outcome
+  calendar_outcome n before names_id ps = stored_calendar_outcome n before names_id (with_own_id Calendar n ps)
+
+  -- what the resources that an event is in make bad
+  abbrev pub bad_of_booking : Data → List (List ℕ) → List (List ℕ)
+  bad_of_booking d names = with_name_if (has_long_override g.base.zones cs d) (codes "recurrenceOverrides")
+      (with_name_if (is_long_booking cs d) (codes "duration") (with_name_if (is_in_other_zone cs d) (codes "timeZone") names))
 
   -- the bad properties of an event, with those that its account and what it was before make bad
   abbrev pub bad_of_event : Option Tree → Bool → Data → List (List ℕ)
   bad_of_event before names_id d = with_name_if names_id (codes "id") (with_name_if (has_other_uid before d) (codes "uid")
-      (with_name_if (names_missing_calendar cs d) (codes "calendarIds") (bad_properties_of_event g.base.zones d)))
+      (with_name_if (names_missing_calendar cs d) (codes "calendarIds") (bad_of_booking d (bad_properties_of_event g.base.zones d))))
 
   abbrev pub stored_event_outcome : ℕ → Option Tree → Bool → List Pair → Outcome
-  stored_event_outcome n before names_id ps = after_tests cs (put Event n ps) (bad_of_event before names_id (object (members_of ps)))
+  stored_event_outcome n before names_id ps = after_tests cs (has_full_resource g.base.zones cs n (object (members_of ps)))
+      (clash_of_event g.base.zones cs n (object (members_of ps))) (put Event n ps) (bad_of_event before names_id (object (members_of ps)))
 
   -- what comes of storing event n with these members, in place of what it was before
   abbrev pub event_outcome : ℕ → Option Tree → Bool → List Pair → Outcome
   event_outcome n before names_id ps = stored_event_outcome n before names_id (event_members g.base.account_id g.moment n before ps)
 
   abbrev pub object_outcome : Kind → ℕ → Option Tree → Bool → List Pair → Outcome
-  object_outcome Calendar n before names_id ps = calendar_outcome n names_id ps
+  object_outcome Calendar n before names_id ps = calendar_outcome n before names_id ps
   object_outcome Event n before names_id ps = event_outcome n before names_id ps
 
   -- a new object has no id yet
@@ -114,7 +148,7 @@ module _ (g : Ground) (cs : List Change) where
 
   abbrev pub destroyed_outcome : Kind → Option (ℕ × Tree) → Outcome
   destroyed_outcome kind None = Refused NotFound
-  destroyed_outcome kind (Some q) = if is_in_use cs kind q.0 then Refused CalendarHasEvent else within_quota cs (removal kind q.0)
+  destroyed_outcome kind (Some q) = if is_in_use cs kind q.0 then Refused CalendarHasEvent else within_quota cs false None (removal kind q.0)
 
   -- an occurrence can't be changed by itself
   abbrev pub unless_occurrence : Option Tree → Bool → Outcome → Outcome

@@ -1,6 +1,5 @@
--- How much an account may hold, and the changes that it takes.
-use Rattle.std.specs.Prelude.{◌≡◌, ◌⊎◌, ℕ, ◌+◌, List, ◌||◌, Bool, false, true, not, Option, Some, None, is_some, length, sum_by, nat_lt}
-use Rattle.model_history.specs.History.{live_object, next_number}
+-- How much an account may hold.
+use Rattle.std.specs.Prelude.{ℕ, ◌+◌, List, ◌||◌, Bool, not, Option, Some, None, length, sum_by, nat_lt}
 use Rattle.model_json.specs.Json.{text_of}
 use Rattle.model_json.specs.TreeData.{data_of}
 use Rattle.cal_model.specs.declared.limits.TheConstants.{MAX_ENTRIES, MAX_OBJECT_BYTES}
@@ -18,8 +17,3 @@ size_of cs = sum_by (λ c. size_of_object c.object) cs
 -- one change more, whose object has a text of so many bytes, is more than an account may have
 abbrev pub exceeds_quota : List Change → ℕ → Bool
 exceeds_quota cs size = not (nat_lt (length cs) MAX_ENTRIES) || nat_lt MAX_OBJECT_BYTES (size_of cs + size)
-
--- A change that may follow these: the account has room for it, and it creates the next object or is one of an object that is there.
-pub record IsFit (cs : List Change) (c : Change) : Type 0 where
-  pub room : exceeds_quota cs (size_of_object c.object) ≡ false
-  pub number : (c.id ≡ next_number cs c.kind) ⊎ (is_some (live_object cs c.kind c.id) ≡ true)

@@ -4,6 +4,7 @@ ghost use Rattle.cal_model.specs.SetErrors.{set_error_type};
 
 use model_json::lists::Texts;
 use model_json::text::Text;
+use model_room::clash::Clash;
 
 /// Why one object of a set was refused (RFC 8620 section 5.3). It changed nothing.
 #[derive(Drop)]
@@ -28,8 +29,13 @@ pub enum SetError {
     CalendarHasEvent,
     /// The account would have more than it may.
     OverQuota,
-    /// The form of the object isn't built.
-    NotBuilt,
+    /// Two occurrences would cover the same second of a resource that the event would book.
+    Clashes {
+        /// The number of the first such resource's calendar, in order of creation.
+        calendar: u64,
+        /// The first such second, and whose booking covers it.
+        clash: Clash,
+    },
 }
 
 impl SetError {
@@ -45,7 +51,7 @@ impl SetError {
             SetError::Forbidden => "forbidden",
             SetError::CalendarHasEvent => "calendarHasEvent",
             SetError::OverQuota => "overQuota",
-            SetError::NotBuilt => "notBuilt",
+            SetError::Clashes { .. } => "clash",
         }
     }
 }

@@ -1,16 +1,23 @@
 //! What a set sees of an account while it is planned.
-ghost use Rattle.std.specs.Prelude.{◌≡◌, ◌≤◌, ◌++◌, ◌∷◌, [], List, OnErr, OnOk, length, option_map};
+ghost use Rattle.std.specs.Prelude.{◌≡◌, ◌≤◌, ◌++◌, ◌∷◌, [], IfNone, IfOk, List, OnErr, OnOk, length, option_map, true};
 ghost use Rattle.cal_model.specs.EventObject.{has_event};
-ghost use Rattle.cal_model.specs.Quota.{IsFit, size_of, size_of_object};
+ghost use Rattle.cal_model.specs.Fits.{IsFit};
+ghost use Rattle.cal_model.specs.Quota.{size_of, size_of_object};
 ghost use Rattle.cal_model.specs.declared.limits.TheConstants.{MAX_ENTRIES, MAX_OBJECT_BYTES};
 ghost use Rattle.model_history.specs.Base.{Base};
 ghost use Rattle.model_history.specs.History.{ids_at, live_object, state_at};
 ghost use Rattle.model_history.specs.declared.entry.Change.{Change as AnyChange};
 ghost use Rattle.model_history.specs.declared.entry.Entry.{Entry};
+ghost use Rattle.model_resource.specs.Bookings.{other_bookings};
+ghost use Rattle.model_resource.specs.Resources.{is_resource, resources_at};
+ghost use Rattle.model_room.specs.Clashes.{IsClear, first_clash};
+ghost use Rattle.model_series.specs.Lengths.{IsWeekLong};
 
 use model_history::entry::{Change, Kind};
 use model_json::tree::Tree;
-use std::alloc::AllocError;
+use model_room::clash::Clash;
+use model_series::series::Series;
+use std::alloc::{AllocError, Global};
 
 /// What a set sees of an account: its history, with the changes of this call that were accepted so far.
 ///
@@ -32,6 +39,24 @@ pub trait AccountView {
     /// Whether a live event is in a calendar of this number. Takes no memory, and time with the number of events.
     fn has_event(&self, calendar: u64) -> bool
         ensures { result ≡ has_event (history self.now ++ staged self.now) calendar };
+
+    /// The numbers of the live resource calendars, in order of creation. Takes memory for the list.
+    fn resources(&self, alloc: Global) -> Result<Vec<u64>, AllocError>
+        ensures { IfOk result (λ v. v.items ≡ resources_at (history self.now ++ staged self.now)) };
+
+    /// How many bookings a live resource calendar has beside that of an event. Takes no memory.
+    fn bookings(&self, calendar: u64, event: u64) -> usize
+        requires { is_resource (history self.now ++ staged self.now) calendar ≡ true }
+        ensures { result ≡ length (other_bookings (base self.now).zones (history self.now ++ staged self.now) event calendar) };
+
+    /// The first second, over all days without end, that an occurrence of a series covers and that a different occurrence covers too,
+    /// of the series or of a booking of a live resource calendar beside that of an event; or `None` where there is no such second.
+    /// No occurrence of the series lasts longer than 7 days. Takes no memory.
+    fn clash(&self, calendar: u64, event: u64, series: &Series) -> Option<Clash>
+        requires resource { is_resource (history self.now ++ staged self.now) calendar ≡ true }
+        requires week { IsWeekLong series.now }
+        ensures exact { result ≡ first_clash (other_bookings (base self.now).zones (history self.now ++ staged self.now) event calendar) series.now }
+        ensures clear { IfNone result (IsClear (other_bookings (base self.now).zones (history self.now ++ staged self.now) event calendar) series.now) };
 
     /// How many objects of a kind were created. Takes no memory.
     fn created_so_far(&self, kind: Kind) -> u64
@@ -56,7 +81,7 @@ pub trait AccountView {
     ///
     /// After want of memory nothing is staged.
     fn stage(&mut self, change: Change, size: usize) -> Result<(), AllocError>
-        requires fit { IsFit (history self.old ++ staged self.old) change }
+        requires fit { IsFit (base self.old).zones (history self.old ++ staged self.old) change }
         requires size { size ≡ size_of_object change.object }
         ensures ok { OnOk result (staged self.new ≡ staged self.old ++ change ∷ []) }
         ensures err { OnErr result (staged self.new ≡ []) }

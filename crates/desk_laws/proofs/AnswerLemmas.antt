@@ -1,11 +1,12 @@
 -- Answers look at the changes of a history and at nothing else of it.
 use Rattle.std.proofs.Common.{◌≡◌, ℕ, ℤ, suc, List, [], ◌∷◌, Bool, Option, Some, None, length, map, unwrap_or, refl, sym, ap, ◌∙◌}
 use Rattle.std.proofs.lemmas.List.{length-map}
-use Rattle.cal_model.specs.Answer.{answer, answer_to, answered, added, changes_answer, changes_by, entries_from, get_answer, ground, refused, set_added, set_answer, unless_error, unless_refused}
+use Rattle.cal_model.specs.Answer.{answer, answer_to, answered, added, availability_answer, changes_answer, changes_by, entries_from, get_answer, ground, query_answer, query_changes_answer, refused, set_added, set_answer, unless_error, unless_refused}
 use Rattle.cal_model.specs.Changes.{changes_response, changes_refusal}
 use Rattle.cal_model.specs.Gets.{get_response, get_error, ids_not_found, objects_asked, selected}
 use Rattle.cal_model.specs.SetReply.{set_arguments}
 use Rattle.cal_model.specs.Sets.{Objects, new_ids, objects, set_changes, set_refusal}
+use Rattle.model_availability.specs.Availability.{availability_refusal, availability_response}
 use Rattle.model_history.specs.Base.{Base}
 use Rattle.model_history.specs.History.{changes_of}
 use Rattle.model_call.specs.declared.call.Asks.{Asks}
@@ -18,6 +19,10 @@ use Rattle.model_history.specs.declared.entry.Entry.{Entry}
 use Rattle.model_history.specs.declared.entry.Kind.{Kind}
 use Rattle.model_history.specs.declared.stamp.Stamp.{Stamp}
 use Rattle.model_json.specs.declared.tree.Tree.TheVariants.{Null}
+use Rattle.model_queries.specs.Changed.{Since}
+use Rattle.model_queries.specs.Criteria.{Criteria}
+use Rattle.model_queries.specs.Found.{Paging}
+use Rattle.model_queries.specs.Queries.{query_changes_refusal, query_changes_response, query_refusal, query_response}
 use Rattle.time_text.specs.State.{state_in}
 
 -- the entries of changes have these changes
@@ -65,13 +70,40 @@ module _ (b : Base) (h h' : List Entry) (same : changes_of h ≡ changes_of h') 
       place = same_length i;
     })
 
+    same_query : (c : Criteria) (expand : Bool) (p : Paging) → query_answer b h c expand p ≡ query_answer b h' c expand p
+    same_query c expand p = same_by (λ cs. query_refusal b.zones cs c expand p) _ _ (λ i. record {
+      arguments = query_response b.zones (same i) c expand b.account_id p;
+      error = None;
+      created = [];
+      place = same_length i;
+    })
+
+    same_query_changes : (c : Criteria) (expand : Bool) (s : Since) → query_changes_answer b h c expand s ≡ query_changes_answer b h' c expand s
+    same_query_changes c expand s = same_by (λ cs. query_changes_refusal b.zones cs c expand s) _ _ (λ i. record {
+      arguments = query_changes_response b.zones (same i) c expand b.account_id s;
+      error = None;
+      created = [];
+      place = same_length i;
+    })
+
+    same_availability : (id start end zone : List ℕ) → availability_answer b h id start end zone ≡ availability_answer b h' id start end zone
+    same_availability id start end zone = same_unless (availability_refusal b id start end zone) _ _ (λ i. record {
+      arguments = availability_response b (same i) start end zone;
+      error = None;
+      created = [];
+      place = same_length i;
+    })
+
     same_to : (asks : Asks) → answer_to b h m created asks ≡ answer_to b h' m created asks
     same_to (Get kind ids properties) = same_get kind ids properties
     same_to (Changes kind since most) = same_page kind since most
     same_to (Set kind if_in_state create update destroy remove_events) = same_set kind (objects create update destroy) if_in_state remove_events
-    same_to (Query filter sort position anchor anchor_offset limit calculate_total expand time_zone) = same_refused _
-    same_to (QueryChanges filter sort since most up_to calculate_total expand time_zone) = same_refused _
-    same_to (Availability id utc_start utc_end time_zone) = same_refused _
+    same_to (Query filter sort position anchor anchor_offset limit calculate_total expand time_zone) =
+        same_query (record { filter = filter; sort = sort; time_zone = time_zone }) expand
+        (record { position = position; anchor = anchor; anchor_offset = anchor_offset; limit = limit; calculate_total = calculate_total })
+    same_to (QueryChanges filter sort since most up_to calculate_total expand time_zone) =
+        same_query_changes (record { filter = filter; sort = sort; time_zone = time_zone }) expand (record { state = since; most = most; calculate_total = calculate_total })
+    same_to (Availability id utc_start utc_end time_zone) = same_availability id utc_start utc_end time_zone
 
     same_changes : (asks : Asks) → changes_by b h m created asks ≡ changes_by b h' m created asks
     same_changes (Get kind ids properties) = refl

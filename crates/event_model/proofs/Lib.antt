@@ -1,3 +1,3 @@
 mod DateLemmas
 mod IdLemmas
-mod OverrideLemmas
+pub mod OverrideLemmas

@@ -1,41 +1,58 @@
--- What comes of storing a calendar that has bad properties.
-use Rattle.std.proofs.Common.{◌≡◌, ℕ, List, [], ◌∷◌, Bool, true, false, codes, if◌then◌else◌, refl, sym, ap, ◌∙◌}
-use Rattle.std.specs.Cmp.Lexicographic.{slice_cmp}
-use Rattle.std.specs.Ordering.{nat_cmp, is_lt}
+-- What comes of storing a calendar.
+use Rattle.std.proofs.Common.{◌≡◌, ◌⊎◌, inl, inr, ◌||◌, ℕ, List, [], ◌∷◌, Bool, true, false, Option, Some, None, codes, is_some, not, option_and_then, if◌then◌else◌, refl, sym, ap, ◌∙◌, subst}
+use Rattle.std.proofs.lemmas.Bool.{false≢true}
 use Rattle.std.specs.Str.{bytes_eq}
-use Rattle.cal_model.specs.Calendar.{bad_properties, calendar_in, stored}
-use Rattle.cal_model.specs.Operations.{Ground, after_tests, calendar_outcome, is_resource, put, with_name_if, with_own_id}
-use Rattle.cal_model.specs.declared.outcome.Outcome.{Outcome}
+use Rattle.cal_model.specs.Calendar.{CalendarProperties, bad_properties, calendar_in, stored, text_or_null}
+use Rattle.cal_model.specs.Fits.{IsObjectFit}
+use Rattle.cal_model.specs.Operations.{Ground, after_tests, bad_of_calendar, exceeds_resources, has_other_zone, put, stored_calendar_outcome, within_quota, zone_given}
 use Rattle.cal_model.specs.declared.outcome.Outcome.TheVariants.{Refused}
-use Rattle.cal_model.specs.declared.set_error.SetError.TheVariants.{InvalidProperties, NotBuilt}
+use Rattle.cal_model.specs.declared.set_error.SetError.TheVariants.{InvalidProperties}
+use Rattle.model_history.specs.History.{live_object, next_number}
 use Rattle.model_history.specs.declared.entry.Change.{Change}
 use Rattle.model_history.specs.declared.entry.Kind.TheVariants.{Calendar}
-use Rattle.model_json.specs.Data.{Data, Pair}
-use Rattle.property_table.specs.Names.{put_name}
+use Rattle.model_json.specs.Data.{Data, null, text}
+use Rattle.model_json.specs.SameData.{same_data}
+use Rattle.model_json.specs.TreeData.{data_of}
+use Rattle.model_json.specs.declared.tree.Tree.{Tree}
+use Rattle.model_json.specs.declared.tree.Tree.TheVariants.{Object}
+use Rattle.model_resource.specs.Resources.{is_resource, zone_of_resource}
+use Rattle.model_site.specs.TimeZones.{ZoneText}
+use Rattle.object_outcomes.specs.Judging.{IsBefore}
+use Rattle.object_outcomes.proofs.NameLemmas.{refused_names}
 
-put_some : (n m : List ℕ) (ms : List (List ℕ)) (below same : Bool) → (if below then m ∷ put_name n ms else if same then m ∷ ms else n ∷ m ∷ ms) ≡ [] → ⊥
-put_some n m ms true same h = cc
-put_some n m ms false true h = cc
-put_some n m ms false false h = cc
+-- a calendar with bad names is refused for them
+pub bad_calendar : (g : Ground) (cs : List Change) (n : ℕ) (before : Option Tree) (names_id : Bool) (d : Data) (names : List (List ℕ)) → names ≡ bad_of_calendar g cs before names_id d
+    → (names ≡ [] → ⊥) → Refused (InvalidProperties names) ≡ stored_calendar_outcome g cs n before names_id d
+bad_calendar g cs n before names_id d names is some =
+    refused_names cs (exceeds_resources cs n d) None (put Calendar n (stored (calendar_in d))) names some
+    ∙ ap (after_tests cs (exceeds_resources cs n d) None (put Calendar n (stored (calendar_in d)))) is
 
--- names with one put in are some
-name_some : (b : Bool) (n : List ℕ) (names : List (List ℕ)) → (names ≡ [] → ⊥) → with_name_if b n names ≡ [] → ⊥
-name_some true n [] some h = cc
-name_some true n (m ∷ ms) some h = put_some n m ms (is_lt (slice_cmp nat_cmp m n)) (bytes_eq m n) h
-name_some false n names some h = some h
+-- one without bad names is stored, if there is room
+pub good_calendar : (g : Ground) (cs : List Change) (n : ℕ) (before : Option Tree) (names_id : Bool) (d : Data) → [] ≡ bad_of_calendar g cs before names_id d
+    → within_quota cs (exceeds_resources cs n d) None (put Calendar n (stored (calendar_in d))) ≡ stored_calendar_outcome g cs n before names_id d
+good_calendar g cs n before names_id d is = ap (after_tests cs (exceeds_resources cs n d) None (put Calendar n (stored (calendar_in d)))) is
 
-refused_for : (cs : List Change) (c : Change) (names : List (List ℕ)) → (names ≡ [] → ⊥) → Refused (InvalidProperties names) ≡ after_tests cs c names
-refused_for cs c [] some = absurd (some refl)
-refused_for cs c (n ∷ names) some = refl
+-- What is stored is of a resource where the object says so.
 
-unless : (b : Bool) (x y : Outcome) → b ≡ false → y ≡ (if b then x else y)
-unless true x y h = absurd (cc h)
-unless false x y h = refl
+stored_zone_by : (zone : Option (List ℕ)) (c : CalendarProperties) → c.resource_zone ≡ zone → zone_of_resource (Object (stored c)) ≡ zone
+stored_zone_by None c e = rw e refl
+stored_zone_by (Some s) c e = rw e refl
 
-pub bad_outcome : (g : Ground) (cs : List Change) (n : ℕ) (names_id : Bool) (ps : List Pair) (d : Data) (properties names : List (List ℕ)) → is_resource ps ≡ false → d ≡ with_own_id Calendar n ps
-    → properties ≡ bad_properties g.base.zones d → (properties ≡ [] → ⊥) → names ≡ with_name_if names_id (codes "id") properties → Refused (InvalidProperties names) ≡ calendar_outcome g cs n names_id ps
-bad_outcome g cs n names_id ps d properties names other own bad some with_id =
-    let c : Change = put Calendar n (stored (calendar_in (with_own_id Calendar n ps))) in
-    let all : names ≡ with_name_if names_id (codes "id") (bad_properties g.base.zones (with_own_id Calendar n ps)) =
-    with_id ∙ ap (with_name_if names_id (codes "id")) (bad ∙ ap (bad_properties g.base.zones) own) in
-    refused_for cs c names (λ h. name_some names_id (codes "id") properties some (sym with_id ∙ h)) ∙ ap (after_tests cs c) all ∙ unless (is_resource ps) (Refused NotBuilt) _ other
+stored_zone : (d : Data) → zone_of_resource (Object (stored (calendar_in d))) ≡ zone_given d
+stored_zone d = stored_zone_by (zone_given d) (calendar_in d) refl
+
+same_zone : (zone before : Option (List ℕ)) → not (same_data (text_or_null zone) (text_or_null before)) ≡ false → is_some zone ≡ is_some before
+same_zone None None h = refl
+same_zone None (Some t) h = absurd (false≢true (sym h))
+same_zone (Some s) None h = absurd (false≢true (sym h))
+same_zone (Some s) (Some t) h = refl
+
+live_zone : (cs : List Change) (n : ℕ) (t : Tree) → live_object cs Calendar n ≡ Some t → is_some (zone_of_resource t) ≡ is_resource cs n
+live_zone cs n t live = sym (ap (λ o. is_some (option_and_then zone_of_resource o)) live)
+
+-- a calendar that stays of the resource that it was of may be stored
+pub calendar_fits : (zones : List ZoneText) (cs : List Change) (n : ℕ) (before : Option Tree) (d : Data) → IsBefore cs Calendar n before → has_other_zone before d ≡ false
+    → IsObjectFit zones cs Calendar n (Some (Object (stored (calendar_in d))))
+calendar_fits zones cs n None d next same = inl next
+calendar_fits zones cs n (Some t) d live same =
+    inr (ap is_some (stored_zone d) ∙ same_zone (zone_given d) (zone_of_resource t) same ∙ live_zone cs n t live)

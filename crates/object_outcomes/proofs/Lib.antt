@@ -1,4 +1,6 @@
 pub mod CalendarLemmas
+pub mod EventLemmas
 pub mod GivenLemmas
 pub mod MemberLemmas
+pub mod NameLemmas
 pub mod ResolvedLemmas

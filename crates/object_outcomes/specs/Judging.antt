@@ -1,8 +1,9 @@
 -- What an operation of a set stands for, what it is judged against, and when its change may be staged.
-use Rattle.std.specs.Prelude.{◌≡◌, ◌⊎◌, ℕ, List, true, is_some}
+use Rattle.std.specs.Prelude.{◌≡◌, ◌⊎◌, ℕ, List, Option, Some, None, true, is_some}
 use Rattle.cal_model.specs.Operations as operations
 use Rattle.cal_model.specs.Operations.{update, destroy}
-use Rattle.cal_model.specs.Quota.{IsFit, size_of_object}
+use Rattle.cal_model.specs.Fits.{IsFit}
+use Rattle.cal_model.specs.Quota.{size_of_object}
 use Rattle.cal_model.specs.declared.outcome.Outcome.{Outcome}
 use Rattle.cal_model.specs.declared.outcome.Outcome.TheVariants.{Accepted, Refused}
 use Rattle.model_history.specs.History.{live_object, next_number}
@@ -10,6 +11,8 @@ use Rattle.model_history.specs.declared.entry.Change.{Change}
 use Rattle.model_history.specs.declared.entry.Kind.{Kind}
 use Rattle.model_json.specs.Parts.{members_in}
 use Rattle.model_json.specs.TreeData.{data_of}
+use Rattle.model_json.specs.declared.tree.Tree.{Tree}
+use Rattle.model_site.specs.TimeZones.{ZoneText}
 use Rattle.object_outcomes.specs.declared.operation.Operation.{Operation}
 use Rattle.object_outcomes.specs.declared.operation.Operation.TheVariants.{Update, Destroy}
 use Rattle.object_outcomes.specs.declared.setting.Judged.{Judged}
@@ -26,10 +29,15 @@ operation_in (Destroy id) = destroy id.now
 abbrev pub HasNumber : List Change → Kind → ℕ → Type 0
 HasNumber cs kind n = (n ≡ next_number cs kind) ⊎ (is_some (live_object cs kind n) ≡ true)
 
--- an accepted change may follow these, and its object has a text of so many bytes
-abbrev pub MayFollow : List Change → Outcome → ℕ → Type 0
-MayFollow cs (Accepted c) size = IsFit cs c × (size ≡ size_of_object c.object)
-MayFollow cs (Refused e) size = Unit {0}
+-- what the object of a number is so far: nothing where it is the next, and else what is live
+abbrev pub IsBefore : List Change → Kind → ℕ → Option Tree → Type 0
+IsBefore cs kind n None = n ≡ next_number cs kind
+IsBefore cs kind n (Some t) = live_object cs kind n ≡ Some t
 
-abbrev pub IsAllowed : List Change → Judged → Type 0
-IsAllowed cs j = MayFollow cs j.outcome j.size
+-- an accepted change may follow these, and its object has a text of so many bytes
+abbrev pub MayFollow : List ZoneText → List Change → Outcome → ℕ → Type 0
+MayFollow zones cs (Accepted c) size = IsFit zones cs c × (size ≡ size_of_object c.object)
+MayFollow zones cs (Refused e) size = Unit {0}
+
+abbrev pub IsAllowed : List ZoneText → List Change → Judged → Type 0
+IsAllowed zones cs j = MayFollow zones cs j.outcome j.size

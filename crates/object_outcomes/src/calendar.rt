@@ -1,52 +1,103 @@
 //! What comes of storing a calendar.
-ghost use Rattle.std.specs.Prelude.{◌≡◌, ◌++◌, IfOk};
-ghost use Rattle.cal_model.specs.Calendar.{stored};
-ghost use Rattle.cal_model.specs.Operations.{calendar_outcome, put, within_quota};
+ghost use Rattle.std.specs.Prelude.{◌≡◌, ◌++◌, ◌==◌, None, IfOk, codes, false, filter, length, not, option_map};
+ghost use Rattle.cal_model.specs.Calendar.{calendar_in, stored, text_or_null};
+ghost use Rattle.cal_model.specs.Operations.{calendar_outcome, exceeds_resources, has_other_zone, put, with_name_if, within_quota};
 ghost use Rattle.model_history.specs.declared.entry.Kind.TheVariants.{Calendar as calendar_kind};
-ghost use Rattle.object_outcomes.specs.Judging.{HasNumber, IsAllowed, ground_in};
+ghost use Rattle.model_json.specs.SameData.{same_data};
+ghost use Rattle.model_json.specs.TreeData.{data_of};
+ghost use Rattle.object_outcomes.specs.Judging.{IsAllowed, IsBefore, ground_in};
 
-use crate::given::{given_at, with_id_if, with_own_id};
+use crate::given::{note_if, refused_for, with_own_id};
 use crate::quota::within_quota;
 use crate::setting::{Judged, Setting};
+use crate::texts::copies;
+use booking_rules::against::Against;
 use cal_model::set_error::SetError;
 use cal_model::view::AccountView;
 use calendar_model::calendar::Calendar;
 use calendar_model::read::{CalendarError, read_calendar};
 use model_history::entry::{Change, Kind};
 use model_json::lists::Texts;
-use model_json::tree::TreeObject;
+use model_json::text::Text;
+use model_json::tree::{Tree, TreeObject};
+use model_resource::limits::MAX_RESOURCES;
 use std::alloc::{AllocError, Global};
 
-/// What comes of storing a calendar of this number. `names_id` says whether the client gives an id that it may not give.
+/// What comes of storing a calendar of this number in place of what it was before. `names_id` says whether the client gives an id that
+/// it may not give.
 pub(crate) fn calendar_outcome<V: AccountView>(
     alloc: Global,
     view: &V,
     setting: &Setting<'_>,
     number: u64,
+    before: Option<&Tree>,
     names_id: bool,
     object: TreeObject,
 ) -> Result<Judged, AllocError>
-    requires { HasNumber (V.history view.now ++ V.staged view.now) calendar_kind number }
-    ensures exact { IfOk result (λ j. j.outcome ≡ calendar_outcome (ground_in setting.now) (V.history view.now ++ V.staged view.now) number names_id object) }
-    ensures allowed { IfOk result (IsAllowed (V.history view.now ++ V.staged view.now)) }
+    requires before { IsBefore (V.history view.now ++ V.staged view.now) calendar_kind number (option_map (λ t. t.now) before) }
+    ensures exact { IfOk result (λ j. j.outcome ≡ calendar_outcome (ground_in setting.now) (V.history view.now ++ V.staged view.now) number
+        (option_map (λ t. t.now) before.entry) names_id object) }
+    ensures allowed { IfOk result (IsAllowed (V.base view.now).zones (V.history view.now ++ V.staged view.now)) }
 {
-    if given_at(&object, "resourceZone").is_some() {
-        return Ok(Judged::refused(SetError::NotBuilt));
-    }
     let tree = with_own_id(alloc, Kind::Calendar, number, object)?;
     match read_calendar(alloc, &tree, setting.zones) {
         Ok(calendar) => {
-            if names_id {
-                let properties = with_id_if(alloc, true, Texts::new(Vec::new(alloc)))?;
-                return Ok(Judged::refused(SetError::InvalidProperties { properties }));
+            let names = with_own_names(alloc, before, names_id, &tree, Vec::new(alloc))?;
+            if names.is_empty() {
+                return store(alloc, view, number, before, &tree, &calendar);
             }
-            store(alloc, view, number, &calendar)
+            Ok(refused_for(names))
         }
         Err(CalendarError::BadCalendar { properties }) => {
-            let properties = with_id_if(alloc, names_id, properties)?;
-            Ok(Judged::refused(SetError::InvalidProperties { properties }))
+            let names = copies(alloc, properties.items())?;
+            let names = with_own_names(alloc, before, names_id, &tree, names)?;
+            Ok(refused_for(names))
         }
         Err(CalendarError::NoMemory) => Err(AllocError),
+    }
+}
+
+// These names, with those of the properties that are bad for what the calendar was before, and `id` where the client may not give it.
+fn with_own_names(
+    alloc: Global,
+    before: Option<&Tree>,
+    names_id: bool,
+    calendar: &Tree,
+    names: Vec<Text>,
+) -> Result<Vec<Text>, AllocError>
+    ensures { IfOk result (λ v. v.items ≡ with_name_if names_id (codes "id")
+        (with_name_if (has_other_zone (option_map (λ t. t.now) before.entry) (data_of calendar.now)) (codes "resourceZone") names.items)) }
+{
+    let mut names = names;
+    note_if(
+        alloc,
+        has_other_zone(before, calendar),
+        "resourceZone",
+        &mut names,
+    )?;
+    note_if(alloc, names_id, "id", &mut names)?;
+    Ok(names)
+}
+
+fn has_other_zone(before: Option<&Tree>, calendar: &Tree) -> bool
+    ensures { result ≡ has_other_zone (option_map (λ t. t.now) before.entry) (data_of calendar.now) }
+{
+    match before {
+        Some(before) => !is_same_zone(
+            calendar.text_at("resourceZone"),
+            before.text_at("resourceZone"),
+        ),
+        None => false,
+    }
+}
+
+fn is_same_zone(zone: Option<&Text>, before: Option<&Text>) -> bool
+    ensures { result ≡ same_data (text_or_null (option_map (λ t. t.now) zone.entry)) (text_or_null (option_map (λ t. t.now) before.entry)) }
+{
+    match (zone, before) {
+        (Some(zone), Some(before)) => zone.as_str() == before.as_str(),
+        (None, None) => true,
+        _ => false,
     }
 }
 
@@ -55,11 +106,16 @@ fn store<V: AccountView>(
     alloc: Global,
     view: &V,
     number: u64,
+    before: Option<&Tree>,
+    tree: &Tree,
     calendar: &Calendar,
 ) -> Result<Judged, AllocError>
-    requires { HasNumber (V.history view.now ++ V.staged view.now) calendar_kind number }
-    ensures exact { IfOk result (λ j. j.outcome ≡ within_quota (V.history view.now ++ V.staged view.now) (put calendar_kind number (stored calendar.now))) }
-    ensures allowed { IfOk result (IsAllowed (V.history view.now ++ V.staged view.now)) }
+    requires before { IsBefore (V.history view.now ++ V.staged view.now) calendar_kind number (option_map (λ t. t.now) before) }
+    requires same { has_other_zone (option_map (λ t. t.now) before) (data_of tree.now) ≡ false }
+    requires calendar { calendar.now ≡ calendar_in (data_of tree.now) }
+    ensures exact { IfOk result (λ j. j.outcome ≡ within_quota (V.history view.now ++ V.staged view.now)
+        (exceeds_resources (V.history view.now ++ V.staged view.now) number (data_of tree.now)) None (put calendar_kind number (stored (calendar_in (data_of tree.now))))) }
+    ensures allowed { IfOk result (IsAllowed (V.base view.now).zones (V.history view.now ++ V.staged view.now)) }
 {
     let object = calendar.tree(alloc)?;
     let change = Change {
@@ -67,5 +123,32 @@ fn store<V: AccountView>(
         id: number,
         object: Some(object),
     };
-    within_quota(alloc, view, change)
+    let against = Against {
+        is_full: exceeds_resources(alloc, view, number, tree)?,
+        clash: None,
+    };
+    within_quota(alloc, view, change, against)
+}
+
+// Whether the calendar would be one resource more than an account may have.
+fn exceeds_resources<V: AccountView>(
+    alloc: Global,
+    view: &V,
+    number: u64,
+    calendar: &Tree,
+) -> Result<bool, AllocError>
+    ensures { IfOk result (λ b. b ≡ exceeds_resources (V.history view.now ++ V.staged view.now) number (data_of calendar.now)) }
+{
+    if calendar.text_at("resourceZone").is_none() {
+        return Ok(false);
+    }
+    let resources = view.resources(alloc)?;
+    Ok(count_others(&resources, number) >= MAX_RESOURCES)
+}
+
+// How many of these numbers are others.
+fn count_others(numbers: &[u64], number: u64) -> usize
+    ensures { result ≡ length (filter (λ m. not (m == number)) numbers.now) }
+{
+    numbers.iter().filter(|other| **other != number).count()
 }

@@ -2,7 +2,7 @@
 ghost use Rattle.std.specs.Prelude.{◌≡◌, ◌++◌, [], ◌∷◌, IfOk, OnOk, codes, is_some, map, option_map, unwrap_or};
 ghost use Rattle.std.specs.List.{list_all};
 ghost use Rattle.cal_model.specs.EventObject.{event_members, has_other_uid, names_missing_calendar, moment_created, value_or_null, with_default, with_server_values};
-ghost use Rattle.cal_model.specs.Operations.{bad_of_event, event_outcome, stored_event_outcome, with_name_if};
+ghost use Rattle.cal_model.specs.Operations.{bad_of_booking, bad_of_event, event_outcome, stored_event_outcome};
 ghost use Rattle.model_event.specs.Events.{calendars_among};
 ghost use Rattle.model_history.specs.History.{live_object};
 ghost use Rattle.model_history.specs.ObjectId.{id_text};
@@ -12,22 +12,24 @@ ghost use Rattle.model_json.specs.Edit.{with_pair};
 ghost use Rattle.model_json.specs.SameData.{same_data};
 ghost use Rattle.model_json.specs.TreeData.{data_of, pair_of};
 ghost use Rattle.model_json.specs.declared.tree.Tree.TheVariants.{Object};
+ghost use Rattle.model_resource.specs.Resources.{resources_of};
 ghost use Rattle.model_time.specs.LocalTimes.{utc_text};
 ghost use Rattle.property_table.specs.Table.{given};
 ghost use Rattle.object_outcomes.specs.Judging.{HasNumber, IsAllowed, ground_in};
 
+use crate::given::{note_if, refused_for};
 use crate::quota::within_quota;
 use crate::setting::{Judged, Setting};
 use crate::uid::supplied_uid;
-use cal_model::set_error::SetError;
+use booking_rules::against::stands_against;
+use booking_rules::resources::resources_of;
+use booking_rules::rules::{has_long_override, is_in_other_zone, is_long_booking};
 use cal_model::view::AccountView;
 use event_model::names::bad_event_names;
 use model_history::entry::{Change, Kind};
-use model_json::lists::Texts;
 use model_json::text::Text;
 use model_json::tree::{Member, Tree, TreeObject};
 use model_time::moment::Moment;
-use property_table::names::put_name;
 use std::alloc::{AllocError, Global};
 use time_text::{object_id_text, read_object_id, utc_text};
 
@@ -42,10 +44,11 @@ pub(crate) fn event_outcome<V: AccountView>(
     names_id: bool,
     object: TreeObject,
 ) -> Result<Judged, AllocError>
-    requires { HasNumber (V.history view.now ++ V.staged view.now) event_kind number }
+    requires number { HasNumber (V.history view.now ++ V.staged view.now) event_kind number }
+    requires zones { (V.base view.now).zones ≡ setting.now.zones.now }
     ensures exact { IfOk result (λ j. j.outcome ≡ event_outcome (ground_in setting.now) (V.history view.now ++ V.staged view.now) number
         (option_map (λ t. t.now) before.entry) names_id object) }
-    ensures allowed { IfOk result (IsAllowed (V.history view.now ++ V.staged view.now)) }
+    ensures allowed { IfOk result (IsAllowed (V.base view.now).zones (V.history view.now ++ V.staged view.now)) }
 {
     let given = given(alloc, object)?;
     let members = with_server_values(alloc, setting, number, before, given)?;
@@ -62,23 +65,25 @@ fn stored_outcome<V: AccountView>(
     names_id: bool,
     members: TreeObject,
 ) -> Result<Judged, AllocError>
-    requires { HasNumber (V.history view.now ++ V.staged view.now) event_kind number }
+    requires number { HasNumber (V.history view.now ++ V.staged view.now) event_kind number }
+    requires zones { (V.base view.now).zones ≡ setting.now.zones.now }
     ensures exact { IfOk result (λ j. j.outcome ≡ stored_event_outcome (ground_in setting.now) (V.history view.now ++ V.staged view.now) number
         (option_map (λ t. t.now) before.entry) names_id members) }
-    ensures allowed { IfOk result (IsAllowed (V.history view.now ++ V.staged view.now)) }
+    ensures allowed { IfOk result (IsAllowed (V.base view.now).zones (V.history view.now ++ V.staged view.now)) }
 {
     let event = Tree::Object(members);
-    let names = bad_names(alloc, view, setting, before, names_id, &event)?;
+    let resources = resources_of(alloc, view, &event)?;
+    let names = bad_names(alloc, view, setting, before, names_id, &event, &resources)?;
     if !names.is_empty() {
-        let properties = Texts::new(names);
-        return Ok(Judged::refused(SetError::InvalidProperties { properties }));
+        return Ok(refused_for(names));
     }
+    let against = stands_against(alloc, view, setting.zones, number, &event, &resources)?;
     let change = Change {
         kind: Kind::Event,
         id: number,
         object: Some(event),
     };
-    within_quota(alloc, view, change)
+    within_quota(alloc, view, change, against)
 }
 
 // The names of all properties that are bad, in byte order.
@@ -89,11 +94,14 @@ fn bad_names<V: AccountView>(
     before: Option<&Tree>,
     names_id: bool,
     event: &Tree,
+    resources: &[u64],
 ) -> Result<Vec<Text>, AllocError>
+    requires { resources.now ≡ resources_of (V.history view.now ++ V.staged view.now) (data_of event.now) }
     ensures { IfOk result (λ v. v.items ≡ bad_of_event (ground_in setting.now) (V.history view.now ++ V.staged view.now)
         (option_map (λ t. t.now) before.entry) names_id (data_of event.now)) }
 {
     let mut names = bad_event_names(alloc, event, setting.zones)?;
+    note_booking(alloc, view, setting, event, resources, &mut names)?;
     note_if(
         alloc,
         names_missing_calendar(view, event),
@@ -105,13 +113,32 @@ fn bad_names<V: AccountView>(
     Ok(names)
 }
 
-fn note_if(alloc: Global, is_bad: bool, name: &str, names: &mut Vec<Text>) -> Result<(), AllocError>
-    ensures { OnOk result (names.new.items ≡ with_name_if is_bad name.now names.old.items) }
+// Puts what the resources that an event is in make bad among these names.
+fn note_booking<V: AccountView>(
+    alloc: Global,
+    view: &V,
+    setting: &Setting<'_>,
+    event: &Tree,
+    resources: &[u64],
+    names: &mut Vec<Text>,
+) -> Result<(), AllocError>
+    requires { resources.now ≡ resources_of (V.history view.now ++ V.staged view.now) (data_of event.now) }
+    ensures { OnOk result (names.new.items ≡ bad_of_booking (ground_in setting.now) (V.history view.now ++ V.staged view.now) (data_of event.now) names.old.items) }
 {
-    if is_bad {
-        put_name(names, Text::from_str(alloc, name)?)?;
-    }
-    Ok(())
+    note_if(
+        alloc,
+        is_in_other_zone(view, event, resources),
+        "timeZone",
+        names,
+    )?;
+    note_if(
+        alloc,
+        is_long_booking(view, event, resources),
+        "duration",
+        names,
+    )?;
+    let is_long = has_long_override(alloc, view, setting.zones, event, resources)?;
+    note_if(alloc, is_long, "recurrenceOverrides", names)
 }
 
 // Whether a key of `calendarIds` is the id of a calendar that isn't live.

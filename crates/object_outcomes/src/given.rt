@@ -1,13 +1,16 @@
 //! The members that a client gives.
-ghost use Rattle.std.specs.Prelude.{◌≡◌, ◌∷◌, [], Bool, IfOk, codes, false, not, option_map};
+ghost use Rattle.std.specs.Prelude.{◌≡◌, ◌∷◌, [], Bool, IfOk, OnOk, codes, false, not, option_map};
 ghost use Rattle.std.specs.Option.{option_map_or};
 ghost use Rattle.cal_model.specs.Operations.{has_other_id, is_this_text, with_name_if, with_own_id};
+ghost use Rattle.cal_model.specs.declared.outcome.Outcome.TheVariants.{Refused};
+ghost use Rattle.cal_model.specs.declared.set_error.SetError.TheVariants.{InvalidProperties};
 ghost use Rattle.model_json.specs.Data.{lookup};
 ghost use Rattle.model_json.specs.Parts.{members_in};
 ghost use Rattle.model_json.specs.TreeData.{data_of};
 ghost use Rattle.property_table.specs.Table.{given};
 
-use crate::texts::copies;
+use crate::setting::Judged;
+use cal_model::set_error::SetError;
 use model_history::entry::Kind;
 use model_json::lists::Texts;
 use model_json::text::Text;
@@ -87,14 +90,26 @@ pub(crate) fn with_own_id(
     Ok(Tree::Object(object))
 }
 
-/// These names, with `id` among them where it is bad too. Copies them then.
-pub(crate) fn with_id_if(alloc: Global, is_bad: bool, names: Texts) -> Result<Texts, AllocError>
-    ensures { IfOk result (λ t. t ≡ with_name_if is_bad (codes "id") names) }
+/// Puts the name of a property that is bad among others.
+pub(crate) fn note_if(
+    alloc: Global,
+    is_bad: bool,
+    name: &str,
+    names: &mut Vec<Text>,
+) -> Result<(), AllocError>
+    ensures { OnOk result (names.new.items ≡ with_name_if is_bad name.now names.old.items) }
 {
-    if !is_bad {
-        return Ok(names);
+    if is_bad {
+        put_name(names, Text::from_str(alloc, name)?)?;
     }
-    let mut all = copies(alloc, names.items())?;
-    put_name(&mut all, Text::from_str(alloc, "id")?)?;
-    Ok(Texts::new(all))
+    Ok(())
+}
+
+/// An object that is refused for these properties.
+pub(crate) fn refused_for(names: Vec<Text>) -> Judged
+    ensures { result ≡ record { outcome = Refused (InvalidProperties names.items); size = 0 } }
+{
+    Judged::refused(SetError::InvalidProperties {
+        properties: Texts::new(names),
+    })
 }

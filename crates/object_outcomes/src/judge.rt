@@ -7,7 +7,7 @@ ghost use Rattle.model_history.specs.History.{live_object};
 ghost use Rattle.model_json.specs.Parts.{members_in};
 ghost use Rattle.model_json.specs.Patch.{patched};
 ghost use Rattle.model_json.specs.TreeData.{data_of};
-ghost use Rattle.object_outcomes.specs.Judging.{HasNumber, IsAllowed, ground_in, operation_in};
+ghost use Rattle.object_outcomes.specs.Judging.{IsAllowed, IsBefore, ground_in, operation_in};
 
 use crate::calendar::calendar_outcome;
 use crate::created_ids::CreatedIds;
@@ -18,6 +18,7 @@ use crate::operation::Operation;
 use crate::quota::within_quota;
 use crate::resolved::{resolved_object, resolved_patch};
 use crate::setting::{Judged, Setting};
+use booking_rules::against::Against;
 use cal_model::set_error::SetError;
 use cal_model::view::AccountView;
 use model_history::entry::{Change, Kind};
@@ -35,9 +36,10 @@ pub fn judge<V: AccountView>(
     created: &CreatedIds,
     operation: &Operation<'_>,
 ) -> Result<Judged, AllocError>
+    requires zones { (V.base view.now).zones ≡ setting.now.zones.now }
     ensures exact { IfOk result (λ j. j.outcome
         ≡ outcome_of (ground_in setting.now) (V.history view.now ++ V.staged view.now) setting.now.kind created.now (operation_in operation.now)) }
-    ensures allowed { IfOk result (IsAllowed (V.history view.now ++ V.staged view.now)) }
+    ensures allowed { IfOk result (IsAllowed (V.base view.now).zones (V.history view.now ++ V.staged view.now)) }
 {
     match operation {
         Operation::Update {
@@ -88,9 +90,10 @@ pub fn judge_create<V: AccountView>(
     created: &CreatedIds,
     value: &Tree,
 ) -> Result<Judged, AllocError>
+    requires zones { (V.base view.now).zones ≡ setting.now.zones.now }
     ensures exact { IfOk result (λ j. j.outcome ≡ created_outcome (ground_in setting.now) (V.history view.now ++ V.staged view.now) setting.now.kind
         (resolved_object created.now setting.now.kind (members_in (data_of value.now)))) }
-    ensures allowed { IfOk result (IsAllowed (V.history view.now ++ V.staged view.now)) }
+    ensures allowed { IfOk result (IsAllowed (V.base view.now).zones (V.history view.now ++ V.staged view.now)) }
 {
     let object = resolved_object(alloc, setting.kind, created, value)?;
     let names_id = given_at(&object, "id").is_some();
@@ -108,13 +111,14 @@ fn object_outcome<V: AccountView>(
     names_id: bool,
     object: TreeObject,
 ) -> Result<Judged, AllocError>
-    requires { HasNumber (V.history view.now ++ V.staged view.now) setting.now.kind number }
+    requires before { IsBefore (V.history view.now ++ V.staged view.now) setting.now.kind number (option_map (λ t. t.now) before) }
+    requires zones { (V.base view.now).zones ≡ setting.now.zones.now }
     ensures exact { IfOk result (λ j. j.outcome ≡ object_outcome (ground_in setting.now) (V.history view.now ++ V.staged view.now) setting.now.kind number
         (option_map (λ t. t.now) before.entry) names_id object) }
-    ensures allowed { IfOk result (IsAllowed (V.history view.now ++ V.staged view.now)) }
+    ensures allowed { IfOk result (IsAllowed (V.base view.now).zones (V.history view.now ++ V.staged view.now)) }
 {
     match setting.kind {
-        Kind::Calendar => calendar_outcome(alloc, view, setting, number, names_id, object),
+        Kind::Calendar => calendar_outcome(alloc, view, setting, number, before, names_id, object),
         Kind::Event => event_outcome(alloc, view, setting, number, before, names_id, object),
     }
 }
@@ -122,7 +126,7 @@ fn object_outcome<V: AccountView>(
 // The live object that an id names, and its number.
 fn named<'a, V: AccountView>(view: &'a V, kind: Kind, id: &Text) -> Option<(u64, &'a Tree)>
     ensures exact { option_map (λ q. (q.0, q.1.now)) result ≡ object_named (V.history view.now ++ V.staged view.now) kind id.now }
-    ensures live { IfSome result (λ q. is_some (live_object (V.history view.now ++ V.staged view.now) kind q.0) ≡ true) }
+    ensures live { IfSome result (λ q. live_object (V.history view.now ++ V.staged view.now) kind q.0 ≡ Some q.1.now) }
 {
     let number = read_object_id(kind, id.as_str().as_bytes())?;
     let object = view.live(kind, number)?;
@@ -138,10 +142,11 @@ fn update<V: AccountView>(
     is_destroyed: bool,
     is_repeated: bool,
 ) -> Result<Judged, AllocError>
+    requires zones { (V.base view.now).zones ≡ setting.now.zones.now }
     ensures exact { IfOk result (λ j. j.outcome
         ≡ updated_outcome (ground_in setting.now) (V.history view.now ++ V.staged view.now) setting.now.kind patch.now is_destroyed is_repeated
         (object_named (V.history view.now ++ V.staged view.now) setting.now.kind id.now)) }
-    ensures allowed { IfOk result (IsAllowed (V.history view.now ++ V.staged view.now)) }
+    ensures allowed { IfOk result (IsAllowed (V.base view.now).zones (V.history view.now ++ V.staged view.now)) }
 {
     match named(view, setting.kind, id) {
         None => Ok(Judged::refused(SetError::NotFound)),
@@ -167,10 +172,11 @@ fn patch_object<V: AccountView>(
     object: &Tree,
     patch: &TreeObject,
 ) -> Result<Judged, AllocError>
-    requires { HasNumber (V.history view.now ++ V.staged view.now) setting.now.kind number }
+    requires before { live_object (V.history view.now ++ V.staged view.now) setting.now.kind number ≡ Some object.now }
+    requires zones { (V.base view.now).zones ≡ setting.now.zones.now }
     ensures exact { IfOk result (λ j. j.outcome
         ≡ patched_outcome (ground_in setting.now) (V.history view.now ++ V.staged view.now) setting.now.kind number object.now (patched (data_of object.now) patch.now)) }
-    ensures allowed { IfOk result (IsAllowed (V.history view.now ++ V.staged view.now)) }
+    ensures allowed { IfOk result (IsAllowed (V.base view.now).zones (V.history view.now ++ V.staged view.now)) }
 {
     match apply(alloc, object, patch) {
         Ok(tree) => {
@@ -202,7 +208,7 @@ fn destroy<V: AccountView>(
     ensures exact { IfOk result (λ j. j.outcome
         ≡ destroyed_outcome (ground_in setting.now) (V.history view.now ++ V.staged view.now) setting.now.kind
         (object_named (V.history view.now ++ V.staged view.now) setting.now.kind id.now)) }
-    ensures allowed { IfOk result (IsAllowed (V.history view.now ++ V.staged view.now)) }
+    ensures allowed { IfOk result (IsAllowed (V.base view.now).zones (V.history view.now ++ V.staged view.now)) }
 {
     match named(view, setting.kind, id) {
         None => Ok(Judged::refused(SetError::NotFound)),
@@ -215,7 +221,11 @@ fn destroy<V: AccountView>(
                 id: number,
                 object: None,
             };
-            within_quota(alloc, view, change)
+            let against = Against {
+                is_full: false,
+                clash: None,
+            };
+            within_quota(alloc, view, change, against)
         }
     }
 }

@@ -1,10 +1,12 @@
 //! The room of an account.
-ghost use Rattle.std.specs.Prelude.{◌≡◌, ◌++◌, IfOk, not};
+ghost use Rattle.std.specs.Prelude.{◌≡◌, ◌++◌, IfOk, None, false, not};
+ghost use Rattle.cal_model.specs.Fits.{IsObjectFit};
 ghost use Rattle.cal_model.specs.Operations.{within_quota};
 ghost use Rattle.cal_model.specs.Quota.{exceeds_quota, size_of_object};
 ghost use Rattle.object_outcomes.specs.Judging.{HasNumber, IsAllowed};
 
 use crate::setting::Judged;
+use booking_rules::against::Against;
 use cal_model::limits::{MAX_ENTRIES, MAX_OBJECT_BYTES};
 use cal_model::outcome::Outcome;
 use cal_model::set_error::SetError;
@@ -13,22 +15,27 @@ use json_edge::write::tree_text;
 use model_history::entry::Change;
 use std::alloc::{AllocError, Global};
 
-/// The change of an object that may be put, where the account has room for it.
+/// What comes of a change: it is refused where the account has no room for it or a resource is full, and then where it clashes.
+///
+/// Where it is accepted, `fit` says that the account may take its object.
 pub(crate) fn within_quota<V: AccountView>(
     alloc: Global,
     view: &V,
     change: Change,
+    against: Against,
 ) -> Result<Judged, AllocError>
-    requires { HasNumber (V.history view.now ++ V.staged view.now) change.kind change.id }
-    ensures exact { IfOk result (λ j. j.outcome ≡ within_quota (V.history view.now ++ V.staged view.now) change) }
-    ensures allowed { IfOk result (IsAllowed (V.history view.now ++ V.staged view.now)) }
+    requires number { HasNumber (V.history view.now ++ V.staged view.now) change.kind change.id }
+    requires fit { against.is_full ≡ false → against.clash ≡ None
+        → IsObjectFit (V.base view.now).zones (V.history view.now ++ V.staged view.now) change.kind change.id change.object }
+    ensures exact { IfOk result (λ j. j.outcome ≡ within_quota (V.history view.now ++ V.staged view.now) against.is_full against.clash change) }
+    ensures allowed { IfOk result (IsAllowed (V.base view.now).zones (V.history view.now ++ V.staged view.now)) }
 {
     let size = size_of_change(alloc, &change)?;
-    if !has_room(view, size) {
-        return Ok(Judged {
-            outcome: Outcome::Refused(SetError::OverQuota),
-            size,
-        });
+    if !has_room(view, size) || against.is_full {
+        return Ok(Judged::refused(SetError::OverQuota));
+    }
+    if let Some((calendar, clash)) = against.clash {
+        return Ok(Judged::refused(SetError::Clashes { calendar, clash }));
     }
     Ok(Judged {
         outcome: Outcome::Accepted(change),

@@ -34,7 +34,8 @@ pub(crate) fn carry_out<V: AccountView>(
     request: &SetRequest<'_>,
     created: &Pairs,
 ) -> Result<Plan, AllocError>
-    requires { V.staged view.old ≡ [] }
+    requires staged { V.staged view.old ≡ [] }
+    requires zones { (V.base view.old).zones ≡ setting.now.zones.now }
     ensures arguments { IfOk result (λ p. p.arguments ≡ set_arguments (ground_in setting.now) setting.now.kind created.now (V.history view.old) (objects_in request.now)) }
     ensures created { IfOk result (λ p. p.created ≡ new_ids (ground_in setting.now) setting.now.kind created.now (V.history view.old) (objects_in request.now)) }
     ensures staged { OnOk result (V.staged view.new ≡ set_changes (ground_in setting.now) setting.now.kind created.now (V.history view.old) (objects_in request.now)) }
@@ -61,7 +62,8 @@ fn change_all<V: AccountView>(
     old_state: u64,
     made: &Creates,
 ) -> Result<Tree, AllocError>
-    requires { vec_len made.now.outcomes ≡ length (objects_in request.now).creates }
+    requires creates { vec_len made.now.outcomes ≡ length (objects_in request.now).creates }
+    requires zones { (V.base view.old).zones ≡ setting.now.zones.now }
     ensures arguments { IfOk result (λ t. (created : List (List ℕ × List ℕ)) (cs : List AnyChange)
         → IsCreated made.now (ground_in setting.now) setting.now.kind created cs (objects_in request.now) → V.history view.old ≡ cs → V.staged view.old ≡ flat_map changes_in made.now.outcomes.items
         → old_state ≡ state_at cs setting.now.kind → t ≡ set_arguments (ground_in setting.now) setting.now.kind created cs (objects_in request.now)) }
@@ -99,7 +101,8 @@ fn create_all<V: AccountView>(
     request: &SetRequest<'_>,
     created: &Pairs,
 ) -> Result<Creates, AllocError>
-    requires { V.staged view.old ≡ [] }
+    requires staged { V.staged view.old ≡ [] }
+    requires zones { (V.base view.old).zones ≡ setting.now.zones.now }
     ensures created { IfOk result (λ c. IsCreated c (ground_in setting.now) setting.now.kind created.now (V.history view.old) (objects_in request.now)) }
     ensures lengths { IfOk result (λ c. vec_len c.outcomes ≡ length (objects_in request.now).creates) }
     ensures staged { IfOk result (λ c. V.staged view.new ≡ flat_map changes_in c.outcomes.items) }

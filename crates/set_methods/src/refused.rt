@@ -1,18 +1,27 @@
 //! What the reply to a set tells of objects that were refused (RFC 8620 section 5.3).
-ghost use Rattle.std.specs.Prelude.{◌≡◌, ◌∷◌, [], IfOk, length, map};
+ghost use Rattle.std.specs.Prelude.{◌≡◌, ◌∷◌, [], IfOk, codes, length, map};
+ghost use Rattle.std.specs.Option.{option_map_or};
 ghost use Rattle.cal_model.specs.SetErrors.{set_error};
 ghost use Rattle.cal_model.specs.SetReply.{object_or_null, refused_member};
 ghost use Rattle.cal_model.specs.Sets.{of_each};
+ghost use Rattle.cal_model.specs.declared.set_error.SetError.TheVariants.{Clashes};
+ghost use Rattle.model_history.specs.ObjectId.{id_text};
+ghost use Rattle.model_history.specs.declared.entry.Kind.TheVariants.{Event as event_kind};
+ghost use Rattle.model_json.specs.Data.{null, text};
 ghost use Rattle.model_json.specs.TreeData.{data_of, pair_of};
 
 use crate::named_id::NamedId;
 use crate::parts::object_or_null;
 use cal_model::outcome::Outcome;
 use cal_model::set_error::SetError;
+use model_history::entry::Kind;
+use model_json::num::Num;
 use model_json::text::Text;
 use model_json::tree::{Member, Tree};
+use model_room::clash::Clash;
 use object_outcomes::texts::{copies, text_list};
 use std::alloc::{AllocError, Global};
+use time_text::object_id_text;
 
 /// What is told of the creates or updates that were refused, under the texts of the call.
 pub(crate) fn refused(
@@ -99,11 +108,38 @@ fn set_error_tree(alloc: Global, error: &SetError) -> Result<Tree, AllocError>
                 vec![in alloc; ("properties", properties), ("type", name)]?,
             )
         }
+        SetError::Clashes { calendar, clash } => clash_tree(alloc, *calendar, clash, name),
         SetError::NotFound
         | SetError::WillDestroy
         | SetError::CalendarHasEvent
         | SetError::OverQuota
-        | SetError::Forbidden
-        | SetError::NotBuilt => { Tree::object(alloc, vec![in alloc; ("type", name)]?) }
+        | SetError::Forbidden => { Tree::object(alloc, vec![in alloc; ("type", name)]?) }
+    }
+}
+
+// The error of this name where an event would clash in a resource calendar.
+fn clash_tree(alloc: Global, calendar: u64, clash: &Clash, name: Tree) -> Result<Tree, AllocError>
+    requires { data_of name ≡ text (codes "clash") }
+    ensures { IfOk result (λ t. data_of t ≡ set_error (Clashes calendar clash.now)) }
+{
+    let calendar = Tree::Text(object_id_text(alloc, Kind::Calendar, calendar)?);
+    let with = event_or_null(alloc, clash.with)?;
+    let members = vec![in alloc;
+        ("calendarId", calendar),
+        ("day", Tree::Whole(Num::new(clash.day as i128))),
+        ("second", Tree::Whole(Num::new(clash.second as i128))),
+        ("type", name),
+        ("with", with),
+    ]?;
+    Tree::object(alloc, members)
+}
+
+// The id of an event, null where there is none.
+fn event_or_null(alloc: Global, number: Option<u64>) -> Result<Tree, AllocError>
+    ensures { IfOk result (λ t. data_of t ≡ option_map_or (λ n. text (id_text event_kind n)) number null) }
+{
+    match number {
+        Some(number) => Ok(Tree::Text(object_id_text(alloc, Kind::Event, number)?)),
+        None => Ok(Tree::Null),
     }
 }

@@ -35,6 +35,7 @@ pub(crate) fn run_creates<V: AccountView>(
     created: CreatedIds,
     creates: &[Member],
 ) -> Result<Creates, AllocError>
+    requires zones { (V.base view.old).zones ≡ setting.now.zones.now }
     ensures outcomes { IfOk result (λ c. c.outcomes.items
         ≡ outcomes_of_creates (ground_in setting.now) setting.now.kind created (V.history view.old ++ V.staged view.old) (map pair_of creates.now)) }
     ensures ids { IfOk result (λ c. c.ids ≡ created ++ of_each created_id (map pair_of creates.now)
@@ -82,6 +83,7 @@ pub(crate) fn run<V: AccountView>(
     created: &CreatedIds,
     operations: &[Operation<'_>],
 ) -> Result<Vec<Outcome>, AllocError>
+    requires zones { (V.base view.old).zones ≡ setting.now.zones.now }
     ensures outcomes { IfOk result (λ v. v.items
         ≡ outcomes (ground_in setting.now) setting.now.kind created.now (V.history view.old ++ V.staged view.old) (map operation_in operations.now)) }
     ensures lengths { IfOk result (λ v. vec_len v ≡ length operations.now) }
@@ -101,7 +103,7 @@ pub(crate) fn run<V: AccountView>(
 
 // The outcome, whose change is staged where it is accepted.
 fn staged<V: AccountView>(view: &mut V, judged: Judged) -> Result<Outcome, AllocError>
-    requires { IsAllowed (V.history view.old ++ V.staged view.old) judged }
+    requires { IsAllowed (V.base view.old).zones (V.history view.old ++ V.staged view.old) judged }
     ensures outcome { IfOk result (λ o. o ≡ judged.outcome) }
     ensures staged { IfOk result (λ o. V.staged view.new ≡ V.staged view.old ++ changes_in o) }
     ensures history { V.history view.new ≡ V.history view.old }

@@ -1,6 +1,10 @@
-use Rattle.std.proofs.Common.{◌≡◌, ap, append-nil, subst, sym, ◌∙◌, ◌++◌, []}
+use Rattle.std.proofs.Common.{◌≡◌, ap, append-nil, refl, subst, sym, ◌∙◌, ◌++◌, []}
+use Rattle.std.specs.Arc.{arc_value}
 use Rattle.account_core.proofs.Committing.{tally_committed}
+use Rattle.account_core.proofs.Rooms.{none_staged, rooms_committed}
 use Rattle.account_core.specs.Tally.{Tallies}
+use Rattle.account_rooms.specs.Rooms.{AreRooms}
+use Rattle.account_rooms.specs.RoomsView.{RoomsView}
 use Rattle.account_store.specs.Store.{entries}
 use Rattle.cal_model.specs.Answer.{entries_from}
 use Rattle.model_history.specs.History.{changes_of}
@@ -11,7 +15,13 @@ invariant_of-self c =
     let pushed = c.push_all.ensures ∙ ap (λ v. entries c.args.self.now.store ++ entries_from c.args.stamp.now 0 v.items) c.replace-staged.ensures.value in
     let kept = tally_committed c.args.self.now.tally _ _ c.args.stamp.now _ c.args.self.now.told pushed in
     let emptied : c.replace-staged.new.dest.items ≡ [] = ap (λ v. v.items) c.replace-staged.ensures.after ∙ c.new.ensures.items in
+    let zones = arc_value c.args.self.now.zones in
+    let rooms = rooms_committed zones _ _ c.args.stamp.now _ c.args.self.now.rooms.rooms c.args.self.now.rooms.rooms c.args.self.now.rooms_now pushed refl in
+    let now = ap (λ (v : RoomsView). v.rooms) c.keep.ensures in
+    let then = ap (λ (v : RoomsView). v.kept) c.keep.ensures in
     record {
       kept_told = kept;
       told = subst (λ items. Tallies c.args.self.now.tally (changes_of (entries c.push_all.new.store) ++ items)) (sym emptied) (rw append-nil kept);
+      kept_rooms = subst (AreRooms zones (changes_of (entries c.push_all.new.store))) (sym then) rooms;
+      rooms_now = none_staged zones _ _ c.args.self.now.rooms.rooms c.keep.new.self.rooms rooms emptied now;
     }

@@ -1,13 +1,37 @@
-use Rattle.std.proofs.Common.{append_assoc}
+use Rattle.std.proofs.Common.{◌++◌, ◌∷◌, [], ap, append_assoc, subst, sym, ◌∙◌}
+use Rattle.std.specs.Arc.{arc_value}
 use Rattle.account_core.proofs.Counting.{next, tally_counted}
+use Rattle.account_core.proofs.Numbers.{new_is_next}
+use Rattle.account_core.proofs.Rooms.{one_staged}
+use Rattle.account_core.specs.Ledger.{history, staged}
+use Rattle.account_core.specs.Tally.{count_created}
+use Rattle.account_rooms.proofs.Following.{rooms_may}
+use Rattle.account_rooms.specs.RoomChanges.{MayChange, rooms_after}
+use Rattle.account_rooms.specs.Rooms.{AreRooms}
+use Rattle.model_history.specs.declared.entry.Kind.TheVariants.{Calendar}
 use Rattle.account_core.proofs.ledger.LedgerAccountView.stage.Goals as goal
 
+pub follow-requires : goal.follow-requires
+follow-requires c =
+    let l = c.args.self.now in
+    subst (λ zones. MayChange zones l.rooms.rooms c.args.change.kind c.args.change.object) (sym c.deref.ensures)
+    (rooms_may (arc_value l.zones) (history l ++ staged l) c.args.change l.rooms.rooms l.rooms_now c.requires.fit)
+
 pub count-requires-clause-next : goal.count-requires-clause-next
-count-requires-clause-next c = next c.args.self.now.tally _ c.args.change c.args.self.now.told c.requires.fit
+count-requires-clause-next c = next c.args.self.now.tally _ c.args.change c.args.self.now.told c.requires.fit.number
 
 pub invariant_of-self : goal.invariant_of-self
-invariant_of-self c = record {
-  kept_told = c.args.self.now.kept_told;
-  told = rw (c.push_reserved.ensures.items, c.reserve.ensures.items, ← append_assoc)
-      (tally_counted c.args.self.now.tally c.count.new.self _ c.args.change c.args.size c.args.self.now.told c.requires.fit c.requires.size c.count.ensures.entries c.count.ensures.size c.count.ensures.created);
-}
+invariant_of-self c =
+    let l = c.args.self.now in
+    let zones = arc_value l.zones in
+    let cs = history l ++ staged l in
+    let more = c.push_reserved.ensures.items ∙ ap (λ ds. ds ++ c.args.change ∷ []) c.follow.ensures.staged in
+    let after = c.in-Ok.ensures.rooms ∙ ap (λ zs. rooms_after zs c.args.change l.rooms.rooms) c.deref.ensures in
+    let new = new_is_next cs (count_created l.tally Calendar) Calendar (l.told.numbers Calendar) in
+    record {
+      kept_told = l.kept_told;
+      told = rw (c.push_reserved.ensures.items, c.follow.ensures.staged, ← append_assoc)
+          (tally_counted l.tally c.count.new.self _ c.args.change c.args.size l.told c.requires.fit.number c.requires.size c.count.ensures.entries c.count.ensures.size c.count.ensures.created);
+      kept_rooms = subst (AreRooms zones (history l)) (sym c.follow.ensures.kept) l.kept_rooms;
+      rooms_now = one_staged zones (history l) (staged l) c.push_reserved.new.self.items c.args.change l.rooms.rooms c.follow.new.rooms.rooms l.rooms_now c.requires.fit new more after;
+    }

@@ -1,0 +1,21 @@
+use Rattle.std.proofs.Common.{◌++◌, List, ap, append-nil, option_map, subst, ◌∙◌}
+use Rattle.std.specs.Arc.{arc_value}
+use Rattle.account_core.specs.Ledger.{history}
+use Rattle.model_history.specs.Base.{Base}
+use Rattle.model_history.specs.History.{changes_of}
+use Rattle.model_history.specs.declared.entry.Entry.{Entry}
+use Rattle.model_resource.specs.Bookings.{bookings_of}
+use Rattle.model_room.specs.Bookings.{without_booking}
+use Rattle.model_room.specs.Clashes.{IsClash, second_of}
+use Rattle.model_room.specs.declared.booking.Booking.{Booking}
+use Rattle.rule_expand.specs.Least.{IsLeastOf}
+use Rattle.account_core.proofs.account.Account.first_clash.Goals as goal
+
+pub returns-clause-least : goal.returns-clause-least
+returns-clause-least c =
+    let l = c.self.inside.ledger in
+    let same =
+    ap (λ ds. bookings_of (arc_value l.zones) (history l ++ ds) c.args.calendar) c.self.invariant
+    ∙ ap (λ ds. bookings_of (arc_value l.zones) ds c.args.calendar) (append-nil (history l))
+    ∙ ap (λ (v : Base × List Entry). bookings_of v.0.zones (changes_of v.1) c.args.calendar) c.self.view_is in
+    subst (λ (bs : List Booking). IsLeastOf (IsClash (without_booking c.args.event bs) c.args.series.now) (option_map second_of c.first_clash.result)) same c.first_clash.ensures.least

@@ -1,0 +1,93 @@
+//! Queries of events, what changed of their results, and when the owner of an account is busy.
+ghost use Rattle.std.specs.Prelude.{◌≡◌, [], IfErr, IfOk, None, OnOk, Option};
+ghost use Rattle.account_core.specs.Ledger.{base, ledger_entries};
+ghost use Rattle.account_store.specs.Store.{entries};
+ghost use Rattle.cal_model.specs.Answer.{answered, availability_answer, query_answer, query_changes_answer, unless_error};
+ghost use Rattle.model_call.specs.declared.call.MethodError.{MethodError as AnyError};
+ghost use Rattle.model_json.specs.declared.tree.Tree.{Tree as AnyTree};
+ghost use Rattle.query_methods.specs.Reports.{Reports};
+ghost use Rattle.query_methods.specs.Requests.{criteria_in, paging_in, since_in};
+
+use crate::ledger::Ledger;
+use crate::reply::{refusal, reply};
+use availability_method::AvailabilityRequest;
+use model_call::call::{MethodError, Reply};
+use model_json::lists::Pairs;
+use model_json::tree::Tree;
+use query_methods::error::QueryError;
+use query_methods::request::{Criteria, Paging, Since};
+use std::alloc::AllocError;
+
+/// Answers which events a query finds (RFC 8620 section 5.5).
+pub fn query(
+    ledger: &Ledger,
+    criteria: &Criteria<'_>,
+    expand: bool,
+    paging: &Paging<'_>,
+) -> Result<Reply, AllocError>
+    ensures { IfOk result (λ r. r ≡ query_answer (base ledger.now) (ledger_entries ledger.now) (criteria_in criteria.now) expand (paging_in paging.now)) }
+{
+    let found = query_methods::query::query(
+        ledger.alloc,
+        &ledger.store,
+        &ledger.id,
+        &ledger.zones,
+        criteria,
+        expand,
+        paging,
+    );
+    told(ledger, found)
+}
+
+/// Answers what changed of a query's result since a state (RFC 8620 section 5.6).
+pub fn query_changes(
+    ledger: &Ledger,
+    criteria: &Criteria<'_>,
+    expand: bool,
+    since: &Since<'_>,
+) -> Result<Reply, AllocError>
+    ensures { IfOk result (λ r. r ≡ query_changes_answer (base ledger.now) (ledger_entries ledger.now) (criteria_in criteria.now) expand (since_in since.now)) }
+{
+    let changed = query_methods::query_changes::query_changes(
+        ledger.alloc,
+        &ledger.store,
+        &ledger.id,
+        &ledger.zones,
+        criteria,
+        expand,
+        since,
+    );
+    told(ledger, changed)
+}
+
+/// Answers when the owner of the account is busy (draft JMAP for Calendars).
+pub fn availability(ledger: &Ledger, request: &AvailabilityRequest<'_>) -> Result<Reply, AllocError>
+    ensures { IfOk result (λ r. r ≡ availability_answer (base ledger.now) (ledger_entries ledger.now) request.now.id.now request.now.utc_start.now request.now.utc_end.now request.now.time_zone.now) }
+{
+    let alloc = ledger.alloc;
+    match availability_method::availability(
+        alloc,
+        &ledger.id,
+        &ledger.zones,
+        &ledger.store,
+        request,
+    )? {
+        Some(arguments) => Ok(reply(&ledger.store, arguments, Pairs::new(Vec::new(alloc)))),
+        None => Ok(refusal(alloc, &ledger.store, MethodError::InvalidArguments)),
+    }
+}
+
+// The reply that tells what a query came to.
+fn told(ledger: &Ledger, found: Result<Tree, QueryError>) -> Result<Reply, AllocError>
+    ensures { (refused : Option AnyError) (arguments : AnyTree) → IfOk found (λ t. t ≡ arguments) → OnOk found (refused ≡ None) → IfErr found (λ e. Reports e refused)
+        → IfOk result (λ r. r ≡ unless_error (ledger_entries ledger.now) refused (answered (ledger_entries ledger.now) arguments [])) }
+{
+    match found {
+        Ok(arguments) => {
+            let created = Pairs::new(Vec::new(ledger.alloc));
+            Ok(reply(&ledger.store, arguments, created))
+        }
+        Err(QueryError::Method(error)) => Ok(refusal(ledger.alloc, &ledger.store, error)),
+        Err(QueryError::NoMemory) => Err(AllocError),
+    }
+}

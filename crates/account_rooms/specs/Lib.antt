@@ -1,0 +1,5 @@
+pub mod Rooms
+pub mod Covered
+pub mod RoomChanges
+pub mod RoomsView
+pub mod Slots

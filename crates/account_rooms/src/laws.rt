@@ -1,0 +1,34 @@
+//! The laws of rooms, the contracts of functions that do nothing.
+ghost use Rattle.std.specs.Prelude.{◌≡◌, ◌∷◌, ◌++◌, [], List, false, map, true, ℕ};
+ghost use Rattle.account_rooms.specs.RoomChanges.{MayChange, rooms_after};
+ghost use Rattle.account_rooms.specs.Covered.{AreCoveredOnce};
+ghost use Rattle.account_rooms.specs.Rooms.{AreFree, AreRooms, BookedRoom, bookings_in, has_room, rooms_at};
+ghost use Rattle.cal_model.specs.Fits.{IsFit};
+ghost use Rattle.model_history.specs.History.{ids_at, next_number};
+ghost use Rattle.model_history.specs.Pages.{is_in};
+ghost use Rattle.model_history.specs.declared.entry.Change.{Change};
+ghost use Rattle.model_history.specs.declared.entry.Kind.TheVariants.{Calendar};
+ghost use Rattle.model_resource.specs.Bookings.{bookings_of};
+ghost use Rattle.model_resource.specs.Resources.{is_resource, resources_at};
+ghost use Rattle.model_site.specs.TimeZones.{ZoneText};
+
+/// An account without changes has no rooms. A change that fits keeps what the rooms keep: among it, that no second of a resource is
+/// covered twice.
+pub fn rooms_follow_changes()
+    ensures none { (zones : List ZoneText) → AreRooms zones [] [] }
+    ensures more { (zones : List ZoneText) (cs : List Change) (c : Change) (rs : List BookedRoom) → AreRooms zones cs rs → IsFit zones cs c
+        → is_in (ids_at cs Calendar) (next_number cs Calendar) ≡ false → AreRooms zones (cs ++ c ∷ []) (rooms_after zones c rs) }
+    ensures may { (zones : List ZoneText) (cs : List Change) (c : Change) (rs : List BookedRoom) → AreRooms zones cs rs → IsFit zones cs c → MayChange zones rs c.kind c.object }
+{}
+
+/// The rooms of an account are its live resource calendars, and hold their bookings.
+pub fn rooms_are_of_resources()
+    ensures calendars { (zones : List ZoneText) (cs : List Change) → map (λ r. r.calendar) (rooms_at zones cs) ≡ resources_at cs }
+    ensures there { (zones : List ZoneText) (cs : List Change) (n : ℕ) → is_resource cs n ≡ true → has_room n (rooms_at zones cs) ≡ true }
+    ensures bookings { (zones : List ZoneText) (cs : List Change) (n : ℕ) → is_resource cs n ≡ true → bookings_in n (rooms_at zones cs) ≡ bookings_of zones cs n }
+{}
+
+/// Bookings of which no second is covered twice, as the tests tell, have no two different occurrences that cover one second.
+pub fn free_rooms_are_covered_once()
+    ensures { (zones : List ZoneText) (cs : List Change) → AreFree zones cs → AreCoveredOnce zones cs }
+{}

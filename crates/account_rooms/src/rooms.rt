@@ -1,0 +1,189 @@
+//! The rooms of an account.
+ghost use Rattle.std.specs.Prelude.{◌≡◌, ◌≤◌, [], Some, IfNone, IfOk, OnOk, false, length, map, option_map, take, true};
+ghost use Rattle.account_rooms.specs.RoomChanges.{MayChange, booked_again, rooms_after, with_room, without_room};
+ghost use Rattle.account_rooms.specs.Rooms.{bookings_in, has_room};
+ghost use Rattle.account_rooms.specs.Slots.{room_now, rooms_kept, rooms_now};
+ghost use Rattle.model_json.specs.TreeData.{data_of};
+ghost use Rattle.model_history.specs.declared.entry.Kind.TheVariants.{Event as event_kind};
+ghost use Rattle.model_resource.specs.Resources.{zone_of_resource};
+ghost use Rattle.model_room.specs.Bookings.{without_booking};
+ghost use Rattle.model_room.specs.Clashes.{IsClash, IsClear, first_clash, second_of};
+ghost use Rattle.model_series.specs.Lengths.{IsWeekLong};
+ghost use Rattle.rule_expand.specs.Least.{IsLeastOf};
+ghost use Rattle.std.specs.List.{list_any};
+
+use crate::slot::{
+    Slot, book_in_all, calendars_of, close, drop_closed, is_in_any, keep_all, retire_in_all,
+    slot_of, undo_all,
+};
+use event_series::read::series_of;
+use model_history::entry::{Change, Kind};
+use model_json::tree::Tree;
+use model_room::clash::Clash;
+use model_series::series::Series;
+use resource_book::Room;
+use std::alloc::{AllocError, Global};
+use std::marker::Model;
+use zone_table::Zones;
+
+/// The resource calendars of an account with their bookings, as they are and as they were when they were last kept.
+///
+/// They follow the changes of the account. All that was done since they were kept is taken back without memory.
+#[derive(Drop)]
+pub struct Rooms {
+    alloc: Global,
+    // in order of creation
+    slots: Vec<Slot>,
+    // how many slots there were when the rooms were kept
+    kept: usize,
+}
+
+impl Model for Rooms {
+    ghost use Rattle.std.specs.Prelude.{◌≤◌, take, vec_len};
+    ghost use Rattle.account_rooms.specs.RoomsView.{RoomsView};
+    ghost use Rattle.account_rooms.specs.Slots.{rooms_kept, rooms_now};
+
+    ghost Value = { RoomsView };
+
+    ghost view = { λ r. record { rooms = rooms_now r.slots.items; kept = rooms_kept (take r.kept r.slots.items) } };
+
+    ghost invariant = { λ r. r.kept ≤ vec_len r.slots };
+}
+
+impl Rooms {
+    /// No rooms. Takes no memory.
+    pub fn new(alloc: Global) -> Rooms
+        ensures { result ≡ record { rooms = []; kept = [] } }
+    {
+        Rooms {
+            alloc,
+            slots: Vec::new(alloc),
+            kept: 0,
+        }
+    }
+
+    /// The numbers of the resource calendars, in order of creation. Takes memory for the list.
+    pub fn calendars(&self, alloc: Global) -> Result<Vec<u64>, AllocError>
+        ensures { IfOk result (λ v. v.items ≡ map (λ r. r.calendar) self.now.rooms) }
+    {
+        calendars_of(alloc, &self.slots)
+    }
+
+    /// How many bookings a resource calendar has beside that of an event. Takes no memory.
+    pub fn bookings(&self, calendar: u64, event: u64) -> usize
+        requires { has_room calendar self.now.rooms ≡ true }
+        ensures { result ≡ length (without_booking event (bookings_in calendar self.now.rooms)) }
+    {
+        match slot_of(&self.slots, calendar) {
+            Some(slot) => slot.room.count(Some(event)),
+            None => unreachable!(),
+        }
+    }
+
+    /// The first second, over all days without end, that an occurrence of the series covers and that a different occurrence covers
+    /// too, of the series or of a booking of a resource calendar beside that of an event; or `None` where there is no such second.
+    /// No occurrence of the series lasts longer than 7 days. Takes no memory.
+    pub fn clash(&self, calendar: u64, event: u64, series: &Series) -> Option<Clash>
+        requires room { has_room calendar self.now.rooms ≡ true }
+        requires week { IsWeekLong series.now }
+        ensures exact { result ≡ first_clash (without_booking event (bookings_in calendar self.now.rooms)) series.now }
+        ensures clear { IfNone result (IsClear (without_booking event (bookings_in calendar self.now.rooms)) series.now) }
+        ensures least { IsLeastOf (IsClash (without_booking event (bookings_in calendar self.now.rooms)) series.now) (option_map second_of result) }
+    {
+        match slot_of(&self.slots, calendar) {
+            Some(slot) => slot.room.check(Some(event), series),
+            None => unreachable!(),
+        }
+    }
+
+    /// Lets the rooms follow a change. After want of memory some of its bookings may be there and others not; those that are gone
+    /// back to stay.
+    pub fn follow(&mut self, zones: &Zones, change: &Change) -> Result<(), AllocError>
+        requires { MayChange zones.now self.old.rooms change.now.kind change.now.object }
+        ensures ok { OnOk result (self.new.rooms ≡ rooms_after zones.now change.now self.old.rooms) }
+        ensures kept { self.new.kept ≡ self.old.kept }
+    {
+        match (change.kind, &change.object) {
+            (Kind::Event, None) => {
+                self.retire(change.id);
+                Ok(())
+            }
+            (Kind::Event, Some(event)) => self.book(zones, change.id, event),
+            (Kind::Calendar, None) => {
+                self.close(change.id);
+                Ok(())
+            }
+            (Kind::Calendar, Some(calendar)) => {
+                if calendar.text_at("resourceZone").is_some() {
+                    self.open(change.id)
+                } else {
+                    Ok(())
+                }
+            }
+        }
+    }
+
+    /// Lets the rooms be those that are gone back to. Takes no memory.
+    pub fn keep(&mut self)
+        ensures { self.new ≡ record { rooms = self.old.rooms; kept = self.old.rooms } }
+    {
+        drop_closed(&mut self.slots);
+        keep_all(&mut self.slots);
+        self.kept = self.slots.len();
+    }
+
+    /// Goes back to the rooms that were kept. Takes no memory.
+    pub fn undo(&mut self)
+        ensures { self.new ≡ record { rooms = self.old.kept; kept = self.old.kept } }
+    {
+        self.slots.truncate(self.kept);
+        undo_all(&mut self.slots);
+    }
+
+    // Gives a calendar a room, where it has none.
+    fn open(&mut self, calendar: u64) -> Result<(), AllocError>
+        ensures ok { OnOk result (self.new.rooms ≡ with_room calendar self.old.rooms) }
+        ensures kept { self.new.kept ≡ self.old.kept }
+    {
+        if slot_of(&self.slots, calendar).is_some() {
+            return Ok(());
+        }
+        let room = Room::new(self.alloc);
+        self.slots.push(Slot {
+            calendar,
+            room,
+            live: true,
+        })?;
+        Ok(())
+    }
+
+    // Takes the room of a calendar away.
+    fn close(&mut self, calendar: u64)
+        ensures rooms { self.new.rooms ≡ without_room calendar self.old.rooms }
+        ensures kept { self.new.kept ≡ self.old.kept }
+    {
+        close(&mut self.slots, calendar);
+    }
+
+    // Takes out the bookings of an event.
+    fn retire(&mut self, event: u64)
+        ensures rooms { self.new.rooms ≡ map (λ r. record { calendar = r.calendar; bookings = without_booking event r.bookings }) self.old.rooms }
+        ensures kept { self.new.kept ≡ self.old.kept }
+    {
+        retire_in_all(&mut self.slots, event);
+    }
+
+    // Books an event anew, in the rooms of its calendars. Its series is read only where there is such a room.
+    fn book(&mut self, zones: &Zones, number: u64, event: &Tree) -> Result<(), AllocError>
+        requires { MayChange zones.now self.old.rooms event_kind (Some event.now) }
+        ensures ok { OnOk result (self.new.rooms ≡ map (booked_again zones.now number (Some event.now)) self.old.rooms) }
+        ensures kept { self.new.kept ≡ self.old.kept }
+    {
+        retire_in_all(&mut self.slots, number);
+        if !is_in_any(&self.slots, event) {
+            return Ok(());
+        }
+        let series = series_of(self.alloc, event, zones)?;
+        book_in_all(&mut self.slots, number, event, &series)
+    }
+}

@@ -1,0 +1,59 @@
+-- What comes of storing an event, and of destroying an object.
+use Rattle.std.proofs.Common.{◌≡◌, ◌++◌, ℕ, List, [], ◌∷◌, Bool, true, false, Option, Some, None, codes, refl, sym, ap, ◌∙◌}
+use Rattle.cal_model.specs.EventObject.{has_other_uid, names_missing_calendar}
+use Rattle.cal_model.specs.Fits.{IsBookable, IsObjectFit}
+use Rattle.cal_model.specs.Operations.{Ground, after_tests, bad_of_booking, bad_of_event, is_in_use, put, stored_event_outcome, within_quota}
+use Rattle.cal_model.specs.declared.outcome.Outcome.TheVariants.{Refused}
+use Rattle.cal_model.specs.declared.set_error.SetError.TheVariants.{InvalidProperties}
+use Rattle.model_event.specs.Events.{names_calendar}
+use Rattle.model_history.specs.declared.entry.Change.{Change}
+use Rattle.model_history.specs.declared.entry.Kind.{Kind}
+use Rattle.model_history.specs.declared.entry.Kind.TheVariants.{Calendar, Event}
+use Rattle.model_json.specs.Data.{Data, Pair, members_of, object}
+use Rattle.model_json.specs.TreeData.{data_of}
+use Rattle.model_json.specs.declared.tree.Tree.{Tree}
+use Rattle.model_json.specs.declared.tree.Tree.TheVariants.{Object}
+use Rattle.model_recurrence.specs.Recurrence.{bad_properties_of_event}
+use Rattle.model_resource.specs.BookingRules.{has_long_override, is_long_booking}
+use Rattle.model_resource.specs.Bookings.{clash_of_event, has_full_resource}
+use Rattle.model_resource.specs.Resources.{is_resource}
+use Rattle.model_site.specs.TimeZones.{ZoneText}
+use Rattle.object_outcomes.proofs.NameLemmas.{none_named, refused_names}
+
+-- what an event without bad properties is
+pub record IsGood (g : Ground) (cs : List Change) (d : Data) : Type 0 where
+  pub calendars : names_missing_calendar cs d ≡ false
+  pub overrides : has_long_override g.base.zones cs d ≡ false
+  pub length : is_long_booking cs d ≡ false
+  pub valid : bad_properties_of_event g.base.zones d ≡ []
+
+pub good_event : (g : Ground) (cs : List Change) (before : Option Tree) (names_id : Bool) (d : Data) → bad_of_event g cs before names_id d ≡ [] → IsGood g cs d
+good_event g cs before names_id d none =
+    let first = none_named names_id (codes "id") _ none in
+    let second = none_named (has_other_uid before d) (codes "uid") _ first.1 in
+    let third = none_named (names_missing_calendar cs d) (codes "calendarIds") (bad_of_booking g cs d (bad_properties_of_event g.base.zones d)) second.1 in
+    let fourth = none_named (has_long_override g.base.zones cs d) (codes "recurrenceOverrides") _ third.1 in
+    let fifth = none_named (is_long_booking cs d) (codes "duration") _ fourth.1 in
+    let sixth = none_named _ (codes "timeZone") (bad_properties_of_event g.base.zones d) fifth.1 in
+    record { calendars = third.0; overrides = fourth.0; length = fifth.0; valid = sixth.1 }
+
+-- an event with bad names is refused for them
+pub bad_event : (g : Ground) (cs : List Change) (n : ℕ) (before : Option Tree) (names_id : Bool) (ps : List Pair) (names : List (List ℕ))
+    → names ≡ bad_of_event g cs before names_id (object (members_of ps)) → (names ≡ [] → ⊥) → Refused (InvalidProperties names) ≡ stored_event_outcome g cs n before names_id ps
+bad_event g cs n before names_id ps names is some =
+    let d = object (members_of ps) in
+    refused_names cs (has_full_resource g.base.zones cs n d) (clash_of_event g.base.zones cs n d) (put Event n ps) names some
+    ∙ ap (after_tests cs (has_full_resource g.base.zones cs n d) (clash_of_event g.base.zones cs n d) (put Event n ps)) is
+
+-- one without bad names is stored, if there is room and it doesn't clash
+pub stored_event : (g : Ground) (cs : List Change) (n : ℕ) (before : Option Tree) (names_id : Bool) (ps : List Pair) → [] ≡ bad_of_event g cs before names_id (object (members_of ps))
+    → within_quota cs (has_full_resource g.base.zones cs n (object (members_of ps))) (clash_of_event g.base.zones cs n (object (members_of ps))) (put Event n ps)
+    ≡ stored_event_outcome g cs n before names_id ps
+stored_event g cs n before names_id ps is =
+    let d = object (members_of ps) in
+    ap (after_tests cs (has_full_resource g.base.zones cs n d) (clash_of_event g.base.zones cs n d) (put Event n ps)) is
+
+-- an object that isn't in use may be removed
+pub removal_fits : (zones : List ZoneText) (cs : List Change) (kind : Kind) (n : ℕ) → is_in_use cs kind n ≡ false → IsObjectFit zones cs kind n None
+removal_fits zones cs Calendar n none = none
+removal_fits zones cs Event n none = tt
