@@ -18,7 +18,7 @@ use Rattle.model_history.specs.declared.entry.Kind.{Kind}
 use Rattle.model_history.specs.declared.entry.Kind.TheVariants.{Calendar, Event}
 use Rattle.model_json.specs.TreeData.{data_of}
 use Rattle.model_json.specs.declared.tree.Tree.{Tree}
-use Rattle.model_recurrence.specs.SeriesOf.{series_in as series_of_event}
+use Rattle.model_recurrence.specs.SeriesOf.{series_in}
 use Rattle.model_resource.proofs.Numbered.{in_filter, numbered_if_live, resource_is_live}
 use Rattle.model_resource.specs.Bookings.{booked_in, bookings_of}
 use Rattle.model_resource.specs.Resources.{is_resource, resources_at, zone_of_resource}
@@ -31,7 +31,7 @@ use Rattle.room_history.proofs.Folded.{each_is}
 use Rattle.room_history.proofs.Tables.{by_test, number_same, same_number}
 use Rattle.room_history.specs.Free.{IsFree}
 use Rattle.room_history.specs.HistoryBookings.{booked_by, with_booked}
-use Rattle.room_history.specs.Rising.{series_in}
+use Rattle.room_history.specs.Rising.{series_booked}
 
 -- Rooms.
 
@@ -98,8 +98,8 @@ event_rooms zones cs id o =
     ∙ ap (filter (is_resource (event_after zones cs id o))) (sym (ids_from-push cs [] (change Event id o) Calendar)))
 
 booked_by_cases : (P : List Booking → Type 0) (zones : List ZoneText) (n id : ℕ) (t : Tree) (bs : List Booking)
-    → (names_calendar n (data_of t) ≡ true → P (with_booked id (series_of_event zones (data_of t)) bs)) → P bs → P (with_booked id (booked_by (booked_in zones n) (Some t)) bs)
-booked_by_cases P zones n id t bs named other = by_test (λ o. P (with_booked id o bs)) (names_calendar n (data_of t)) (series_of_event zones (data_of t)) None named (λ e. other)
+    → (names_calendar n (data_of t) ≡ true → P (with_booked id (series_in zones (data_of t)) bs)) → P bs → P (with_booked id (booked_by (booked_in zones n) (Some t)) bs)
+booked_by_cases P zones n id t bs named other = by_test (λ o. P (with_booked id o bs)) (names_calendar n (data_of t)) (series_in zones (data_of t)) None named (λ e. other)
 
 event_free : (zones : List ZoneText) (cs : List Change) (id : ℕ) (o : Option Tree) → AreFree zones cs → IsObjectFit zones cs Event id o → (n : ℕ) → is_resource cs n ≡ true → IsFree (bookings_after zones cs id o n)
 event_free zones cs id None free fit n r = λ x. double-without id (bookings_of zones cs n) x (free n r x)
@@ -168,7 +168,7 @@ event_follows zones cs id o rs h fit = record {
 -- Calendars.
 
 -- an event that books in a calendar is in it
-not_booked : (zones : List ZoneText) (cs : List Change) (n : ℕ) → has_event cs n ≡ false → (m : ℕ) → series_in m (bookings_of zones cs n) ≡ None
+not_booked : (zones : List ZoneText) (cs : List Change) (n : ℕ) → has_event cs n ≡ false → (m : ℕ) → series_booked m (bookings_of zones cs n) ≡ None
 not_booked zones cs n none m = each_is (booked_in zones n) cs m ∙ by_cases (live_object cs Event m) refl
   where
     listed : (t : Tree) → live_object cs Event m ≡ Some t → names_calendar n (data_of t) ≡ true → has_event cs n ≡ true
@@ -177,13 +177,13 @@ not_booked zones cs n none m = each_is (booked_in zones n) cs m ∙ by_cases (li
     by_cases : (o : Option Tree) → live_object cs Event m ≡ o → booked_by (booked_in zones n) o ≡ None
     by_cases None e = refl
     by_cases (Some t) e =
-        by_test (λ s. s ≡ None) (names_calendar n (data_of t)) (series_of_event zones (data_of t)) None
+        by_test (λ s. s ≡ None) (names_calendar n (data_of t)) (series_in zones (data_of t)) None
         (λ named. absurd (false≢true (sym none ∙ listed t e named)))
         (λ other. refl)
 
-nothing_booked : (bs : List Booking) → ((m : ℕ) → series_in m bs ≡ None) → bs ≡ []
+nothing_booked : (bs : List Booking) → ((m : ℕ) → series_booked m bs ≡ None) → bs ≡ []
 nothing_booked [] h = refl
-nothing_booked (b ∷ bs) h = absurd (some_none (sym (ap (λ t. if t then Some b.series else series_in b.number bs) (number_same b.number b.number refl)) ∙ h b.number))
+nothing_booked (b ∷ bs) h = absurd (some_none (sym (ap (λ t. if t then Some b.series else series_booked b.number bs) (number_same b.number b.number refl)) ∙ h b.number))
   where
     some_none : Some b.series ≡ None → ⊥
     some_none e = cc e

@@ -23,12 +23,12 @@ abbrev pub rooms_kept : List Slot → List BookedRoom
 rooms_kept ss = map room_kept ss
 
 -- with these bookings
-abbrev pub holding : List Booking → Slot → Slot
-holding bs s = record { calendar = s.calendar; room = record { bookings = bs; kept = s.room.kept; ready = None }; live = s.live }
+abbrev pub with_bookings : List Booking → Slot → Slot
+with_bookings bs s = record { calendar = s.calendar; room = record { bookings = bs; kept = s.room.kept; ready = None }; live = s.live }
 
 -- without the booking of an event
 abbrev pub retired : ℕ → Slot → Slot
-retired n s = holding (without_booking n s.room.bookings) s
+retired n s = with_bookings (without_booking n s.room.bookings) s
 
 -- the event is in the calendar, which is live
 abbrev pub is_booked_by : Data → Slot → Bool
@@ -36,7 +36,7 @@ is_booked_by d s = s.live && names_calendar s.calendar d
 
 -- with the booking of an event, where it is in the calendar
 abbrev pub booked : ℕ → Data → Series → Slot → Slot
-booked n d series s = if is_booked_by d s then holding (with_booking n series s.room.bookings) s else s
+booked n d series s = if is_booked_by d s then with_bookings (with_booking n series s.room.bookings) s else s
 
 -- not live any more, where it is of this calendar
 abbrev pub closed : ℕ → Slot → Slot

@@ -7,7 +7,7 @@ use Rattle.model_json.specs.Data.{Data}
 use Rattle.model_recurrence.specs.Overrides.{exceptions_in}
 use Rattle.model_recurrence.specs.Recurrence.{bad_properties_of_event}
 use Rattle.model_recurrence.specs.RulesOf.{rules_of_event}
-use Rattle.model_series.specs.SeriesLimits.{are_distinct, are_in_years, are_short, wall_seconds}
+use Rattle.model_series.specs.SeriesLimits.{are_distinct, are_in_years, are_short, most_seconds, wall_seconds}
 use Rattle.model_series.specs.declared.exception.Exception.{Exception}
 use Rattle.model_series.specs.declared.rule.Rule.{Rule}
 use Rattle.model_series.specs.declared.series.Series.{Series}
@@ -30,7 +30,7 @@ abbrev pub recurs_within : SeriesParts → Bool
 recurs_within p = nat_le (count p.rules) 4 && are_exceptions p.exceptions
 
 abbrev pub lasts_within : SeriesParts → Bool
-lasts_within p = nat_le (wall_seconds p.length) 31622400 && recurs_within p
+lasts_within p = nat_le (wall_seconds p.length) most_seconds && recurs_within p
 
 -- the parts keep within the limits of a series
 abbrev pub is_series : SeriesParts → Bool
@@ -39,7 +39,7 @@ is_series p = is_in_years p.start && lasts_within p
 -- the same, as the type of a series has it
 pub record IsSeries (p : SeriesParts) : Type 0 where
   pub start : is_in_years p.start ≡ true
-  pub length : wall_seconds p.length ≤ 31622400
+  pub length : wall_seconds p.length ≤ most_seconds
   pub few_rules : count p.rules ≤ 4
   pub few_exceptions : count p.exceptions ≤ 128
   pub exceptions : are_in_years p.exceptions ≡ true
@@ -49,14 +49,14 @@ pub record IsSeries (p : SeriesParts) : Type 0 where
 abbrev pub limits_of_series : (p : SeriesParts) → is_series p ≡ true → IsSeries p
 limits_of_series p fits =
     let first = and_parts (is_in_years p.start) (lasts_within p) fits in
-    let second = and_parts (nat_le (wall_seconds p.length) 31622400) (recurs_within p) first.1 in
+    let second = and_parts (nat_le (wall_seconds p.length) most_seconds) (recurs_within p) first.1 in
     let third = and_parts (nat_le (count p.rules) 4) (are_exceptions p.exceptions) second.1 in
     let fourth = and_parts (nat_le (count p.exceptions) 128) (are_in_years p.exceptions && (are_short p.exceptions && are_distinct p.exceptions)) third.1 in
     let fifth = and_parts (are_in_years p.exceptions) (are_short p.exceptions && are_distinct p.exceptions) fourth.1 in
     let sixth = and_parts (are_short p.exceptions) (are_distinct p.exceptions) fifth.1 in
     record {
       start = first.0;
-      length = leb-true (wall_seconds p.length) 31622400 second.0;
+      length = leb-true (wall_seconds p.length) most_seconds second.0;
       few_rules = leb-true (count p.rules) 4 third.0;
       few_exceptions = leb-true (count p.exceptions) 128 fourth.0;
       exceptions = fifth.0;

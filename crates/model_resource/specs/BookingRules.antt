@@ -8,7 +8,7 @@ use Rattle.model_history.specs.declared.entry.Change.{Change}
 use Rattle.model_json.specs.Data.{Data}
 use Rattle.model_recurrence.specs.Overrides.{exceptions_in}
 use Rattle.model_resource.specs.Resources.{resource_zone, resources_of}
-use Rattle.model_series.specs.Lengths.{are_week_long}
+use Rattle.model_series.specs.Lengths.{are_week_long, most_booked_seconds}
 use Rattle.model_series.specs.SeriesLimits.{wall_seconds}
 use Rattle.model_site.specs.TimeZones.{ZoneText}
 
@@ -26,7 +26,7 @@ is_in_other_zone cs event = not (list_all (λ n. option_map_or (is_in_zone event
 
 -- the event lasts longer than a booking may
 abbrev pub is_long_booking : List Change → Data → Bool
-is_long_booking cs event = is_booking cs event && not (nat_le (wall_seconds (length_in event)) 604800)
+is_long_booking cs event = is_booking cs event && not (nat_le (wall_seconds (length_in event)) most_booked_seconds)
 
 -- an override lets an occurrence last longer
 abbrev pub has_long_override : List ZoneText → List Change → Data → Bool

@@ -9,7 +9,7 @@ use Rattle.model_series.specs.declared.series.Series.{Series}
 use Rattle.model_room.specs.declared.booking.Booking.{Booking}
 use Rattle.model_room.specs.Bookings.{without_booking}
 use Rattle.room_history.specs.HistoryBookings.{booked_by, with_booked, after_change, bookings_from, bookings_at}
-use Rattle.room_history.specs.Rising.{Rise, series_in}
+use Rattle.room_history.specs.Rising.{Rise, series_booked}
 use Rattle.room_history.proofs.Tables.{same_number, turned}
 use Rattle.room_history.proofs.Placed.{rise_again, in_again_same, in_again_other}
 
@@ -18,17 +18,17 @@ module _ (books : Tree → Option Series) where
   changed kind id o bs = if is_kind Event kind then with_booked id (booked_by books o) (without_booking id bs) else bs
 
   -- one change
-  one : (m : ℕ) (kind : Kind) (id : ℕ) (o before : Option Tree) (bs : List Booking) → Rise bs → series_in m bs ≡ booked_by books before
-      → Rise (changed kind id o bs) × (series_in m (changed kind id o bs) ≡ booked_by books (if is_kind Event kind && (m == id) then o else before))
+  one : (m : ℕ) (kind : Kind) (id : ℕ) (o before : Option Tree) (bs : List Booking) → Rise bs → series_booked m bs ≡ booked_by books before
+      → Rise (changed kind id o bs) × (series_booked m (changed kind id o bs) ≡ booked_by books (if is_kind Event kind && (m == id) then o else before))
   one m Calendar id o before bs r h = (r, h)
   one m Event id o before bs r h = (rise_again id (booked_by books o) bs r, by_cases (m == id) refl)
     where
-      by_cases : (t : Bool) → (m == id) ≡ t → series_in m (with_booked id (booked_by books o) (without_booking id bs)) ≡ booked_by books (if t then o else before)
+      by_cases : (t : Bool) → (m == id) ≡ t → series_booked m (with_booked id (booked_by books o) (without_booking id bs)) ≡ booked_by books (if t then o else before)
       by_cases true e = rw (same_number m id e) (in_again_same id (booked_by books o) bs r)
       by_cases false e = in_again_other m id (booked_by books o) bs (turned id m ∙ e) ∙ h
 
-  all : (cs : List Change) (m : ℕ) (before : Option Tree) (bs : List Booking) → Rise bs → series_in m bs ≡ booked_by books before
-      → Rise (bookings_from books bs cs) × (series_in m (bookings_from books bs cs) ≡ booked_by books (object_from before cs Event m))
+  all : (cs : List Change) (m : ℕ) (before : Option Tree) (bs : List Booking) → Rise bs → series_booked m bs ≡ booked_by books before
+      → Rise (bookings_from books bs cs) × (series_booked m (bookings_from books bs cs) ≡ booked_by books (object_from before cs Event m))
   all [] m before bs r h = (r, h)
   all (c ∷ cs) m before bs r h =
       let p = one m c.kind c.id c.object before bs r h in
@@ -37,7 +37,7 @@ module _ (books : Tree → Option Series) where
   pub bookings_rise : (cs : List Change) → Rise (bookings_at books cs)
   bookings_rise cs = (all cs 0 None [] tt refl).0
 
-  pub each_is : (cs : List Change) (n : ℕ) → series_in n (bookings_at books cs) ≡ booked_by books (live_object cs Event n)
+  pub each_is : (cs : List Change) (n : ℕ) → series_booked n (bookings_at books cs) ≡ booked_by books (live_object cs Event n)
   each_is cs n = (all cs n None [] tt refl).1
 
   pub from_more : (bs : List Booking) (cs : List Change) (c : Change) → bookings_from books bs (cs ++ c ∷ []) ≡ after_change books c (bookings_from books bs cs)

@@ -14,6 +14,6 @@ Rise [] = Unit {0}
 Rise (b ∷ bs) = AreAbove b.number bs × Rise bs
 
 -- the series that is booked under a number
-abbrev pub series_in : ℕ → List Booking → Option Series
-series_in n [] = None
-series_in n (b ∷ bs) = if b.number == n then Some b.series else series_in n bs
+abbrev pub series_booked : ℕ → List Booking → Option Series
+series_booked n [] = None
+series_booked n (b ∷ bs) = if b.number == n then Some b.series else series_booked n bs

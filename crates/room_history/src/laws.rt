@@ -9,14 +9,14 @@ ghost use Rattle.model_room.specs.declared.booking.Booking.{Booking};
 ghost use Rattle.model_room.specs.Bookings.{without_booking, with_booking};
 ghost use Rattle.model_room.specs.Clashes.{IsClear};
 ghost use Rattle.room_history.specs.HistoryBookings.{booked_by, after_change, bookings_at};
-ghost use Rattle.room_history.specs.Rising.{Rise, series_in};
+ghost use Rattle.room_history.specs.Rising.{Rise, series_booked};
 ghost use Rattle.room_history.specs.Free.{IsFree};
 
 /// The bookings of a resource at a history are the series that its live events book there, in order of their numbers, and each
 /// change makes one step of them.
 pub fn bookings_are_of_live_events()
     ensures rise { (books : Tree → Option Series) (cs : List Change) → Rise (bookings_at books cs) }
-    ensures each { (books : Tree → Option Series) (cs : List Change) (n : ℕ) → series_in n (bookings_at books cs) ≡ booked_by books (live_object cs Event n) }
+    ensures each { (books : Tree → Option Series) (cs : List Change) (n : ℕ) → series_booked n (bookings_at books cs) ≡ booked_by books (live_object cs Event n) }
     ensures step { (books : Tree → Option Series) (cs : List Change) (c : Change) → bookings_at books (cs ++ c ∷ []) ≡ after_change books c (bookings_at books cs) }
 {}
 
