@@ -1,5 +1,5 @@
 -- One page after the other, and the whole of a workload.
-use Rattle.std.proofs.Common.{◌≡◌, ◌≤◌, ◌<◌, ◌+◌, ◌-◌, ◌*◌, ◌^◌, ℕ, ℤ, pos, List, [], ◌∷◌, ◌++◌, true, false, codes, inl, inr, length, map, arith, refl, sym, ap, ◌∙◌, subst, append-nil}
+use Rattle.std.proofs.Common.{◌≡◌, ◌≤◌, ◌<◌, ◌+◌, ◌-◌, ◌*◌, ◌^◌, ℕ, ℤ, pos, List, [], ◌∷◌, Option, Some, None, codes, inl, inr, length, map, arith, refl, sym, ap, ◌∙◌, subst}
 use Rattle.std.specs.Prelude.{count_by, sum}
 use Rattle.std.proofs.lemmas.List.Sums.{sum_by-cons}
 use Rattle.model_call.specs.declared.call.Call.{Call}
@@ -7,7 +7,7 @@ use Rattle.model_call.specs.declared.call.Reply.{Reply}
 use Rattle.model_history.specs.Base.{Base}
 use Rattle.model_history.specs.declared.entry.Entry.{Entry}
 use Rattle.model_history.specs.declared.stamp.Stamp.{Stamp}
-use Rattle.workload.specs.Counts.{count_of_ids, has_more, is_clash, is_created, new_state, state_number}
+use Rattle.workload.specs.Counts.{count_of_ids, is_clash, is_created, next_state, state_number}
 use Rattle.workload.specs.Generated.{page_call, request_calls, room_call}
 use Rattle.workload.specs.Work.{ArePages, IsWork, PagesLead, behind, history, replies}
 use Rattle.workload.specs.declared.numbers.Numbers.{Numbers}
@@ -17,43 +17,38 @@ module _ (answer : Base → List Entry → Call → ℤ → Reply) (added : Base
   abbrev pub Counts : Base → List Entry → List ℕ → ℕ → Type 0
   Counts base h since n = (pages : List Reply) × ArePages answer added base h since pages × (n ≡ sum (map count_of_ids pages))
 
-  module _ (lead : PagesLead answer added) (base : Base) (h h' : List Entry) (since : List ℕ) (s : Stamp) (r : Reply) (is : r ≡ answer base h (page_call since) (pos 0)) where
-    pub same_history : h' ≡ h ++ added base h (page_call since) s → h' ≡ h
-    same_history e = e ∙ (ap (λ (l : List Entry). h ++ l) (lead.adds_nothing base h since s) ∙ append-nil h)
+  module _ (lead : PagesLead answer added) (base : Base) (h h' : List Entry) (since : List ℕ) where
+    abbrev reply : Reply
+    reply = answer base h (page_call since) (pos 0)
 
-    pub few_ids : count_of_ids r ≤ 500
-    few_ids = subst (λ (x : Reply). count_of_ids x ≤ 500) (sym is) (lead.few base h since)
-
-    gets_on : length h ≤ 2 ^ 40 → has_more r ≡ true → (state_number since < state_number (new_state r)) × (state_number (new_state r) ≤ length h)
-    gets_on few more = subst (λ (x : Reply). has_more x ≡ true → (state_number since < state_number (new_state x)) × (state_number (new_state x) ≤ length h)) (sym is) (λ m. lead.gets_on base h since few m) more
-
-    pub falls : length h ≤ 2 ^ 40 → has_more r ≡ true → h' ≡ h → length h' - state_number (new_state r) < length h - state_number since
-    falls few more same =
-        let on = gets_on few more in
+    pub falls : (state : List ℕ) → length h ≤ 2 ^ 40 → next_state reply ≡ Some state → h' ≡ h → length h' - state_number state < length h - state_number since
+    falls state few more same =
+        let on = lead.gets_on base h since state few more in
         let low = on.0 in
         let high = on.1 in
         let count : length h' ≡ length h = ap length same in
         omega (arith, low, high, count)
 
-    pub few_more : length h ≤ 2 ^ 40 → has_more r ≡ true → h' ≡ h → (rest : ℕ) → rest ≤ 500 * (length h' - state_number (new_state r) + 1) → count_of_ids r + rest ≤ 500 * (length h - state_number since + 1)
-    few_more few more same rest small =
-        let on = gets_on few more in
+    pub few_more : (state : List ℕ) → length h ≤ 2 ^ 40 → next_state reply ≡ Some state → h' ≡ h → (ids rest : ℕ) → ids ≡ count_of_ids reply → rest ≤ 500 * (length h' - state_number state + 1)
+        → ids + rest ≤ 500 * (length h - state_number since + 1)
+    few_more state few more same ids rest ids_are small =
+        let on = lead.gets_on base h since state few more in
         let low = on.0 in
         let high = on.1 in
         let count : length h' ≡ length h = ap length same in
-        let ids = few_ids in
-        omega (arith, low, high, count, ids, small)
+        let most = lead.few base h since in
+        omega (arith, low, high, count, most, ids_are, small)
 
-    pub few_last : count_of_ids r ≤ 500 * (length h - state_number since + 1)
-    few_last = let ids = few_ids in omega (arith, ids)
+    pub few_last : (ids : ℕ) → ids ≡ count_of_ids reply → ids ≤ 500 * (length h - state_number since + 1)
+    few_last ids ids_are = let most = lead.few base h since in omega (arith, most, ids_are)
 
-    pub last_page : has_more r ≡ false → Counts base h since (count_of_ids r)
-    last_page more = (r ∷ [], (is, inr (more, refl)), sym (sum_by-cons (λ n. n) (count_of_ids r) [] ∙ omega arith))
+    pub last_page : next_state reply ≡ None → (ids : ℕ) → ids ≡ count_of_ids reply → Counts base h since ids
+    last_page none ids ids_are = (reply ∷ [], (refl, inr (none, refl)), ids_are ∙ sym (sum_by-cons (λ (n : ℕ). n) (count_of_ids reply) [] ∙ omega arith))
 
-    pub more_pages : has_more r ≡ true → (base' : Base) → base' ≡ base → h' ≡ h → (rest : ℕ) → Counts base' h' (new_state r) rest → Counts base h since (count_of_ids r + rest)
-    more_pages more base' same_base same rest c =
-        let here : ArePages answer added base h (new_state r) c.0 = subst (λ (y : Base × List Entry). ArePages answer added y.0 y.1 (new_state r) c.0) (λ i. (same_base i, same i)) c.1 in
-        (r ∷ c.0, (is, inl (more, here)), ap (λ n. count_of_ids r + n) c.2 ∙ sym (sum_by-cons (λ n. n) (count_of_ids r) (map count_of_ids c.0)))
+    pub more_pages : (state : List ℕ) → next_state reply ≡ Some state → (base' : Base) → base' ≡ base → h' ≡ h → (ids rest : ℕ) → ids ≡ count_of_ids reply → Counts base' h' state rest → Counts base h since (ids + rest)
+    more_pages state more base' same_base same ids rest ids_are c =
+        let here : ArePages answer added base h state c.0 = subst (λ (y : Base × List Entry). ArePages answer added y.0 y.1 state c.0) (λ i. (same_base i, same i)) c.1 in
+        (reply ∷ c.0, (refl, inl (state, more, here)), (λ i. ids_are i + c.2 i) ∙ sym (sum_by-cons (λ (n : ℕ). n) (count_of_ids reply) (map count_of_ids c.0)))
 
   -- the parts of a workload are one
   pub is_work : (base base1 base2 : Base) (h h1 h2 : List Entry) (number size : ℕ) (n : Numbers) → base1 ≡ base → base2 ≡ base1 → h1 ≡ behind answer added base 1 h room_call

@@ -1,5 +1,5 @@
 -- What is counted of the replies to a workload's calls.
-use Rattle.std.specs.Prelude.{ℕ, ◌+◌, List, [], ◌∷◌, ◌++◌, Bool, false, Option, codes, decimal, is_some, length, option_and_then, unwrap_or}
+use Rattle.std.specs.Prelude.{ℕ, ◌+◌, List, [], ◌∷◌, ◌++◌, Bool, false, Option, Some, None, codes, decimal, if◌then◌else◌, is_some, length, option_and_then, unwrap_or}
 use Rattle.std.specs.Option.{option_map_or}
 use Rattle.std.specs.Str.{bytes_eq}
 use Rattle.model_call.specs.declared.call.Reply.{Reply}
@@ -34,6 +34,10 @@ has_more r = unwrap_or (truth_at (codes "hasMoreChanges") (data_of r.arguments))
 
 abbrev pub new_state : Reply → List ℕ
 new_state r = unwrap_or (text_at (codes "newState") (data_of r.arguments)) []
+
+-- the state that the next page begins at, where there are more changes
+abbrev pub next_state : Reply → Option (List ℕ)
+next_state r = if has_more r then Some (new_state r) else None
 
 -- how many ids one of its lists has
 abbrev pub count_in : List ℕ → Reply → ℕ

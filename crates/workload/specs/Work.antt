@@ -1,11 +1,11 @@
 -- What a workload comes to on an account.
-use Rattle.std.specs.Prelude.{◌≡◌, ◌⊎◌, ◌≤◌, ◌<◌, ◌^◌, ℕ, suc, ℤ, pos, List, [], ◌∷◌, ◌++◌, true, false, codes, count_by, length, map, sum}
+use Rattle.std.specs.Prelude.{◌≡◌, ◌⊎◌, ◌≤◌, ◌<◌, ◌^◌, ℕ, suc, ℤ, pos, List, [], ◌∷◌, ◌++◌, Some, None, codes, count_by, length, map, sum}
 use Rattle.model_call.specs.declared.call.Call.{Call}
 use Rattle.model_call.specs.declared.call.Reply.{Reply}
 use Rattle.model_history.specs.Base.{Base}
 use Rattle.model_history.specs.declared.entry.Entry.{Entry}
 use Rattle.model_history.specs.declared.stamp.Stamp.{Stamp}
-use Rattle.workload.specs.Counts.{count_of_ids, has_more, is_clash, is_created, lines, new_state, state_number}
+use Rattle.workload.specs.Counts.{count_of_ids, is_clash, is_created, lines, next_state, state_number}
 use Rattle.workload.specs.Generated.{page_call, request_calls, room_call}
 use Rattle.workload.specs.declared.numbers.Numbers.{Numbers}
 
@@ -31,7 +31,8 @@ module _ (answer : Base → List Entry → Call → ℤ → Reply) (added : Base
   -- These are the pages of changes from a state on: each since the state that the one before it gives, until one has no more changes.
   abbrev pub ArePages : List Entry → List ℕ → List Reply → Type 0
   ArePages h since [] = ⊥
-  ArePages h since (r ∷ rs) = (r ≡ answer base h (page_call since) (pos 0)) × (((has_more r ≡ true) × ArePages h (new_state r) rs) ⊎ ((has_more r ≡ false) × (rs ≡ [])))
+  ArePages h since (r ∷ rs) =
+      (r ≡ answer base h (page_call since) (pos 0)) × (((state : List ℕ) × (next_state r ≡ Some state) × ArePages h state rs) ⊎ ((next_state r ≡ None) × (rs ≡ [])))
 
   -- The room is created and the requests are made; these are the numbers of what came of it: of events created and refused as a clash, of the account's entries,
   -- and of the ids in all pages.
@@ -51,5 +52,5 @@ module _ (answer : Base → List Entry → Call → ℤ → Reply) (added : Base
 pub record PagesLead (answer : Base → List Entry → Call → ℤ → Reply) (added : Base → List Entry → Call → Stamp → List Entry) : Type 0 where
   pub adds_nothing : (base : Base) (h : List Entry) (since : List ℕ) (s : Stamp) → added base h (page_call since) s ≡ []
   pub few : (base : Base) (h : List Entry) (since : List ℕ) → count_of_ids (answer base h (page_call since) (pos 0)) ≤ 500
-  pub gets_on : (base : Base) (h : List Entry) (since : List ℕ) → length h ≤ 2 ^ 40 → has_more (answer base h (page_call since) (pos 0)) ≡ true
-      → (state_number since < state_number (new_state (answer base h (page_call since) (pos 0)))) × (state_number (new_state (answer base h (page_call since) (pos 0))) ≤ length h)
+  pub gets_on : (base : Base) (h : List Entry) (since state : List ℕ) → length h ≤ 2 ^ 40 → next_state (answer base h (page_call since) (pos 0)) ≡ Some state
+      → (state_number since < state_number state) × (state_number state ≤ length h)

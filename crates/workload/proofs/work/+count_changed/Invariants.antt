@@ -3,4 +3,4 @@ use Rattle.workload.proofs.work.+count_changed.Given as goal
 use Rattle.workload.specs.Counts.{state_number}
 
 abbrev pub decreases-count_changed : goal.decreases-count_changed
-decreases-count_changed g l = length (g.B.Book.entries l.account) - state_number l.since
+decreases-count_changed g l = length (g.B.Book.entries l.account.now) - state_number l.since
