@@ -1,17 +1,19 @@
--- Pages of the changes of an account's events lead to the last.
-use Rattle.std.proofs.Common.{◌≡◌, ◌≤◌, ◌<◌, ◌+◌, ◌-◌, ◌^◌, ◌==◌, ◌&&◌, not, ℕ, ℤ, pos, List, [], ◌∷◌, Bool, true, false, cond, Option, Some, None, codes, decimal, length, map, arith, refl, sym, ap, ◌∙◌, subst, eq-eqb}
+-- Pages of the changes of an account's events lead to the last, and what a workload writes.
+use Rattle.std.proofs.Common.{◌≡◌, ◌≤◌, ◌<◌, ◌+◌, ◌-◌, ◌^◌, ◌==◌, ◌&&◌, not, ℕ, ℤ, pos, List, [], ◌∷◌, Bool, true, false, cond, Option, Some, None, Result, Ok, Err, IfOk, codes, decimal, length, map, arith, refl, sym, ap, ◌∙◌, subst, eq-eqb}
 use Rattle.std.proofs.Math.Nat.{lt_of_not-le}
 use Rattle.std.proofs.lemmas.Bool.Decides.{nat_tests}
 use Rattle.std.proofs.lemmas.List.{length-map}
 use Rattle.std.proofs.lemmas.List.Sums.{count_by-le-length}
 use Rattle.std.specs.Option.{option_map_or}
 use Rattle.std.specs.Prelude.{nat_le, option_and_then, unwrap_or}
+use Rattle.account_desk.specs.SoleDesk.{fresh_account}
 use Rattle.cal_model.specs.Answer.{added, answer, answered, unless_error}
 use Rattle.cal_model.specs.Changes.{changes_refusal, changes_response}
 use Rattle.model_call.specs.declared.call.MethodError.{MethodError}
 use Rattle.model_call.specs.declared.call.MethodError.TheVariants.{CannotCalculateChanges}
 use Rattle.model_call.specs.declared.call.Reply.{Reply}
 use Rattle.model_core.specs.declared.numbers.TheConstants.{MAX_UNSIGNED_INT}
+use Rattle.model_history.specs.Base.{Base}
 use Rattle.model_history.specs.History.{changes_of, is_kind, state_at}
 use Rattle.model_history.specs.ObjectId.{id_text}
 use Rattle.model_history.specs.Pages.{Mention, created, destroyed, is_retained, is_within, mentions, page_end, size_of_page, updated}
@@ -21,12 +23,15 @@ use Rattle.model_history.specs.declared.entry.Kind.TheVariants.{Event}
 use Rattle.model_json.specs.Data.{items_back, items_of, list_of, text}
 use Rattle.model_json.specs.Number.{number_in}
 use Rattle.model_queries.specs.States.{is_known_state}
+use Rattle.model_site.specs.Configuration.{built_in}
+use Rattle.jmapd_run.specs.Headline.{IsWorkText}
 use Rattle.state_log.proofs.EndLemmas.{greatest-ge}
 use Rattle.state_log.proofs.LawLemmas.{gets_on, length-mentions, page_ends, page_fits}
 use Rattle.time_text.proofs.NumberLemmas.{decimal_back}
 use Rattle.time_text.specs.State.{state_in, up_to_unsigned}
-use Rattle.workload.specs.Counts.{count_in, count_of_ids, has_more, new_state, state_number}
-use Rattle.workload.specs.Work.{PagesLead}
+use Rattle.workload.specs.Counts.{count_in, count_of_ids, has_more, lines, new_state, next_state, state_number}
+use Rattle.workload.specs.Work.{IsWork, PagesLead}
+use Rattle.workload.specs.declared.numbers.Numbers.{Numbers}
 
 -- ---- tests that pass
 
@@ -66,6 +71,10 @@ known_state false e = cc
 
 -- ---- a page
 
+taken : (b : Bool) (s state : List ℕ) → cond b (Some s) None ≡ Some state → (b ≡ true) × (s ≡ state)
+taken true s state e = (refl, ap (λ o. unwrap_or o []) e)
+taken false s state e = cc
+
 counted : (ids : List ℕ) → length (list_of (items_of (map (λ id. text (id_text Event id)) ids))) ≡ length ids
 counted ids = ap length (items_back (map (λ id. text (id_text Event id)) ids)) ∙ length-map ids (λ id. text (id_text Event id))
 
@@ -97,10 +106,10 @@ module _ (account : List ℕ) (h : List Entry) (since : List ℕ) where
   few_of None = page_is_few
   few_of (Some e) = omega arith
 
-  abbrev Leads : Reply → Type 0
-  Leads r = (state_number since < state_number (new_state r)) × (state_number (new_state r) ≤ length h)
+  abbrev Leads : List ℕ → Type 0
+  Leads state = (state_number since < state_number state) × (state_number state ≤ length h)
 
-  page_leads : is_known_state Event cs since ≡ true → length h ≤ 2 ^ 40 → has_more page ≡ true → Leads page
+  page_leads : is_known_state Event cs since ≡ true → length h ≤ 2 ^ 40 → has_more page ≡ true → Leads (new_state page)
   page_leads known few more =
       let k = retained_from (state_at cs Event) (state_in since) known in
       let begins : from ≡ k.0 = ap (λ o. unwrap_or o 0) k.1 in
@@ -115,13 +124,21 @@ module _ (account : List ℕ) (h : List Entry) (since : List ℕ) where
       let next : state_number (new_state page) ≡ until = ap (λ o. unwrap_or o 0) (decimal_back until (omega (arith, inside, all, few))) in
       (omega (arith, number, begins, on, next), omega (arith, next, inside, all))
 
-  pub leads_of : (e : Option MethodError) → changes_refusal Event cs since (Some (pos 500)) ≡ e → length h ≤ 2 ^ 40 → has_more (unless_error h e page) ≡ true → Leads (unless_error h e page)
-  leads_of None is few more = page_leads (known_state (is_known_state Event cs since) is) few more
-  leads_of (Some e) is few more = cc
+  pub leads_of : (e : Option MethodError) → changes_refusal Event cs since (Some (pos 500)) ≡ e → (state : List ℕ) → length h ≤ 2 ^ 40 → next_state (unless_error h e page) ≡ Some state → Leads state
+  leads_of None is state few more =
+      let next = taken (has_more page) (new_state page) state more in
+      subst Leads next.1 (page_leads (known_state (is_known_state Event cs since) is) few next.0)
+  leads_of (Some e) is state few more = cc
 
 pub pages_lead : PagesLead answer added
 pages_lead = record {
   adds_nothing = λ base h since s. refl;
   few = λ base h since. few_of base.account_id h since (changes_refusal Event (changes_of h) since (Some (pos 500)));
-  gets_on = λ base h since few more. leads_of base.account_id h since (changes_refusal Event (changes_of h) since (Some (pos 500))) refl few more;
+  gets_on = λ base h since state few more. leads_of base.account_id h since (changes_refusal Event (changes_of h) since (Some (pos 500))) refl state few more;
 }
+
+-- the lines of the numbers of such a workload are its text
+pub text_is : {X E : Type 0} (bytes : X → List ℕ) (r : Result X E) (account : Base × List Entry) (number size : ℕ) (n : Numbers) → account ≡ fresh_account built_in 0 → IsWork answer added account.0 account.1 number size n
+    → IfOk r (λ t. bytes t ≡ lines n) → IfOk r (λ t. IsWorkText number size (bytes t))
+text_is bytes (Ok t) account number size n fresh is written = (n, subst (λ (a : Base × List Entry). IsWork answer added a.0 a.1 number size n) fresh is, written)
+text_is bytes (Err e) account number size n fresh is written = tt

@@ -1,3 +1,3 @@
 pub mod Outputs
+pub mod Pages
 pub mod Steps
-pub mod Wholes

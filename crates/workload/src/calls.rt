@@ -103,25 +103,31 @@ fn create_call(alloc: Global, kind: Kind, object: Tree) -> Result<Call, AllocErr
         value: object,
     };
     let create = TreeObject::new(vec![in alloc; created]?);
-    Ok(call_of(alloc, Asks::Set {
-        kind,
-        if_in_state: None,
-        create: Some(create),
-        update: None,
-        destroy: None,
-        remove_events: None,
-    }))
+    Ok(call_of(
+        alloc,
+        Asks::Set {
+            kind,
+            if_in_state: None,
+            create: Some(create),
+            update: None,
+            destroy: None,
+            remove_events: None,
+        },
+    ))
 }
 
 /// A call for the changes of events since a state.
 pub(crate) fn page_call(alloc: Global, since: Text) -> Call
     ensures { result ≡ page_call since }
 {
-    call_of(alloc, Asks::Changes {
-        kind: Kind::Event,
-        since,
-        max: Some(Num::new(MOST_IDS)),
-    })
+    call_of(
+        alloc,
+        Asks::Changes {
+            kind: Kind::Event,
+            since,
+            max: Some(Num::new(MOST_IDS)),
+        },
+    )
 }
 
 fn call_of(alloc: Global, asks: Asks) -> Call

@@ -77,7 +77,9 @@ pub(crate) fn page_of(alloc: Global, reply: Reply) -> Result<Page, AllocError>
     ensures ids { IfOk result (λ page. page.ids ≡ count_of_ids reply) }
     ensures next { IfOk result (λ page. page.next ≡ next_state reply) }
 {
-    let ids = count_in(&reply, "created") + count_in(&reply, "updated") + count_in(&reply, "destroyed");
+    let ids = count_in(&reply, "created")
+        + count_in(&reply, "updated")
+        + count_in(&reply, "destroyed");
     let next = next_state(alloc, &reply)?;
     Ok(Page { ids, next })
 }
@@ -105,7 +107,10 @@ fn next_state(alloc: Global, reply: &Reply) -> Result<Option<Text>, AllocError>
 fn has_more(reply: &Reply) -> bool
     ensures { result ≡ has_more reply.now }
 {
-    matches!(reply.arguments.get("hasMoreChanges"), Some(Tree::Truth(true)))
+    matches!(
+        reply.arguments.get("hasMoreChanges"),
+        Some(Tree::Truth(true))
+    )
 }
 
 // The state that a page leads to.

@@ -1,5 +1,5 @@
-use Rattle.std.proofs.Common.{◌≡◌, Some, sym, ◌∙◌}
-use Rattle.workload.proofs.Wholes.{falls, few_last, few_more, last_page, more_pages}
+use Rattle.std.proofs.Common.{sym, ◌∙◌}
+use Rattle.workload.proofs.Pages.{few_last, few_more, last_page, more_pages}
 use Rattle.workload.proofs.work.+count_changed.Goals as goal
 
 pub returns-in-None-clause-pages : goal.returns-in-None-clause-pages

@@ -1,11 +1,9 @@
-use Rattle.std.proofs.Common.{◌≡◌, ◌≤◌, ◌++◌, List, pos, ap, sym, subst, ◌∙◌, append-nil}
+use Rattle.std.proofs.Common.{◌≡◌, ◌≤◌, pos, ap, sym, subst, ◌∙◌}
 use Rattle.model_call.specs.declared.call.Call.{Call}
 use Rattle.model_call.specs.declared.call.Reply.{Reply}
-use Rattle.model_history.specs.declared.entry.Entry.{Entry}
 use Rattle.workload.proofs.work.ask_page.Goals as goal
 use Rattle.workload.specs.Counts.{count_of_ids}
 use Rattle.workload.specs.Generated.{page_call}
-use Rattle.workload.specs.Work.{behind, stamp}
 
 pub page_of-requires : goal.page_of-requires
 page_of-requires g c =

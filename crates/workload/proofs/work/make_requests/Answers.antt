@@ -1,6 +1,6 @@
 use Rattle.std.proofs.Common.{◌≡◌, ◌+◌, ap, cond, refl, ◌∙◌, arith, ℕ}
 use mir.Val.{bool_byte}
-use Rattle.workload.proofs.Steps.{as_number, counts_one, stands_first, stands_last, stands_next}
+use Rattle.workload.proofs.Steps.{as_number, counts_one, stands_first, stands_next}
 use Rattle.workload.proofs.work.make_requests.Goals as goal
 use Rattle.workload.specs.Counts.{is_clash, is_created}
 use Rattle.workload.specs.Generated.{drawn, request_call}
