@@ -68,7 +68,7 @@ fn result_among<S: Sight>(
     ensures { IfOk result (λ v. v.items ≡ result_among (S.see sight.now) order.now (changes_up_to (entries events.now.store.now) Event state) numbers.now) }
 {
     if order.is_empty() {
-        return numbers_among(alloc, events, sight, state, numbers);
+        return found_among(alloc, events, sight, state, numbers);
     }
     let matches = matches_among(alloc, events, sight, state, numbers)?;
     let places = result(alloc, &matches.items, order)?;
@@ -125,7 +125,7 @@ fn item_at<S: Sight>(
 }
 
 // The numbers of the events of which a filter holds. No items are made of them.
-fn numbers_among<S: Sight>(
+fn found_among<S: Sight>(
     alloc: Global,
     events: &Events<'_>,
     sight: &S,
