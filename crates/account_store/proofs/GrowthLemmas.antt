@@ -52,7 +52,7 @@ puts_still es more kind (p ∷ ps) (q ∷ qs) h =
     let one = ap first h in
     let object : option_map (object_in (es ++ more) kind) p.object ≡ option_map Some q.object = object_still es more kind p.object q.object (ap (λ r. r.object) one) in
     ap (λ o. record { id = p.id; state = p.state; object = o } ∷ read_by (object_in (es ++ more) kind) ps) object
-    ∙ ap (λ r. with_object (option_map Some q.object) r ∷ read_by (object_in (es ++ more)) ps) one
+    ∙ ap (λ r. with_object (option_map Some q.object) r ∷ read_by (object_in (es ++ more) kind) ps) one
     ∙ ap (λ l. record { id = q.id; state = q.state; object = option_map Some q.object } ∷ l) (puts_still es more kind ps qs (ap rest h))
 
 -- ---- one more
