@@ -21,7 +21,7 @@ use crate::uses::has_event;
 use account_rooms::Rooms;
 use account_store::Store;
 use cal_model::view::AccountView;
-use event_store::{Events, SeriesLog};
+use event_store::{SeriesLog, StoredEvents};
 use model_history::entry::{Change, Entry, Kind};
 use model_history::stamp::Stamp;
 use model_json::text::Text;
@@ -83,11 +83,11 @@ impl Ledger {
     }
 
     /// The events of the account, each with its series. Takes no memory.
-    pub fn events(&self) -> Events<'_>
+    pub fn events(&self) -> StoredEvents<'_>
         ensures store { result.store.now ≡ self.now.store }
         ensures zones { result.zones.now ≡ (base self.now).zones }
     {
-        Events::new(&self.store, &self.zones, &self.series)
+        StoredEvents::new(&self.store, &self.zones, &self.series)
     }
 
     /// Takes memory for the entries that the staged changes become. After want of memory nothing is staged.

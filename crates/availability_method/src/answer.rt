@@ -10,7 +10,7 @@ use crate::events::busy_of;
 use crate::request::AvailabilityRequest;
 use crate::response::response;
 use crate::window::read_window;
-use event_store::Events;
+use event_store::StoredEvents;
 use model_json::text::Text;
 use model_json::tree::Tree;
 use std::alloc::{AllocError, Global};
@@ -22,7 +22,7 @@ use std::alloc::{AllocError, Global};
 pub fn availability(
     alloc: Global,
     account: &Text,
-    events: &Events<'_>,
+    events: &StoredEvents<'_>,
     request: &AvailabilityRequest<'_>,
 ) -> Result<Option<Tree>, AllocError>
     ensures { let base : Base = record { account_id = account.now; zones = events.now.zones.now } in

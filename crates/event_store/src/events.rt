@@ -27,7 +27,7 @@ pub struct StoredEvent<'a> {
 
 /// The events of an account's store, each with its series as these zones have it.
 #[derive(Clone, Copy)]
-pub struct Events<'a> {
+pub struct StoredEvents<'a> {
     /// The account's store.
     pub store: &'a Store,
     /// The time zones that there are.
@@ -36,14 +36,14 @@ pub struct Events<'a> {
     ghost read: { AreRead zones.now (changes_of (entries store.now)) series.now },
 }
 
-impl<'a> Events<'a> {
+impl<'a> StoredEvents<'a> {
     /// The events of a store, where the log begins with what was read of its changes. Takes no memory.
-    pub fn new(store: &'a Store, zones: &'a Zones, series: &'a SeriesLog) -> Events<'a>
+    pub fn new(store: &'a Store, zones: &'a Zones, series: &'a SeriesLog) -> StoredEvents<'a>
         requires { AreRead zones.now (changes_of (entries store.now)) series.now }
         ensures store { result.store.now ≡ store.now }
         ensures zones { result.zones.now ≡ zones.now }
     {
-        Events {
+        StoredEvents {
             store,
             zones,
             series,

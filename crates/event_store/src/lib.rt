@@ -4,5 +4,5 @@
 mod events;
 mod series_log;
 
-pub use events::{Events, StoredEvent};
+pub use events::{StoredEvent, StoredEvents};
 pub use series_log::SeriesLog;

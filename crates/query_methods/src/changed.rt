@@ -18,7 +18,7 @@ use crate::result::{current_result, touched_result};
 use crate::sight::Sight;
 use crate::touched::touched_since;
 use account_store::Store;
-use event_store::Events;
+use event_store::StoredEvents;
 use model_call::call::MethodError;
 use model_history::entry::Kind;
 use model_json::num::Num;
@@ -33,7 +33,7 @@ use time_text::object_id_text;
 /// The arguments of the reply that tells what changed of a result since a state. `Method` tells that it is more than the client takes.
 pub(crate) fn changed<S: Sight>(
     alloc: Global,
-    events: &Events<'_>,
+    events: &StoredEvents<'_>,
     account: &Text,
     sight: &S,
     order: &Order,
@@ -65,7 +65,7 @@ pub(crate) fn changed<S: Sight>(
 // Of the earlier result only those events are looked at that were touched since.
 fn delta_since<S: Sight>(
     alloc: Global,
-    events: &Events<'_>,
+    events: &StoredEvents<'_>,
     sight: &S,
     order: &Order,
     state: u64,

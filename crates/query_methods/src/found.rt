@@ -17,7 +17,7 @@ use crate::request::Paging;
 use crate::result::current_result;
 use crate::sight::Sight;
 use account_store::Store;
-use event_store::Events;
+use event_store::StoredEvents;
 use model_call::call::MethodError;
 use model_history::entry::Kind;
 use model_json::num::Num;
@@ -34,7 +34,7 @@ use time_text::read_object_id;
 /// The arguments of the reply to a query that asks for this window of its result. `Method` tells that the anchor isn't in the result.
 pub(crate) fn found<S: Sight>(
     alloc: Global,
-    events: &Events<'_>,
+    events: &StoredEvents<'_>,
     account: &Text,
     sight: &S,
     order: &Order,

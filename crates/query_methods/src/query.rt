@@ -11,7 +11,7 @@ use crate::error::QueryError;
 use crate::found::found;
 use crate::numbers::is_paging;
 use crate::request::{Criteria, Paging};
-use event_store::Events;
+use event_store::StoredEvents;
 use model_call::call::MethodError;
 use model_json::text::Text;
 use model_json::tree::Tree;
@@ -22,7 +22,7 @@ use std::alloc::Global;
 /// Takes memory for the events that the filter holds of, and where there are comparators for their items. Time grows with the number of events.
 pub fn query(
     alloc: Global,
-    events: &Events<'_>,
+    events: &StoredEvents<'_>,
     account: &Text,
     criteria: &Criteria<'_>,
     expand: bool,

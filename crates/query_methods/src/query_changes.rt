@@ -16,7 +16,7 @@ use crate::error::QueryError;
 use crate::numbers::is_maximum;
 use crate::request::{Criteria, Since};
 use account_store::Store;
-use event_store::Events;
+use event_store::StoredEvents;
 use model_call::call::MethodError;
 use model_history::entry::Kind;
 use model_json::text::Text;
@@ -31,7 +31,7 @@ use time_text::read_state;
 /// Time grows with the number of live events.
 pub fn query_changes(
     alloc: Global,
-    events: &Events<'_>,
+    events: &StoredEvents<'_>,
     account: &Text,
     criteria: &Criteria<'_>,
     expand: bool,

@@ -9,7 +9,7 @@ ghost use Rattle.model_query.specs.Matching.{match_of, result_at, result_of, wit
 ghost use Rattle.query_methods.specs.Among.{matches_among, number_if, result_among};
 
 use crate::sight::Sight;
-use event_store::Events;
+use event_store::StoredEvents;
 use model_history::entry::Kind;
 use model_query::item::Item;
 use query_order::change::numbers_among;
@@ -23,7 +23,7 @@ use std::alloc::{AllocError, Global};
 #[tactic(auto, using(crate::proofs::ResultLemmas::result_now))]
 pub fn current_result<S: Sight>(
     alloc: Global,
-    events: &Events<'_>,
+    events: &StoredEvents<'_>,
     sight: &S,
     order: &Order,
 ) -> Result<Vec<u64>, AllocError>
@@ -41,7 +41,7 @@ pub fn current_result<S: Sight>(
 #[tactic(auto, using(crate::proofs::ResultLemmas::touched_result))]
 pub(crate) fn touched_result<S: Sight>(
     alloc: Global,
-    events: &Events<'_>,
+    events: &StoredEvents<'_>,
     sight: &S,
     order: &Order,
     state: u64,
@@ -58,7 +58,7 @@ pub(crate) fn touched_result<S: Sight>(
 // The result of a query that looks at these events alone, at a state.
 fn result_among<S: Sight>(
     alloc: Global,
-    events: &Events<'_>,
+    events: &StoredEvents<'_>,
     sight: &S,
     order: &Order,
     state: u64,
@@ -84,7 +84,7 @@ struct Matches {
 
 fn matches_among<S: Sight>(
     alloc: Global,
-    events: &Events<'_>,
+    events: &StoredEvents<'_>,
     sight: &S,
     state: u64,
     numbers: &[u64],
@@ -110,7 +110,7 @@ fn matches_among<S: Sight>(
 
 fn item_at<S: Sight>(
     alloc: Global,
-    events: &Events<'_>,
+    events: &StoredEvents<'_>,
     sight: &S,
     state: u64,
     number: u64,
@@ -127,7 +127,7 @@ fn item_at<S: Sight>(
 // The numbers of the events of which a filter holds. No items are made of them.
 fn found_among<S: Sight>(
     alloc: Global,
-    events: &Events<'_>,
+    events: &StoredEvents<'_>,
     sight: &S,
     state: u64,
     numbers: &[u64],
@@ -146,7 +146,7 @@ fn found_among<S: Sight>(
 
 fn is_match<S: Sight>(
     alloc: Global,
-    events: &Events<'_>,
+    events: &StoredEvents<'_>,
     sight: &S,
     state: u64,
     number: u64,
