@@ -1,5 +1,5 @@
 //! The events of an account's store.
-ghost use Rattle.std.specs.Prelude.{◌≡◌, All, IfOk, IfSome, map, option_and_then, option_map};
+ghost use Rattle.std.specs.Prelude.{◌≡◌, ◌++◌, All, IfOk, IfSome, OnOk, map, option_and_then, option_map};
 ghost use Rattle.account_store.specs.Earlier.{changes_up_to};
 ghost use Rattle.account_store.specs.Places.{object_in};
 ghost use Rattle.account_store.specs.Store.{entries};
@@ -7,6 +7,7 @@ ghost use Rattle.event_store.specs.SeriesPut.{AreRead};
 ghost use Rattle.event_store.specs.StoredEvents.{HasItsSeries};
 ghost use Rattle.model_history.specs.History.{changes_of, live_at, live_object};
 ghost use Rattle.model_history.specs.declared.entry.Kind.TheVariants.{Event};
+ghost use Rattle.model_json.specs.Parts.{some_of};
 
 use crate::series_log::SeriesLog;
 use account_store::Store;
@@ -75,9 +76,7 @@ impl<'a> StoredEvents<'a> {
     {
         let mut live = Vec::new(alloc);
         for id in self.store.ids(Kind::Event) {
-            if let Some(event) = self.event(*id) {
-                live.push(event)?;
-            }
+            push_some(&mut live, self.event(*id))?;
         }
         Ok(live)
     }
@@ -94,4 +93,17 @@ impl<'a> StoredEvents<'a> {
             series: self.series.get(place),
         })
     }
+}
+
+// Puts an event at the end, where there is one.
+fn push_some<'a>(
+    list: &mut Vec<StoredEvent<'a>>,
+    event: Option<StoredEvent<'a>>,
+) -> Result<(), AllocError>
+    ensures { OnOk result (list.new.items ≡ list.old.items ++ some_of event.entry) }
+{
+    if let Some(event) = event {
+        list.push(event)?;
+    }
+    Ok(())
 }
