@@ -1,0 +1,118 @@
+-- What comes of storing an event is a clash exactly where there is one.
+use Rattle.std.proofs.Common.{◌≡◌, ◌∙◌, ℕ, ℤ, Bool, true, false, ◌||◌, List, [], ◌∷◌, Option, Some, None, MatchOption, option_and_then, refl, sym, ap, subst, if◌then◌else◌}
+use Rattle.std.proofs.lemmas.Option.{same_Some}
+use Rattle.cal_model.specs.Operations.{Ground, after_tests, bad_of_event, put, unless_clash, within_quota}
+use Rattle.cal_model.specs.Quota.{exceeds_quota, size_of_object}
+use Rattle.cal_model.specs.declared.outcome.Outcome.{Outcome}
+use Rattle.cal_model.specs.declared.outcome.Outcome.TheVariants.{Accepted, Refused}
+use Rattle.cal_model.specs.declared.set_error.SetError.TheVariants.{Clashes, InvalidProperties, OverQuota}
+use Rattle.clash_laws.proofs.Resources.{FirstIn, at_resource, first_of_all, resource_at}
+use Rattle.clash_laws.specs.Storing.{ClashesAreExact, ClashesAreFirst, IsClashed, IsToldClash, MeetsNoEarlier, OthersAreStored, WouldClash, outcome, stored_event, stored_members}
+use Rattle.clash_laws.specs.Twice.{IsFirstClash, WouldCoverTwice}
+use Rattle.model_event.specs.Events.{names_calendar}
+use Rattle.model_history.specs.declared.entry.Change.{Change}
+use Rattle.model_history.specs.declared.entry.Kind.TheVariants.{Event}
+use Rattle.model_json.specs.Data.{Pair}
+use Rattle.model_json.specs.declared.tree.Tree.{Tree}
+use Rattle.model_recurrence.specs.SeriesOf.{series_in}
+use Rattle.model_resource.specs.Bookings.{clash_of_event, first_clash_in, has_full_resource}
+use Rattle.model_resource.specs.Resources.{resources_of}
+use Rattle.model_room.specs.Clashes.{second_of}
+use Rattle.model_room.specs.declared.clash.Clash.{Clash}
+use Rattle.model_series.specs.declared.series.Series.{Series}
+
+by_option : {A Q : Type 0} (o : Option A) → (o ≡ None → Q) → ((x : A) → o ≡ Some x → Q) → Q
+by_option None f g = f refl
+by_option (Some x) f g = g x refl
+
+-- ---- The last of the refusals.
+
+unless_earlier : (cs : List Change) (is_full : Bool) (clash : Option (ℕ × Clash)) (c : Change) (names : List (List ℕ)) → names ≡ [] → exceeds_quota cs (size_of_object c.object) ≡ false → is_full ≡ false
+    → after_tests cs is_full clash c names ≡ unless_clash clash c
+unless_earlier cs is_full clash c names valid fits room = rw (valid, fits, room) refl
+
+-- a clash told is the last refusal
+last_of_all : (cs : List Change) (is_full : Bool) (clash : Option (ℕ × Clash)) (c : Change) (names : List (List ℕ)) (calendar : ℕ) (told : Clash)
+    → after_tests cs is_full clash c names ≡ Refused (Clashes calendar told)
+    → ((names ≡ []) × (exceeds_quota cs (size_of_object c.object) ≡ false)) × ((is_full ≡ false) × (clash ≡ Some (calendar, told)))
+last_of_all cs is_full clash c (name ∷ names) calendar told h = absurd (cc h)
+last_of_all cs is_full clash c [] calendar told h = by_cases (exceeds_quota cs (size_of_object c.object)) is_full clash refl refl refl h
+  where
+    by_cases : (e f : Bool) (o : Option (ℕ × Clash)) → exceeds_quota cs (size_of_object c.object) ≡ e → is_full ≡ f → clash ≡ o
+        → (if e || f then Refused OverQuota else unless_clash o c) ≡ Refused (Clashes calendar told)
+        → (([] ≡ []) × (exceeds_quota cs (size_of_object c.object) ≡ false)) × ((is_full ≡ false) × (clash ≡ Some (calendar, told)))
+    by_cases true f o a b d g = absurd (cc g)
+    by_cases false true o a b d g = absurd (cc g)
+    by_cases false false None a b d g = absurd (cc g)
+    by_cases false false (Some q) a b d g = ((refl, a), (b, d ∙ same q g))
+      where
+        same : (q : ℕ × Clash) → Refused (Clashes q.0 q.1) ≡ Refused (Clashes calendar told) → Some q ≡ Some (calendar, told)
+        same (m, clash) e = cc e
+
+module _ (g : Ground) (cs : List Change) (n : ℕ) (before : Option Tree) (names_id : Bool) (ps : List Pair) where
+  abbrev zones : _
+  zones = g.base.zones
+
+  abbrev found : Option (ℕ × Clash)
+  found = clash_of_event zones cs n (stored_event g cs n before names_id ps)
+
+  abbrev change : Change
+  change = put Event n (stored_members g cs n before names_id ps)
+
+  abbrev Would : Type 0
+  Would = (calendar : ℕ) × ((x : ℤ) × WouldClash g cs n before names_id ps calendar x)
+
+  -- a clash that is found is the first
+  found_first : (o : Option Series) (q : ℕ × Clash) → series_in zones (stored_event g cs n before names_id ps) ≡ o
+      → option_and_then (λ s. first_clash_in zones cs n s (resources_of cs (stored_event g cs n before names_id ps))) o ≡ Some q → IsToldClash g cs n before names_id ps q.0 q.1
+  found_first None q e h = absurd (cc h)
+  found_first (Some s) q e h = (s, (e, subst (FirstIn zones cs n s (resources_of cs (stored_event g cs n before names_id ps))) h (first_of_all zones cs n s (resources_of cs (stored_event g cs n before names_id ps)))))
+
+  -- and is one
+  told_would : (calendar : ℕ) (clash : Clash) → IsToldClash g cs n before names_id ps calendar clash → WouldClash g cs n before names_id ps calendar (second_of clash)
+  told_would calendar clash (s, (e, first)) =
+      let at = at_resource cs (stored_event g cs n before names_id ps) first.place calendar first.here in
+      record { resource = at.0; there = at.1; series = s; is = e; twice = first.told.least.holds }
+
+  -- where none is found there is none
+  none_would : (o : Option Series) → series_in zones (stored_event g cs n before names_id ps) ≡ o
+      → option_and_then (λ s. first_clash_in zones cs n s (resources_of cs (stored_event g cs n before names_id ps))) o ≡ None → Would → ⊥
+  none_would None e h (calendar, (x, would)) = cc (e, would.is)
+  none_would (Some s) e h (calendar, (x, would)) =
+      let same : would.series ≡ s = same_Some would.series s (sym would.is ∙ e) in
+      let at = resource_at cs (stored_event g cs n before names_id ps) calendar would.resource would.there in
+      let none = subst (FirstIn zones cs n s (resources_of cs (stored_event g cs n before names_id ps))) h (first_of_all zones cs n s (resources_of cs (stored_event g cs n before names_id ps))) in
+      none at.0 calendar x at.1 (subst (λ (t : Series). WouldCoverTwice zones cs n t calendar x) same would.twice)
+
+  module _ (m : MeetsNoEarlier g cs n before names_id ps) where
+    outcome_is : outcome g cs n before names_id ps ≡ unless_clash found change
+    outcome_is = unless_earlier cs (has_full_resource zones cs n (stored_event g cs n before names_id ps)) found change (bad_of_event g cs before names_id (stored_event g cs n before names_id ps)) m.valid m.fits m.room
+
+    clashed_would : IsClashed (outcome g cs n before names_id ps) → Would
+    clashed_would (calendar, (clash, h)) =
+        let last = last_of_all cs (has_full_resource zones cs n (stored_event g cs n before names_id ps)) found change (bad_of_event g cs before names_id (stored_event g cs n before names_id ps)) calendar clash h in
+        (calendar, (second_of clash, told_would calendar clash (found_first (series_in zones (stored_event g cs n before names_id ps)) (calendar, clash) refl last.1.1)))
+
+    would_clashed : Would → IsClashed (outcome g cs n before names_id ps)
+    would_clashed would = by_option found
+        (λ e. absurd (none_would (series_in zones (stored_event g cs n before names_id ps)) refl e would))
+        (λ q e. (q.0, (q.1, outcome_is ∙ ap (λ o. unless_clash o change) e)))
+
+    not_found : (Would → ⊥) → outcome g cs n before names_id ps ≡ Accepted change
+    not_found no = by_option found
+        (λ e. outcome_is ∙ ap (λ o. unless_clash o change) e)
+        (λ q e. absurd (no (q.0, (second_of q.1, told_would q.0 q.1 (found_first (series_in zones (stored_event g cs n before names_id ps)) q refl e)))))
+
+pub clashes_are_exact : ClashesAreExact
+clashes_are_exact g cs n before names_id ps m = (clashed_would g cs n before names_id ps m, would_clashed g cs n before names_id ps m)
+
+pub clashes_are_first : ClashesAreFirst
+clashes_are_first g cs n before names_id ps calendar clash h =
+    let last = last_of_all cs (has_full_resource (zones g cs n before names_id ps) cs n (stored_event g cs n before names_id ps)) (found g cs n before names_id ps) (change g cs n before names_id ps)
+    (bad_of_event g cs before names_id (stored_event g cs n before names_id ps)) calendar clash h in (
+      record { valid = last.0.0; fits = last.0.1; room = last.1.0 },
+      found_first g cs n before names_id ps (series_in g.base.zones (stored_event g cs n before names_id ps)) (calendar, clash) refl last.1.1,
+    )
+
+pub others_are_stored : OthersAreStored
+others_are_stored g cs n before names_id ps m no = not_found g cs n before names_id ps m (λ would. no would.0 would.1.0 would.1.1)
