@@ -27,7 +27,7 @@ trap 'kill "$relay" 2>/dev/null' EXIT
 shown='%{stderr}%{http_code} %{content_type}, %{num_connects} new connections\n%{stdout}\n'
 common=(--silent --show-error --max-time 20 --retry 20 --retry-connrefused --retry-delay 1 -H 'Authorization: Bearer t-ann' -w "$shown")
 sent=("${common[@]}" "http://127.0.0.1:$port/.well-known/jmap")
-for request in set get rename changes destroy event move sync weekly weeks; do
+for request in set get rename changes destroy event move sync weekly weeks room; do
     sent+=(--next "${common[@]}" --data-binary "@examples/$request.json" "http://127.0.0.1:$port/jmap")
 done
 answers=$(curl "${sent[@]}") || exit 1
