@@ -1,18 +1,27 @@
 -- What comes of storing an event is a clash exactly where there is one.
-use Rattle.std.proofs.Common.{◌≡◌, ◌∙◌, ℕ, ℤ, Bool, true, false, ◌||◌, List, [], ◌∷◌, Option, Some, None, MatchOption, option_and_then, refl, sym, ap, subst, if◌then◌else◌}
+use Rattle.std.proofs.Common.{◌≡◌, ◌∙◌, ℕ, ℤ, Bool, true, false, ◌||◌, List, [], ◌∷◌, Option, Some, None, Result, Ok, Err, MatchOption, codes, is_some, option_and_then, refl, sym, ap, subst, if◌then◌else◌}
 use Rattle.std.proofs.lemmas.Option.{same_Some}
-use Rattle.cal_model.specs.Operations.{Ground, after_tests, bad_of_event, put, unless_clash, within_quota}
+use Rattle.cal_model.specs.Calendar.{calendar_in, stored}
+use Rattle.cal_model.specs.CreatedIds.{object_named, resolved_object, resolved_patch}
+use Rattle.cal_model.specs.Occurrences.{occurrence_named}
+use Rattle.cal_model.specs.Operations.{Ground, Operation, destroy, update, after_tests, bad_of_calendar, bad_of_event, calendar_outcome, destroyed_outcome, exceeds_resources, has_other_id, is_in_use, object_outcome, outcome_of, patched_outcome, put, removal, unless_clash, unless_occurrence, updated_outcome, with_own_id, within_quota}
 use Rattle.cal_model.specs.Quota.{exceeds_quota, size_of_object}
 use Rattle.cal_model.specs.declared.outcome.Outcome.{Outcome}
 use Rattle.cal_model.specs.declared.outcome.Outcome.TheVariants.{Accepted, Refused}
-use Rattle.cal_model.specs.declared.set_error.SetError.TheVariants.{Clashes, InvalidProperties, OverQuota}
+use Rattle.cal_model.specs.declared.set_error.SetError.TheVariants.{CalendarHasEvent, Clashes, InvalidProperties, OverQuota}
 use Rattle.clash_laws.proofs.Resources.{FirstIn, at_resource, first_of_all, resource_at}
-use Rattle.clash_laws.specs.Storing.{ClashesAreExact, ClashesAreFirst, IsClashed, IsToldClash, MeetsNoEarlier, OthersAreStored, WouldClash, outcome, stored_event, stored_members}
+use Rattle.clash_laws.specs.Storing.{ClashesAreExact, ClashesAreFirst, ClashesAreOfStoring, IsClashed, IsOfStoring, IsToldClash, MeetsNoEarlier, OthersAreStored, WouldClash, outcome, stored_event, stored_members}
 use Rattle.clash_laws.specs.Twice.{IsFirstClash, WouldCoverTwice}
 use Rattle.model_event.specs.Events.{names_calendar}
 use Rattle.model_history.specs.declared.entry.Change.{Change}
-use Rattle.model_history.specs.declared.entry.Kind.TheVariants.{Event}
-use Rattle.model_json.specs.Data.{Pair}
+use Rattle.model_history.specs.History.{next_number}
+use Rattle.model_history.specs.declared.entry.Kind.{Kind}
+use Rattle.model_history.specs.declared.entry.Kind.TheVariants.{Calendar, Event}
+use Rattle.model_json.specs.Data.{Data, Pair, lookup}
+use Rattle.model_json.specs.Parts.{members_in}
+use Rattle.model_json.specs.Patch.{patched}
+use Rattle.model_json.specs.TreeData.{data_of}
+use Rattle.property_table.specs.Table.{given}
 use Rattle.model_json.specs.declared.tree.Tree.{Tree}
 use Rattle.model_recurrence.specs.SeriesOf.{series_in}
 use Rattle.model_resource.specs.Bookings.{clash_of_event, first_clash_in, has_full_resource}
@@ -72,7 +81,7 @@ module _ (g : Ground) (cs : List Change) (n : ℕ) (before : Option Tree) (names
   told_would : (calendar : ℕ) (clash : Clash) → IsToldClash g cs n before names_id ps calendar clash → WouldClash g cs n before names_id ps calendar (second_of clash)
   told_would calendar clash (s, (e, first)) =
       let at = at_resource cs (stored_event g cs n before names_id ps) first.place calendar first.here in
-      record { resource = at.0; there = at.1; series = s; is = e; twice = first.told.least.holds }
+      record { resource = at.0; there = at.1; series = s; is = e; twice = first.told.twice }
 
   -- where none is found there is none
   none_would : (o : Option Series) → series_in zones (stored_event g cs n before names_id ps) ≡ o
@@ -116,3 +125,53 @@ clashes_are_first g cs n before names_id ps calendar clash h =
 
 pub others_are_stored : OthersAreStored
 others_are_stored g cs n before names_id ps m no = not_found g cs n before names_id ps m (λ would. no would.0 would.1.0 would.1.1)
+
+-- ---- Other operations.
+
+module _ (g : Ground) (cs : List Change) where
+  calendar_not : (n : ℕ) (before : Option Tree) (names_id : Bool) (ps : List Pair) → IsClashed (calendar_outcome g cs n before names_id ps) → ⊥
+  calendar_not n before names_id ps (calendar, (clash, h)) =
+      let d = with_own_id Calendar n ps in
+      let last = last_of_all cs (exceeds_resources cs n d) None (put Calendar n (stored (calendar_in d))) (bad_of_calendar g cs before names_id d) calendar clash h in
+      cc last.1.1
+
+  stored_of : (kind : Kind) (n : ℕ) (before : Option Tree) (names_id : Bool) (ps : List Pair) → IsClashed (object_outcome g cs kind n before names_id ps) → IsOfStoring g cs (object_outcome g cs kind n before names_id ps)
+  stored_of Calendar n before names_id ps h = absurd (calendar_not n before names_id ps h)
+  stored_of Event n before names_id ps h = (n, (before, (names_id, (ps, refl))))
+
+  patched_of : (kind : Kind) (n : ℕ) (before : Tree) (r : Result Data (List ℕ)) → IsClashed (patched_outcome g cs kind n before r) → IsOfStoring g cs (patched_outcome g cs kind n before r)
+  patched_of kind n before (Err key) (calendar, (clash, h)) = absurd (cc h)
+  patched_of kind n before (Ok d) h = stored_of kind n (Some before) (has_other_id kind n (members_in d)) (members_in d) h
+
+  updated_of : (kind : Kind) (patch : List Pair) (is_destroyed is_repeated : Bool) (o : Option (ℕ × Tree))
+      → IsClashed (updated_outcome g cs kind patch is_destroyed is_repeated o) → IsOfStoring g cs (updated_outcome g cs kind patch is_destroyed is_repeated o)
+  updated_of kind patch is_destroyed is_repeated None (calendar, (clash, h)) = absurd (cc h)
+  updated_of kind patch true is_repeated (Some q) (calendar, (clash, h)) = absurd (cc h)
+  updated_of kind patch false true (Some q) (calendar, (clash, h)) = absurd (cc h)
+  updated_of kind patch false false (Some q) h = patched_of kind q.0 q.1 (patched (data_of q.1) patch) h
+
+  destroyed_not : (kind : Kind) (o : Option (ℕ × Tree)) → IsClashed (destroyed_outcome g cs kind o) → ⊥
+  destroyed_not kind None (calendar, (clash, h)) = cc h
+  destroyed_not kind (Some q) h = by_cases (is_in_use cs kind q.0) h
+    where
+      by_cases : (b : Bool) → IsClashed (if b then Refused CalendarHasEvent else within_quota cs false None (removal kind q.0)) → ⊥
+      by_cases true (calendar, (clash, e)) = cc e
+      by_cases false (calendar, (clash, e)) = let last = last_of_all cs false None (removal kind q.0) [] calendar clash e in cc last.1.1
+
+  unless_of : (o : Option Tree) (is_destroyed : Bool) (x : Outcome) → (IsClashed x → IsOfStoring g cs x) → IsClashed (unless_occurrence g cs o is_destroyed x) → IsOfStoring g cs (unless_occurrence g cs o is_destroyed x)
+  unless_of None is_destroyed x f h = f h
+  unless_of (Some t) true x f (calendar, (clash, h)) = absurd (cc h)
+  unless_of (Some t) false x f (calendar, (clash, h)) = absurd (cc h)
+
+  operation_of : (kind : Kind) (created : List (List ℕ × List ℕ)) (o : Operation) → IsClashed (outcome_of g cs kind created o) → IsOfStoring g cs (outcome_of g cs kind created o)
+  operation_of kind created (update id patch is_destroyed is_repeated) h =
+      unless_of (occurrence_named cs kind id) is_destroyed (updated_outcome g cs kind (resolved_patch created kind patch) is_destroyed is_repeated (object_named cs kind id))
+      (updated_of kind (resolved_patch created kind patch) is_destroyed is_repeated (object_named cs kind id)) h
+  operation_of kind created (destroy id) h =
+      unless_of (occurrence_named cs kind id) false (destroyed_outcome g cs kind (object_named cs kind id)) (λ e. absurd (destroyed_not kind (object_named cs kind id) e)) h
+
+pub clashes_are_of_storing : ClashesAreOfStoring
+clashes_are_of_storing g cs kind created = (
+  λ p h. stored_of g cs kind (next_number cs kind) None (is_some (lookup (codes "id") (given (resolved_object created kind (members_in p.1))))) (resolved_object created kind (members_in p.1)) h,
+  operation_of g cs kind created,
+)

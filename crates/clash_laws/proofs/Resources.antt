@@ -1,5 +1,5 @@
 -- The first clash of an event in its resources.
-use Rattle.std.proofs.Common.{◌≡◌, ◌∙◌, ℕ, zero, suc, ◌<◌, ◌==◌, ◌||◌, ℤ, inl, inr, Bool, true, false, cond, List, [], ◌∷◌, slice_get, filter, Option, Some, None, MatchOption, option_map, is_some, refl, sym, ap, subst, arith}
+use Rattle.std.proofs.Common.{◌≡◌, ◌∙◌, ℕ, zero, suc, ◌<◌, ◌==◌, ◌||◌, ℤ, ◌≤ℤ◌, inl, inr, Bool, true, false, cond, List, [], ◌∷◌, slice_get, filter, Option, Some, None, MatchOption, option_map, is_some, refl, sym, ap, subst, arith}
 use Rattle.std.specs.Option.{option_or}
 use Rattle.std.proofs.lemmas.Bool.{false≢true}
 use Rattle.std.proofs.lemmas.Option.{same_Some}
@@ -23,7 +23,7 @@ use Rattle.model_series.specs.declared.series.Series.{Series}
 use Rattle.model_site.specs.TimeZones.{ZoneText}
 use Rattle.model_time.specs.Walls.{day_of_wall, second_of_wall}
 use Rattle.room_history.proofs.Tables.{same_number}
-use Rattle.rule_expand.specs.Least.{IsLeast, IsLeastOf}
+use Rattle.rule_expand.specs.Least.{IsLeastOf}
 
 module _ (zones : List ZoneText) (cs : List Change) (event : ℕ) (s : Series) where
   -- ---- In one calendar.
@@ -35,10 +35,8 @@ module _ (zones : List ZoneText) (cs : List Change) (event : ℕ) (s : Series) w
       → MatchOption (option_map (clash_at (other_bookings zones cs event calendar)) o) (NoneIn calendar) (IsClashIn zones cs event s calendar)
   clash_by calendar None h = λ x twice. h x (twice_is_clash zones cs event calendar s x twice)
   clash_by calendar (Some x) h = record {
-    least = subst (IsLeast (WouldCoverTwice zones cs event s calendar)) (sym (whole x)) (record {
-      holds = clash_is_twice zones cs event calendar s x h.holds;
-      least = λ y twice. h.least y (twice_is_clash zones cs event calendar s y twice);
-    });
+    twice = subst (WouldCoverTwice zones cs event s calendar) (sym (whole x)) (clash_is_twice zones cs event calendar s x h.holds);
+    least = λ y twice. subst (λ (z : ℤ). z ≤ℤ y) (sym (whole x)) (h.least y (twice_is_clash zones cs event calendar s y twice));
     of_day = omega (arith, signed_arith);
     first = subst (λ (y : ℤ). IsFirstOther zones cs event calendar y (first_covering (other_bookings zones cs event calendar) x)) (sym (whole x)) (first_other zones cs event calendar x);
   }
@@ -75,10 +73,6 @@ module _ (zones : List ZoneText) (cs : List Change) (event : ℕ) (s : Series) w
   first_of_all (n ∷ ns) = one_more n ns (first_clash (other_bookings zones cs event n) s) (first_clash_in zones cs event s ns) (clash_here n) (first_of_all ns)
 
 -- ---- Which resources an event books.
-
-choice : (b t : Bool) → (b || t) ≡ true → (b ≡ false → t ≡ true → ⊥) → b ≡ true
-choice true t h f = refl
-choice false t h f = absurd (f refl h)
 
 placed : (ns : List ℕ) (n : ℕ) → is_in ns n ≡ true → (k : ℕ) × (slice_get ns k ≡ Some n)
 placed [] n h = absurd (false≢true h)

@@ -1,7 +1,7 @@
 -- When storing an event is refused as a clash.
 use Rattle.std.specs.Prelude.{◌≡◌, ◌↔◌, ℕ, ℤ, Bool, true, false, List, [], Option, Some}
 use Rattle.cal_model.specs.EventObject.{event_members}
-use Rattle.cal_model.specs.Operations.{Ground, bad_of_event, event_outcome, put}
+use Rattle.cal_model.specs.Operations.{Ground, Operation, bad_of_event, create_outcome, event_outcome, outcome_of, put}
 use Rattle.cal_model.specs.Quota.{exceeds_quota, size_of_object}
 use Rattle.cal_model.specs.declared.outcome.Outcome.{Outcome}
 use Rattle.cal_model.specs.declared.outcome.Outcome.TheVariants.{Accepted, Refused}
@@ -9,6 +9,7 @@ use Rattle.cal_model.specs.declared.set_error.SetError.TheVariants.{Clashes}
 use Rattle.clash_laws.specs.Twice.{IsFirstClash, WouldCoverTwice}
 use Rattle.model_event.specs.Events.{names_calendar}
 use Rattle.model_history.specs.declared.entry.Change.{Change}
+use Rattle.model_history.specs.declared.entry.Kind.{Kind}
 use Rattle.model_history.specs.declared.entry.Kind.TheVariants.{Event}
 use Rattle.model_json.specs.Data.{Data, Pair, members_of, object}
 use Rattle.model_json.specs.declared.tree.Tree.{Tree}
@@ -68,3 +69,13 @@ ClashesAreFirst = (g : Ground) (cs : List Change) (n : ℕ) (before : Option Tre
 abbrev pub OthersAreStored : Type 0
 OthersAreStored = (g : Ground) (cs : List Change) (n : ℕ) (before : Option Tree) (names_id : Bool) (ps : List Pair) → MeetsNoEarlier g cs n before names_id ps
     → ((calendar : ℕ) (x : ℤ) → WouldClash g cs n before names_id ps calendar x → ⊥) → outcome g cs n before names_id ps ≡ Accepted (put Event n (stored_members g cs n before names_id ps))
+
+-- what comes of storing some event
+abbrev pub IsOfStoring : Ground → List Change → Outcome → Type 0
+IsOfStoring g cs o = (n : ℕ) × ((before : Option Tree) × ((names_id : Bool) × ((ps : List Pair) × (o ≡ outcome g cs n before names_id ps))))
+
+-- No create and no other operation of a set is refused as a clash but one that stores an event.
+abbrev pub ClashesAreOfStoring : Type 0
+ClashesAreOfStoring = (g : Ground) (cs : List Change) (kind : Kind) (created : List (List ℕ × List ℕ))
+    → ((p : Pair) → IsClashed (create_outcome g kind created cs p) → IsOfStoring g cs (create_outcome g kind created cs p))
+    × ((o : Operation) → IsClashed (outcome_of g cs kind created o) → IsOfStoring g cs (outcome_of g cs kind created o))

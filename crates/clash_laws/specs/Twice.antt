@@ -1,5 +1,5 @@
 -- The seconds of a resource that an event would have covered twice, over all days without end.
-use Rattle.std.specs.Prelude.{◌≡◌, ◌⊎◌, ◌<◌, ◌≤◌, ℕ, ℤ, true, List, slice_get, Option, Some, MatchOption}
+use Rattle.std.specs.Prelude.{◌≡◌, ◌⊎◌, ◌<◌, ◌≤◌, ℕ, ℤ, ◌≤ℤ◌, true, List, slice_get, Option, Some, MatchOption}
 use Rattle.model_event.specs.Events.{names_calendar}
 use Rattle.model_history.specs.History.{live_object}
 use Rattle.model_history.specs.declared.entry.Change.{Change}
@@ -14,7 +14,6 @@ use Rattle.model_series.specs.Shared.{IsSelfShared}
 use Rattle.model_series.specs.declared.occurrence.Occurrence.{Occurrence}
 use Rattle.model_series.specs.declared.series.Series.{Series}
 use Rattle.model_site.specs.TimeZones.{ZoneText}
-use Rattle.rule_expand.specs.Least.{IsLeast}
 
 -- an occurrence of the series covers x
 abbrev pub IsCovered : Series → ℤ → Type 0
@@ -45,7 +44,8 @@ IsFirstOther zones cs event calendar x o =
 
 -- the clash in a calendar: the least of those seconds, by its day and the second of the day, with the first other event that covers it
 pub record IsClashIn (zones : List ZoneText) (cs : List Change) (event : ℕ) (s : Series) (calendar : ℕ) (clash : Clash) : Type 0 where
-  pub least : IsLeast (WouldCoverTwice zones cs event s calendar) (second_of clash)
+  pub twice : WouldCoverTwice zones cs event s calendar (second_of clash)
+  pub least : (x : ℤ) → WouldCoverTwice zones cs event s calendar x → second_of clash ≤ℤ x
   pub of_day : clash.second < 86400
   pub first : IsFirstOther zones cs event calendar (second_of clash) clash.with
 

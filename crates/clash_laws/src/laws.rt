@@ -1,6 +1,6 @@
 //! The laws of clashes, the contracts of functions that do nothing.
 ghost use Rattle.std.specs.Prelude.{List, option_map};
-ghost use Rattle.clash_laws.specs.Storing.{ClashesAreExact, ClashesAreFirst, OthersAreStored};
+ghost use Rattle.clash_laws.specs.Storing.{ClashesAreExact, ClashesAreFirst, ClashesAreOfStoring, OthersAreStored};
 ghost use Rattle.model_room.specs.Clashes.{IsClash, first_clash, second_of};
 ghost use Rattle.model_room.specs.declared.booking.Booking.{Booking};
 ghost use Rattle.model_series.specs.declared.series.Series.{Series};
@@ -14,9 +14,11 @@ pub fn first_clashes_are_least()
 
 /// A booking that meets no earlier refusal is refused as a clash exactly where two different occurrences would cover one second of a
 /// resource, on all days without end; of its own, or one of its own and one of another live event. The refusal tells the first such
-/// second of the first such resource, and the first other event that covers it. Each other such booking is made.
+/// second of the first such resource, and the first other event that covers it. Each other such event is stored, and nothing else that a
+/// set does is refused as a clash.
 pub fn bookings_clash_where_two_would_cover_a_second()
     ensures exact { ClashesAreExact }
     ensures first { ClashesAreFirst }
     ensures others { OthersAreStored }
+    ensures storing { ClashesAreOfStoring }
 {}
