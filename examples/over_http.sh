@@ -1,8 +1,8 @@
 #!/usr/bin/env bash
 # Talks to `jmapd stdio` by curl, over TCP on one kept connection: the session object, then a day with calendars, one that is created, read, renamed and
 # destroyed, and what changed meanwhile, and a team's event that is created, moved and fetched by its changes, and a weekly meeting with its
-# week that is otherwise. The answers are compared with
-# examples/over_http.answers, in which NOW stands for the moments at which the event was created and updated. socat relays one connection of a port to the program's standard streams.
+# week that is otherwise, and a room with a weekly booking, one that would meet it, whose first such second is told, and one that no room takes. The answers are compared with
+# examples/over_http.answers, in which NOW stands for the moments at which events were created and updated. socat relays one connection of a port to the program's standard streams.
 #
 #     examples/over_http.sh [PATH_OF_THE_PROGRAM]        PORT=8080 by default
 set -u
