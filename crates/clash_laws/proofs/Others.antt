@@ -41,13 +41,14 @@ booked_at (c ∷ cs) (suc k) b h e =
 abbrev BookingAt : List Booking → ℕ → Series → Type 0
 BookingAt bs n s = (k : ℕ) × (slice_get bs k ≡ Some (record { number = n; series = s }))
 
+first_or_rest : (b : Booking) (bs : List Booking) (n : ℕ) (s : Series) (t : Bool) → (b.number == n) ≡ t → (if t then Some b.series else series_booked n bs) ≡ Some s → (series_booked n bs ≡ Some s → BookingAt bs n s)
+    → BookingAt (b ∷ bs) n s
+first_or_rest b bs n s true e h rest = (0, λ i. Some (record { number = same_number b.number n e i; series = same_Some b.series s h i }))
+first_or_rest b bs n s false e h rest = let more = rest h in (suc more.0, more.1)
+
 at_booked : (bs : List Booking) (n : ℕ) (s : Series) → series_booked n bs ≡ Some s → BookingAt bs n s
 at_booked [] n s h = absurd (cc h)
-at_booked (b ∷ bs) n s h = by_cases (b.number == n) refl h
-  where
-    by_cases : (t : Bool) → (b.number == n) ≡ t → (if t then Some b.series else series_booked n bs) ≡ Some s → BookingAt (b ∷ bs) n s
-    by_cases true e g = (0, λ i. Some (record { number = same_number b.number n e i; series = same_Some b.series s g i }))
-    by_cases false e g = let more = at_booked bs n s g in (suc more.0, more.1)
+at_booked (b ∷ bs) n s h = first_or_rest b bs n s (b.number == n) refl h (λ g. at_booked bs n s g)
 
 -- a booking of this number covers x
 abbrev pub NumberCovers : List Booking → ℤ → ℕ → Type 0

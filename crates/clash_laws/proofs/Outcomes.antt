@@ -45,25 +45,22 @@ last_of_all : (cs : List Change) (is_full : Bool) (clash : Option (ℕ × Clash)
     → after_tests cs is_full clash c names ≡ Refused (Clashes calendar told)
     → ((names ≡ []) × (exceeds_quota cs (size_of_object c.object) ≡ false)) × ((is_full ≡ false) × (clash ≡ Some (calendar, told)))
 last_of_all cs is_full clash c (name ∷ names) calendar told h = absurd (cc h)
-last_of_all cs is_full clash c [] calendar told h = by_cases (exceeds_quota cs (size_of_object c.object)) is_full clash refl refl refl h
+last_of_all cs is_full clash c [] calendar told h = let rest = by_cases (exceeds_quota cs (size_of_object c.object)) is_full clash refl refl refl h in ((refl, rest.0), (rest.1, rest.2))
   where
+    same : (q : ℕ × Clash) → Refused (Clashes q.0 q.1) ≡ Refused (Clashes calendar told) → Some q ≡ Some (calendar, told)
+    same (m, clash) e = cc e
+
     by_cases : (e f : Bool) (o : Option (ℕ × Clash)) → exceeds_quota cs (size_of_object c.object) ≡ e → is_full ≡ f → clash ≡ o
         → (if e || f then Refused OverQuota else unless_clash o c) ≡ Refused (Clashes calendar told)
-        → (([] ≡ []) × (exceeds_quota cs (size_of_object c.object) ≡ false)) × ((is_full ≡ false) × (clash ≡ Some (calendar, told)))
+        → (exceeds_quota cs (size_of_object c.object) ≡ false) × (is_full ≡ false) × (clash ≡ Some (calendar, told))
     by_cases true f o a b d g = absurd (cc g)
     by_cases false true o a b d g = absurd (cc g)
     by_cases false false None a b d g = absurd (cc g)
-    by_cases false false (Some q) a b d g = ((refl, a), (b, d ∙ same q g))
-      where
-        same : (q : ℕ × Clash) → Refused (Clashes q.0 q.1) ≡ Refused (Clashes calendar told) → Some q ≡ Some (calendar, told)
-        same (m, clash) e = cc e
+    by_cases false false (Some q) a b d g = (a, b, d ∙ same q g)
 
 module _ (g : Ground) (cs : List Change) (n : ℕ) (before : Option Tree) (names_id : Bool) (ps : List Pair) where
-  abbrev zones : _
-  zones = g.base.zones
-
   abbrev found : Option (ℕ × Clash)
-  found = clash_of_event zones cs n (stored_event g cs n before names_id ps)
+  found = clash_of_event g.base.zones cs n (stored_event g cs n before names_id ps)
 
   abbrev change : Change
   change = put Event n (stored_members g cs n before names_id ps)
@@ -72,10 +69,10 @@ module _ (g : Ground) (cs : List Change) (n : ℕ) (before : Option Tree) (names
   Would = (calendar : ℕ) × ((x : ℤ) × WouldClash g cs n before names_id ps calendar x)
 
   -- a clash that is found is the first
-  found_first : (o : Option Series) (q : ℕ × Clash) → series_in zones (stored_event g cs n before names_id ps) ≡ o
-      → option_and_then (λ s. first_clash_in zones cs n s (resources_of cs (stored_event g cs n before names_id ps))) o ≡ Some q → IsToldClash g cs n before names_id ps q.0 q.1
+  found_first : (o : Option Series) (q : ℕ × Clash) → series_in g.base.zones (stored_event g cs n before names_id ps) ≡ o
+      → option_and_then (λ s. first_clash_in g.base.zones cs n s (resources_of cs (stored_event g cs n before names_id ps))) o ≡ Some q → IsToldClash g cs n before names_id ps q.0 q.1
   found_first None q e h = absurd (cc h)
-  found_first (Some s) q e h = (s, (e, subst (FirstIn zones cs n s (resources_of cs (stored_event g cs n before names_id ps))) h (first_of_all zones cs n s (resources_of cs (stored_event g cs n before names_id ps)))))
+  found_first (Some s) q e h = (s, (e, subst (FirstIn g.base.zones cs n s (resources_of cs (stored_event g cs n before names_id ps))) h (first_of_all g.base.zones cs n s (resources_of cs (stored_event g cs n before names_id ps)))))
 
   -- and is one
   told_would : (calendar : ℕ) (clash : Clash) → IsToldClash g cs n before names_id ps calendar clash → WouldClash g cs n before names_id ps calendar (second_of clash)
@@ -84,47 +81,47 @@ module _ (g : Ground) (cs : List Change) (n : ℕ) (before : Option Tree) (names
       record { resource = at.0; there = at.1; series = s; is = e; twice = first.told.twice }
 
   -- where none is found there is none
-  none_would : (o : Option Series) → series_in zones (stored_event g cs n before names_id ps) ≡ o
-      → option_and_then (λ s. first_clash_in zones cs n s (resources_of cs (stored_event g cs n before names_id ps))) o ≡ None → Would → ⊥
+  none_would : (o : Option Series) → series_in g.base.zones (stored_event g cs n before names_id ps) ≡ o
+      → option_and_then (λ s. first_clash_in g.base.zones cs n s (resources_of cs (stored_event g cs n before names_id ps))) o ≡ None → Would → ⊥
   none_would None e h (calendar, (x, would)) = cc (e, would.is)
   none_would (Some s) e h (calendar, (x, would)) =
       let same : would.series ≡ s = same_Some would.series s (sym would.is ∙ e) in
       let at = resource_at cs (stored_event g cs n before names_id ps) calendar would.resource would.there in
-      let none = subst (FirstIn zones cs n s (resources_of cs (stored_event g cs n before names_id ps))) h (first_of_all zones cs n s (resources_of cs (stored_event g cs n before names_id ps))) in
-      none at.0 calendar x at.1 (subst (λ (t : Series). WouldCoverTwice zones cs n t calendar x) same would.twice)
+      let none = subst (FirstIn g.base.zones cs n s (resources_of cs (stored_event g cs n before names_id ps))) h (first_of_all g.base.zones cs n s (resources_of cs (stored_event g cs n before names_id ps))) in
+      none at.0 calendar x at.1 (subst (λ (t : Series). WouldCoverTwice g.base.zones cs n t calendar x) same would.twice)
 
   module _ (m : MeetsNoEarlier g cs n before names_id ps) where
     outcome_is : outcome g cs n before names_id ps ≡ unless_clash found change
-    outcome_is = unless_earlier cs (has_full_resource zones cs n (stored_event g cs n before names_id ps)) found change (bad_of_event g cs before names_id (stored_event g cs n before names_id ps)) m.valid m.fits m.room
+    outcome_is = unless_earlier cs (has_full_resource g.base.zones cs n (stored_event g cs n before names_id ps)) found change (bad_of_event g cs before names_id (stored_event g cs n before names_id ps)) m.valid m.fits m.room
 
     clashed_would : IsClashed (outcome g cs n before names_id ps) → Would
     clashed_would (calendar, (clash, h)) =
-        let last = last_of_all cs (has_full_resource zones cs n (stored_event g cs n before names_id ps)) found change (bad_of_event g cs before names_id (stored_event g cs n before names_id ps)) calendar clash h in
-        (calendar, (second_of clash, told_would calendar clash (found_first (series_in zones (stored_event g cs n before names_id ps)) (calendar, clash) refl last.1.1)))
+        let last = last_of_all cs (has_full_resource g.base.zones cs n (stored_event g cs n before names_id ps)) found change (bad_of_event g cs before names_id (stored_event g cs n before names_id ps)) calendar clash h in
+        (calendar, (second_of clash, told_would calendar clash (found_first (series_in g.base.zones (stored_event g cs n before names_id ps)) (calendar, clash) refl last.1.1)))
 
     would_clashed : Would → IsClashed (outcome g cs n before names_id ps)
     would_clashed would = by_option found
-        (λ e. absurd (none_would (series_in zones (stored_event g cs n before names_id ps)) refl e would))
+        (λ e. absurd (none_would (series_in g.base.zones (stored_event g cs n before names_id ps)) refl e would))
         (λ q e. (q.0, (q.1, outcome_is ∙ ap (λ o. unless_clash o change) e)))
 
     not_found : (Would → ⊥) → outcome g cs n before names_id ps ≡ Accepted change
-    not_found no = by_option found
+    not_found none = by_option found
         (λ e. outcome_is ∙ ap (λ o. unless_clash o change) e)
-        (λ q e. absurd (no (q.0, (second_of q.1, told_would q.0 q.1 (found_first (series_in zones (stored_event g cs n before names_id ps)) q refl e)))))
+        (λ q e. absurd (none (q.0, (second_of q.1, told_would q.0 q.1 (found_first (series_in g.base.zones (stored_event g cs n before names_id ps)) q refl e)))))
 
 pub clashes_are_exact : ClashesAreExact
 clashes_are_exact g cs n before names_id ps m = (clashed_would g cs n before names_id ps m, would_clashed g cs n before names_id ps m)
 
 pub clashes_are_first : ClashesAreFirst
 clashes_are_first g cs n before names_id ps calendar clash h =
-    let last = last_of_all cs (has_full_resource (zones g cs n before names_id ps) cs n (stored_event g cs n before names_id ps)) (found g cs n before names_id ps) (change g cs n before names_id ps)
+    let last = last_of_all cs (has_full_resource g.base.zones cs n (stored_event g cs n before names_id ps)) (found g cs n before names_id ps) (change g cs n before names_id ps)
     (bad_of_event g cs before names_id (stored_event g cs n before names_id ps)) calendar clash h in (
       record { valid = last.0.0; fits = last.0.1; room = last.1.0 },
       found_first g cs n before names_id ps (series_in g.base.zones (stored_event g cs n before names_id ps)) (calendar, clash) refl last.1.1,
     )
 
 pub others_are_stored : OthersAreStored
-others_are_stored g cs n before names_id ps m no = not_found g cs n before names_id ps m (λ would. no would.0 would.1.0 would.1.1)
+others_are_stored g cs n before names_id ps m none = not_found g cs n before names_id ps m (λ would. none would.0 would.1.0 would.1.1)
 
 -- ---- Other operations.
 

@@ -76,23 +76,24 @@ module _ (zones : List ZoneText) (cs : List Change) (event : ℕ) (s : Series) w
 
 placed : (ns : List ℕ) (n : ℕ) → is_in ns n ≡ true → (k : ℕ) × (slice_get ns k ≡ Some n)
 placed [] n h = absurd (false≢true h)
-placed (m ∷ ns) n h = by_cases (m == n) refl h
+placed (m ∷ ns) n h = by_cases (m == n) refl h (λ g. placed ns n g)
   where
-    by_cases : (t : Bool) → (m == n) ≡ t → (t || is_in ns n) ≡ true → (k : ℕ) × (slice_get (m ∷ ns) k ≡ Some n)
-    by_cases true e g = (0, ap Some (same_number m n e))
-    by_cases false e g = let more = placed ns n g in (suc more.0, more.1)
+    by_cases : (t : Bool) → (m == n) ≡ t → (t || is_in ns n) ≡ true → (is_in ns n ≡ true → (k : ℕ) × (slice_get ns k ≡ Some n)) → (k : ℕ) × (slice_get (m ∷ ns) k ≡ Some n)
+    by_cases true e g rest = (0, ap Some (same_number m n e))
+    by_cases false e g rest = let more = rest g in (suc more.0, more.1)
 
-passes : (p : ℕ → Bool) (ns : List ℕ) (k n : ℕ) → slice_get (filter p ns) k ≡ Some n → (p n ≡ true) × ((j : ℕ) × (slice_get ns j ≡ Some n))
+-- what stands in a filtered list passes, and stands in the list
+abbrev Passes : (ℕ → Bool) → List ℕ → ℕ → Type 0
+Passes p ns n = (p n ≡ true) × ((j : ℕ) × (slice_get ns j ≡ Some n))
+
+first_passes : (p : ℕ → Bool) (m : ℕ) (ns : List ℕ) (n : ℕ) (t : Bool) (k : ℕ) → p m ≡ t → slice_get (cond t (m ∷ filter p ns) (filter p ns)) k ≡ Some n → ((i : ℕ) → slice_get (filter p ns) i ≡ Some n → Passes p ns n) → Passes p (m ∷ ns) n
+first_passes p m ns n true zero e h rest = let same = same_Some m n h in (ap p (sym same) ∙ e, (0, h))
+first_passes p m ns n true (suc k) e h rest = let more = rest k h in (more.0, (suc more.1.0, more.1.1))
+first_passes p m ns n false k e h rest = let more = rest k h in (more.0, (suc more.1.0, more.1.1))
+
+passes : (p : ℕ → Bool) (ns : List ℕ) (k n : ℕ) → slice_get (filter p ns) k ≡ Some n → Passes p ns n
 passes p [] k n h = absurd (cc h)
-passes p (m ∷ ns) k n h = by_cases (p m) k refl h
-  where
-    more : (k : ℕ) → slice_get (filter p ns) k ≡ Some n → (p n ≡ true) × ((j : ℕ) × (slice_get (m ∷ ns) j ≡ Some n))
-    more k e = let rest = passes p ns k n e in (rest.0, (suc rest.1.0, rest.1.1))
-
-    by_cases : (t : Bool) (k : ℕ) → p m ≡ t → slice_get (cond t (m ∷ filter p ns) (filter p ns)) k ≡ Some n → (p n ≡ true) × ((j : ℕ) × (slice_get (m ∷ ns) j ≡ Some n))
-    by_cases true zero e g = (ap p (sym (same_Some m n g)) ∙ e, (0, g))
-    by_cases true (suc k) e g = more k g
-    by_cases false k e g = more k g
+passes p (m ∷ ns) k n h = first_passes p m ns n (p m) k refl h (λ i g. passes p ns i n g)
 
 -- an event's resources are the live resource calendars that it is in
 pub resource_at : (cs : List Change) (d : Data) (n : ℕ) → is_resource cs n ≡ true → names_calendar n d ≡ true → (k : ℕ) × (slice_get (resources_of cs d) k ≡ Some n)
