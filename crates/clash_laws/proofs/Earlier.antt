@@ -1,22 +1,19 @@
 -- What a series gives far behind its start it gives some cycles of the calendar earlier too.
-use Rattle.std.proofs.Common.{◌≡◌, ◌∙◌, ℕ, ◌+◌, ◌-◌, ◌*◌, ◌<◌, ◌≤◌, nat_le, ℤ, pos, ◌+ℤ◌, ◌-ℤ◌, ◌*ℤ◌, ◌≤ℤ◌, ◌<ℤ◌, ◌==◌, ◌&&◌, inl, inr, Bool, true, false, List, [], ◌∷◌, slice_get, zero, suc, Option, Some, None, refl, sym, ap, arith, mul_assoc, mul_comm}
+use Rattle.std.proofs.Common.{◌≡◌, ◌∙◌, ℕ, ◌+◌, ◌-◌, ◌*◌, ◌≤◌, ℤ, pos, ◌+ℤ◌, ◌-ℤ◌, ◌*ℤ◌, ◌≤ℤ◌, ◌<ℤ◌, ◌==◌, ◌&&◌, inl, inr, Bool, true, false, List, [], ◌∷◌, slice_get, zero, suc, Some, refl, sym, ap, arith, mul_assoc, mul_comm}
 use Rattle.std.specs.List.{list_all, list_any}
-use Rattle.std.specs.Ordering.{int_eq}
 use Rattle.std.proofs.lemmas.Bool.Decides.{nat_tests, Decides-int_eq}
 use Rattle.std.proofs.lemmas.Option.{same_Some}
 use Rattle.jiff_core.proofs.SignedLemmas.{signed_arith}
 use borrow.Author.Differences.{up, down}
-use borrow.Author.Tests.{eqb-true}
 use Rattle.model_time.specs.Walls.{day_of_wall, is_in_years, second_of_wall}
-use Rattle.model_series.specs.Occurrences.{Covers, IsOccurrence, IsRegular, IsReplacement, is_day, is_rid}
+use Rattle.model_series.specs.Occurrences.{Covers, IsOccurrence, IsRegular, IsReplacement, is_day}
 use Rattle.model_series.specs.Periods.{is_in_phase, period_number}
-use Rattle.model_series.specs.Places.{count_days, count_from}
-use Rattle.model_series.specs.RuleSets.{is_by_end, is_counted, is_day_of_set, is_due, is_in_set, is_kept, is_within_count}
-use Rattle.model_series.specs.SeriesLimits.{are_in_years, are_short, is_named, is_span_in_years, is_span_short, wall_seconds}
+use Rattle.model_series.specs.Places.{count_from}
+use Rattle.model_series.specs.RuleSets.{is_by_end, is_counted, is_due, is_in_set, is_kept, is_within_count}
+use Rattle.model_series.specs.SeriesLimits.{is_named, is_span_in_years, is_span_short, wall_seconds}
 use Rattle.model_series.specs.declared.by_part.End.{End}
 use Rattle.model_series.specs.declared.by_part.End.TheVariants.{Count, Never, Until}
 use Rattle.model_series.specs.declared.exception.Exception.{Exception}
-use Rattle.model_series.specs.declared.exception.Span.{Span}
 use Rattle.model_series.specs.declared.occurrence.Occurrence.{Occurrence}
 use Rattle.model_series.specs.declared.rule.Rule.{Rule}
 use Rattle.model_series.specs.declared.series.Series.{Series}

@@ -1,5 +1,5 @@
 -- The bookings of others in a calendar are the other live events that are in it.
-use Rattle.std.proofs.Common.{◌≡◌, ◌∙◌, ◌⊎◌, ℕ, zero, suc, ◌<◌, ◌≤◌, ◌==◌, ℤ, inl, inr, Bool, true, false, List, [], ◌∷◌, slice_get, Option, Some, None, MatchOption, refl, sym, ap, subst, arith, if◌then◌else◌}
+use Rattle.std.proofs.Common.{◌≡◌, ◌∙◌, ◌⊎◌, ℕ, zero, suc, ◌<◌, ◌≤◌, ◌==◌, ℤ, inl, inr, Bool, true, false, List, [], ◌∷◌, slice_get, Option, Some, None, MatchOption, refl, sym, ap, arith, if◌then◌else◌}
 use Rattle.std.proofs.lemmas.Option.{same_Some}
 use Rattle.clash_laws.specs.Twice.{IsCovered, IsFirstOther, Occupies, OtherOccupies, WouldCoverTwice}
 use Rattle.model_event.specs.Events.{names_calendar}
@@ -12,9 +12,7 @@ use Rattle.model_recurrence.specs.SeriesOf.{series_in}
 use Rattle.model_resource.specs.Bookings.{booked_in, bookings_of, other_bookings}
 use Rattle.model_room.specs.Clashes.{IsClash, first_covering}
 use Rattle.model_room.specs.declared.booking.Booking.{Booking}
-use Rattle.model_series.specs.Occurrences.{Covers, IsOccurrence}
 use Rattle.model_series.specs.Shared.{covers}
-use Rattle.model_series.specs.declared.occurrence.Occurrence.{Occurrence}
 use Rattle.model_series.specs.declared.series.Series.{Series}
 use Rattle.model_site.specs.TimeZones.{ZoneText}
 use Rattle.residue_clash.proofs.Covering.{covers_is}

@@ -1,5 +1,5 @@
 -- What comes of storing an event is a clash exactly where there is one.
-use Rattle.std.proofs.Common.{◌≡◌, ◌∙◌, ℕ, ℤ, Bool, true, false, ◌||◌, List, [], ◌∷◌, Option, Some, None, Result, Ok, Err, MatchOption, codes, is_some, option_and_then, refl, sym, ap, subst, if◌then◌else◌}
+use Rattle.std.proofs.Common.{◌≡◌, ◌∙◌, ℕ, ℤ, Bool, true, false, ◌||◌, List, [], ◌∷◌, Option, Some, None, Result, Ok, Err, codes, is_some, option_and_then, refl, sym, ap, subst, if◌then◌else◌}
 use Rattle.std.proofs.lemmas.Option.{same_Some}
 use Rattle.cal_model.specs.Calendar.{calendar_in, stored}
 use Rattle.cal_model.specs.CreatedIds.{object_named, resolved_object, resolved_patch}
@@ -8,11 +8,10 @@ use Rattle.cal_model.specs.Operations.{Ground, Operation, destroy, update, after
 use Rattle.cal_model.specs.Quota.{exceeds_quota, size_of_object}
 use Rattle.cal_model.specs.declared.outcome.Outcome.{Outcome}
 use Rattle.cal_model.specs.declared.outcome.Outcome.TheVariants.{Accepted, Refused}
-use Rattle.cal_model.specs.declared.set_error.SetError.TheVariants.{CalendarHasEvent, Clashes, InvalidProperties, OverQuota}
+use Rattle.cal_model.specs.declared.set_error.SetError.TheVariants.{CalendarHasEvent, Clashes, OverQuota}
 use Rattle.clash_laws.proofs.Resources.{FirstIn, at_resource, first_of_all, resource_at}
 use Rattle.clash_laws.specs.Storing.{ClashesAreExact, ClashesAreFirst, ClashesAreOfStoring, IsClashed, IsOfStoring, IsToldClash, MeetsNoEarlier, OthersAreStored, WouldClash, outcome, stored_event, stored_members}
-use Rattle.clash_laws.specs.Twice.{IsFirstClash, WouldCoverTwice}
-use Rattle.model_event.specs.Events.{names_calendar}
+use Rattle.clash_laws.specs.Twice.{WouldCoverTwice}
 use Rattle.model_history.specs.declared.entry.Change.{Change}
 use Rattle.model_history.specs.History.{next_number}
 use Rattle.model_history.specs.declared.entry.Kind.{Kind}

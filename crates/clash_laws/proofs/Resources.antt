@@ -1,5 +1,5 @@
 -- The first clash of an event in its resources.
-use Rattle.std.proofs.Common.{◌≡◌, ◌∙◌, ℕ, zero, suc, ◌<◌, ◌==◌, ◌||◌, ℤ, ◌≤ℤ◌, inl, inr, Bool, true, false, cond, List, [], ◌∷◌, slice_get, filter, Option, Some, None, MatchOption, option_map, is_some, refl, sym, ap, subst, arith}
+use Rattle.std.proofs.Common.{◌≡◌, ◌∙◌, ℕ, zero, suc, ◌<◌, ◌==◌, ◌||◌, ℤ, ◌≤ℤ◌, Bool, true, false, cond, List, [], ◌∷◌, slice_get, filter, Option, Some, None, MatchOption, option_map, refl, sym, ap, subst, arith}
 use Rattle.std.specs.Option.{option_or}
 use Rattle.std.proofs.lemmas.Bool.{false≢true}
 use Rattle.std.proofs.lemmas.Option.{same_Some}
@@ -8,20 +8,19 @@ use Rattle.clash_laws.proofs.Others.{clash_is_twice, first_other, twice_is_clash
 use Rattle.clash_laws.proofs.Seconds.{least_clash_second, whole}
 use Rattle.clash_laws.specs.Twice.{IsClashIn, IsFirstClash, IsFirstOther, WouldCoverTwice}
 use Rattle.model_event.specs.Events.{names_calendar}
-use Rattle.model_history.specs.History.{ids_at, live_object}
+use Rattle.model_history.specs.History.{ids_at}
 use Rattle.model_history.specs.Pages.{is_in}
 use Rattle.model_history.specs.declared.entry.Change.{Change}
 use Rattle.model_history.specs.declared.entry.Kind.TheVariants.{Calendar}
 use Rattle.model_json.specs.Data.{Data}
 use Rattle.model_resource.proofs.Numbered.{in_filter, numbered_if_live, resource_is_live}
-use Rattle.model_resource.specs.Bookings.{clash_in, first_clash_in, other_bookings}
+use Rattle.model_resource.specs.Bookings.{first_clash_in, other_bookings}
 use Rattle.model_resource.specs.Resources.{is_resource, resources_at, resources_of}
-use Rattle.model_room.specs.Clashes.{IsClash, clash_at, first_clash, first_covering, is_clash, second_of}
+use Rattle.model_room.specs.Clashes.{IsClash, clash_at, first_clash, first_covering, is_clash}
 use Rattle.model_room.specs.declared.clash.Clash.{Clash}
 use Rattle.model_series.specs.Shared.{first_second}
 use Rattle.model_series.specs.declared.series.Series.{Series}
 use Rattle.model_site.specs.TimeZones.{ZoneText}
-use Rattle.model_time.specs.Walls.{day_of_wall, second_of_wall}
 use Rattle.room_history.proofs.Tables.{same_number}
 use Rattle.rule_expand.specs.Least.{IsLeastOf}
 

@@ -1,5 +1,5 @@
 -- The first clash of any series and bookings is the least second that is one, over all days without end.
-use Rattle.std.proofs.Common.{◌≡◌, ◌∙◌, ◌⊎◌, ℕ, zero, suc, ◌+◌, ◌*◌, ◌<◌, ◌≤◌, ◌^◌, ℤ, pos, negsuc, ◌+ℤ◌, ◌-ℤ◌, ◌≤ℤ◌, ◌<ℤ◌, inl, inr, Bool, true, false, List, slice_get, Option, Some, None, MatchOption, option_map, refl, sym, ap, arith, subst, mul_comm, mul-le-mul, if◌then◌else◌}
+use Rattle.std.proofs.Common.{◌≡◌, ℕ, zero, suc, ◌*◌, ◌≤◌, ◌^◌, ℤ, pos, negsuc, ◌+ℤ◌, ◌-ℤ◌, ◌≤ℤ◌, ◌<ℤ◌, inl, inr, Bool, true, false, List, Option, Some, None, MatchOption, option_map, refl, ap, arith, subst, mul_comm, mul-le-mul, if◌then◌else◌}
 use Rattle.std.proofs.lemmas.Int.{by_lt_z}
 use Rattle.jiff_core.proofs.SignedLemmas.{signed_arith}
 use Rattle.model_room.specs.declared.booking.Booking.{Booking}
@@ -11,7 +11,7 @@ use Rattle.model_series.specs.declared.series.Series.{Series}
 use Rattle.model_time.specs.Walls.{day_of_wall, second_of_wall, wall_at}
 use Rattle.resource_book.proofs.Clashes.{clash_to, to_clash}
 use Rattle.rule_expand.proofs.Least.{same-least}
-use Rattle.rule_expand.specs.Least.{IsLeast, IsLeastOf}
+use Rattle.rule_expand.specs.Least.{IsLeastOf}
 use Rattle.clash_laws.proofs.Earlier.{again, back, bounds, earlier}
 
 -- ---- The search.
@@ -27,8 +27,11 @@ LeastWithin p from end o = MatchOption o ((y : ℤ) → from ≤ℤ y → y <ℤ
 one_less : (p : ℤ → Bool) (from end : ℤ) (o : Option ℤ) → p from ≡ false → LeastWithin p (from +ℤ pos 1) end o → LeastWithin p from end o
 one_less p from end None fails h = λ y low high e. by_lt_z from y (λ lt. h y (omega (arith, signed_arith, lt)) high e)
     (λ ge. let same : y ≡ from = omega (arith, signed_arith, low, ge) in absurd (cc (ap p same, e, fails)))
-one_less p from end (Some x) fails h = (h.0, λ y low e. by_lt_z from y (λ lt. h.1 y (omega (arith, signed_arith, lt)) e)
-    (λ ge. let same : y ≡ from = omega (arith, signed_arith, low, ge) in absurd (cc (ap p same, e, fails))))
+one_less p from end (Some x) fails h = (
+  h.0,
+  λ y low e. by_lt_z from y (λ lt. h.1 y (omega (arith, signed_arith, lt)) e)
+      (λ ge. let same : y ≡ from = omega (arith, signed_arith, low, ge) in absurd (cc (ap p same, e, fails))),
+)
 
 searched : (p : ℤ → Bool) (from : ℤ) (n : ℕ) → LeastWithin p from (from +ℤ pos n) (first_from p from n)
 unfolding first_from
