@@ -1,7 +1,7 @@
 -- The bookings of others in a calendar are the other live events that are in it.
 use Rattle.std.proofs.Common.{◌≡◌, ◌∙◌, ◌⊎◌, ℕ, zero, suc, ◌<◌, ◌≤◌, ◌==◌, ℤ, inl, inr, Bool, true, false, List, [], ◌∷◌, slice_get, Option, Some, None, MatchOption, refl, sym, ap, arith, if◌then◌else◌}
 use Rattle.std.proofs.lemmas.Option.{same_Some}
-use Rattle.clash_laws.specs.Twice.{IsCovered, IsFirstOther, Occupies, OtherOccupies, WouldCoverTwice}
+use Rattle.clash_laws.specs.Twice.{IsCoveredBy, IsFirstOther, Occupies, OtherOccupies, WouldCoverTwice}
 use Rattle.model_event.specs.Events.{names_calendar}
 use Rattle.model_history.specs.History.{live_object}
 use Rattle.model_history.specs.declared.entry.Change.{Change}
@@ -111,7 +111,7 @@ module _ (zones : List ZoneText) (cs : List Change) (event calendar : ℕ) where
   to_booked : (n : ℕ) (t : Series) → ((n ≡ event) → ⊥) → booked_by (booked_in zones calendar) (live_object cs Event n) ≡ Some t → series_booked n others ≡ Some t
   to_booked n t other h = in_again_other n event None (bookings_of zones cs calendar) (other_number event n (λ e. other (sym e))) ∙ each_is (booked_in zones calendar) cs n ∙ h
 
-  live_to : (n : ℕ) (x : ℤ) (t : Series) (o : Option Tree) → live_object cs Event n ≡ o → booked_by (booked_in zones calendar) o ≡ Some t → IsCovered t x → Occupies zones cs calendar n x
+  live_to : (n : ℕ) (x : ℤ) (t : Series) (o : Option Tree) → live_object cs Event n ≡ o → booked_by (booked_in zones calendar) o ≡ Some t → IsCoveredBy t x → Occupies zones cs calendar n x
   live_to n x t None e h c = absurd (cc h)
   live_to n x t (Some tree) e h c =
       let both = by_both (names_calendar calendar (data_of tree)) (series_in zones (data_of tree)) t h in

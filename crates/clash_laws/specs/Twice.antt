@@ -16,8 +16,8 @@ use Rattle.model_series.specs.declared.series.Series.{Series}
 use Rattle.model_site.specs.TimeZones.{ZoneText}
 
 -- an occurrence of the series covers x
-abbrev pub IsCovered : Series → ℤ → Type 0
-IsCovered s x = (o : Occurrence) × (IsOccurrence s o × Covers o x)
+abbrev pub IsCoveredBy : Series → ℤ → Type 0
+IsCoveredBy s x = (o : Occurrence) × (IsOccurrence s o × Covers o x)
 
 -- the live event of a number is in a calendar, and an occurrence of it covers x
 pub record Occupies (zones : List ZoneText) (cs : List Change) (calendar number : ℕ) (x : ℤ) : Type 0 where
@@ -26,7 +26,7 @@ pub record Occupies (zones : List ZoneText) (cs : List Change) (calendar number 
   pub there : names_calendar calendar (data_of event) ≡ true
   pub series : Series
   pub valid : series_in zones (data_of event) ≡ Some series
-  pub covered : IsCovered series x
+  pub covered : IsCoveredBy series x
 
 -- it does, and isn't the event that is stored
 abbrev pub OtherOccupies : List ZoneText → List Change → ℕ → ℕ → ℕ → ℤ → Type 0
@@ -35,7 +35,7 @@ OtherOccupies zones cs event calendar number x = ((number ≡ event) → ⊥) ×
 -- Stored with this series, the event would have x covered by two different occurrences in a calendar: by two of its own, or by one of its own and
 -- one of another live event.
 abbrev pub WouldCoverTwice : List ZoneText → List Change → ℕ → Series → ℕ → ℤ → Type 0
-WouldCoverTwice zones cs event s calendar x = IsSelfShared s x ⊎ (IsCovered s x × ((number : ℕ) × OtherOccupies zones cs event calendar number x))
+WouldCoverTwice zones cs event s calendar x = IsSelfShared s x ⊎ (IsCoveredBy s x × ((number : ℕ) × OtherOccupies zones cs event calendar number x))
 
 -- the first of the other events, in order of creation, that covers x; None where none does
 abbrev pub IsFirstOther : List ZoneText → List Change → ℕ → ℕ → ℤ → Option ℕ → Type 0
