@@ -29,9 +29,8 @@ pub fn query(
 {
     let found = query_methods::query::query(
         ledger.alloc,
-        &ledger.store,
+        &ledger.events(),
         &ledger.id,
-        &ledger.zones,
         criteria,
         expand,
         paging,
@@ -50,9 +49,8 @@ pub fn query_changes(
 {
     let changed = query_methods::query_changes::query_changes(
         ledger.alloc,
-        &ledger.store,
+        &ledger.events(),
         &ledger.id,
-        &ledger.zones,
         criteria,
         expand,
         since,
@@ -65,13 +63,7 @@ pub fn availability(ledger: &Ledger, request: &AvailabilityRequest<'_>) -> Resul
     ensures { IfOk result (λ r. r ≡ availability_answer (base ledger.now) (ledger_entries ledger.now) request.now.id.now request.now.utc_start.now request.now.utc_end.now request.now.time_zone.now) }
 {
     let alloc = ledger.alloc;
-    match availability_method::availability(
-        alloc,
-        &ledger.id,
-        &ledger.zones,
-        &ledger.store,
-        request,
-    )? {
+    match availability_method::availability(alloc, &ledger.id, &ledger.events(), request)? {
         Some(arguments) => Ok(reply(&ledger.store, arguments, Pairs::new(Vec::new(alloc)))),
         None => Ok(refusal(alloc, &ledger.store, MethodError::InvalidArguments)),
     }

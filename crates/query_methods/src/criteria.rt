@@ -39,6 +39,7 @@ pub(crate) fn read_terms<'a>(
 ) -> Result<Terms<'a>, QueryError>
     ensures known { OnOk result (criteria_refusal zones.now (criteria_in criteria.now) ≡ None) }
     ensures sight { IfOk result (λ t. seen_by t.sight ≡ sight_of zones.now (criteria_in criteria.now)) }
+    ensures zones { IfOk result (λ t. t.sight.zones.now ≡ zones.now) }
     ensures order { IfOk result (λ t. t.order ≡ order_of (criteria_in criteria.now)) }
     ensures refused { IfErr result (λ e. Reports e (criteria_refusal zones.now (criteria_in criteria.now))) }
 {

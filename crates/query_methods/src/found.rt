@@ -17,6 +17,7 @@ use crate::request::Paging;
 use crate::result::current_result;
 use crate::sight::Sight;
 use account_store::Store;
+use event_store::StoredEvents;
 use model_call::call::MethodError;
 use model_history::entry::Kind;
 use model_json::num::Num;
@@ -33,22 +34,23 @@ use time_text::read_object_id;
 /// The arguments of the reply to a query that asks for this window of its result. `Method` tells that the anchor isn't in the result.
 pub(crate) fn found<S: Sight>(
     alloc: Global,
-    store: &Store,
+    events: &StoredEvents<'_>,
     account: &Text,
     sight: &S,
     order: &Order,
     paging: &Paging<'_>,
 ) -> Result<Tree, QueryError>
-    requires { is_paging (paging_in paging.now) ≡ true }
-    ensures response { IfOk result (λ t. t ≡ found_response (S.see sight.now) order.now (changes_of (entries store.now)) (paging_in paging.now) account.now false) }
-    ensures found { OnOk result (anchor_refusal (S.see sight.now) order.now (changes_of (entries store.now)) (paging_in paging.now) ≡ None) }
-    ensures refused { IfErr result (λ e. Reports e (anchor_refusal (S.see sight.now) order.now (changes_of (entries store.now)) (paging_in paging.now))) }
+    requires paging { is_paging (paging_in paging.now) ≡ true }
+    requires zones { S.zones sight.now ≡ events.now.zones.now }
+    ensures response { IfOk result (λ t. t ≡ found_response (S.see sight.now) order.now (changes_of (entries events.now.store.now)) (paging_in paging.now) account.now false) }
+    ensures found { OnOk result (anchor_refusal (S.see sight.now) order.now (changes_of (entries events.now.store.now)) (paging_in paging.now) ≡ None) }
+    ensures refused { IfErr result (λ e. Reports e (anchor_refusal (S.see sight.now) order.now (changes_of (entries events.now.store.now)) (paging_in paging.now))) }
 {
-    let ids = current_result(alloc, store, sight, order)?;
+    let ids = current_result(alloc, events, sight, order)?;
     let Some(cut) = window_in(&ids, paging) else {
         return Err(QueryError::Method(MethodError::AnchorNotFound));
     };
-    Ok(window_tree(alloc, store, account, paging, &ids, cut)?)
+    Ok(window_tree(alloc, events.store, account, paging, &ids, cut)?)
 }
 
 fn window_in(ids: &[u64], paging: &Paging<'_>) -> Option<Cut>
