@@ -4,8 +4,10 @@
   docs/reading.py files   the files that the main theorem rests on, in reading order, with their lines and the types that they need
   docs/reading.py reach   for each crate of definitions, the crates that a change of it proves again
   docs/reading.py check   compares both with THEOREM.md and ARCHITECTURE.md; ends with 1 where they differ
+  docs/reading.py write   puts both into them: numbers, types and order; what a file says is kept, and asked for where a row is new
 
-It reads crates.txt and the sources alone, so it needs no toolchain.
+It reads crates.txt, the sources and bench/gate.txt alone, so it needs no toolchain. bench/gate.txt has a line for each crate that was measured: its
+name, and the seconds of processor that its proofs with its tests, and the tries of its wrong bodies, took from nothing.
 """
 import os
 import re
@@ -94,25 +96,73 @@ def reach():
     return [(name, [it for it in below if it in above[name]]) for name in below if name.startswith("model_") or name == "cal_model"]
 
 
+def measured():
+    """The seconds of processor of each crate that was measured: of its proofs with its tests, and of the tries of its wrong bodies."""
+    if not os.path.isfile(os.path.join(TOP, "bench/gate.txt")):
+        return {}
+    rows = [line.split() for line in read("bench/gate.txt").splitlines() if line and not line.startswith("#")]
+    return {name: (int(proofs), int(edits)) for name, proofs, edits in rows}
+
+
+def minutes(crates):
+    """The minutes of processor that these crates take: of proofs and tests, and of wrong bodies; empty where one of them wasn't measured."""
+    found = measured()
+    if not all(name in found for name in crates):
+        return "", ""
+    return tuple(str(round(sum(found[name][kind] for name in crates) / 60)) for kind in (0, 1))
+
+
+def short(name):
+    return name.removeprefix("crates/").replace("/specs/", "/").removesuffix(".antt")
+
+
+def theorem_rows(text):
+    """The rows of THEOREM.md's table by its files: for each the words on it."""
+    return {name: words for name, words in re.findall(r"^\| `(\w+/\w+)` \| \d+ \| (.*?) \| [^|]*\|$", text, re.M)}
+
+
+def theorem_table(text):
+    """The table of files, in reading order."""
+    said = theorem_rows(text)
+    return "\n".join(
+        f"| `{short(name)}` | {lines} | {said.get(short(name), 'TO BE SAID')} | {', '.join(os.path.basename(it) for it in types)} |" for name, lines, types in reading_order()
+    )
+
+
+def reach_table():
+    """The table of what a change of a definition proves again."""
+    rows = []
+    for name, crates in reach():
+        proofs, edits = minutes([name, *crates])
+        rows.append(f"| `{name}` | {len(crates)} | {proofs} | {edits} | {', '.join(crates)} |")
+    return "\n".join(rows)
+
+
+def with_tables(theorem, architecture):
+    """Both documents with the tables of the sources."""
+    theorem = re.sub(r"(?:^\| `\w+/\w+` \| \d+ \|.*\n)+", lambda _: theorem_table(theorem) + "\n", theorem, count=1, flags=re.M)
+    total = sum(lines for _, lines, _ in reading_order())
+    theorem = re.sub(r"They have [\d,]+ lines\.", f"They have {total:,} lines.", theorem)
+    head, mark, rest = architecture.partition("### What a change of a definition proves again")
+    rest = re.sub(r"(?:^\| `\w+` \| \d+ \|.*\n)+", lambda _: reach_table() + "\n", rest, count=1, flags=re.M)
+    return theorem, head + mark + rest
+
+
 def main(what):
+    documents = read("docs/THEOREM.md"), read("docs/ARCHITECTURE.md")
     if what == "files":
-        for name, lines, types in reading_order():
-            print(name, lines, ", ".join(os.path.basename(it) for it in types))
+        print(theorem_table(documents[0]))
     elif what == "reach":
-        for name, crates in reach():
-            print(name, len(crates), " ".join(crates))
+        print(reach_table())
     elif what == "check":
-        wrong = []
-        theorem, architecture = read("docs/THEOREM.md"), read("docs/ARCHITECTURE.md")
-        for name, lines, _ in reading_order():
-            short = name.removeprefix("crates/").replace("/specs/", "/").removesuffix(".antt")
-            if not re.search(rf"`{re.escape(short)}` \| {lines} \|", theorem):
-                wrong.append(f"THEOREM.md has no row '`{short}` | {lines} |'")
-        for name, crates in reach():
-            if not re.search(rf"`{name}` \| {len(crates)} \|", architecture):
-                wrong.append(f"ARCHITECTURE.md has no row '`{name}` | {len(crates)} |'")
+        told = zip(("THEOREM.md", "ARCHITECTURE.md"), documents, with_tables(*documents))
+        wrong = [f"docs/{name} doesn't have the tables of the sources: docs/reading.py write" for name, old, new in told if old != new or "TO BE SAID" in old]
         print("\n".join(wrong) or "the tables are those of the sources")
         sys.exit(1 if wrong else 0)
+    elif what == "write":
+        for name, text in zip(("THEOREM.md", "ARCHITECTURE.md"), with_tables(*documents)):
+            with open(os.path.join(TOP, "docs", name), "w", encoding="utf-8") as file:
+                file.write(text)
     else:
         sys.exit(__doc__)
 

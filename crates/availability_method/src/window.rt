@@ -1,10 +1,10 @@
 //! The window that a call asks for.
 ghost use Rattle.std.specs.Prelude.{◌≡◌, ◌<ℤ◌, IfSome, true};
 ghost use Rattle.jiff_core.specs.Calendar.{IsWithin};
-ghost use Rattle.model_availability.specs.Availability.{showing_instant, window_between, window_in};
+ghost use Rattle.model_availability.specs.Availability.{showing_instant, window_in};
 ghost use Rattle.model_event.specs.Values.{is_showing};
 
-use model_availability::limits::MAX_WINDOW_SECONDS;
+use model_availability::window::window_between;
 use model_event::limits::{FIRST_START, LAST_START};
 use model_json::text::Text;
 use model_window::period::Period;
@@ -39,19 +39,4 @@ fn is_showing(instant: i64) -> bool
     ensures { result ≡ is_showing instant }
 {
     FIRST_START <= instant && instant <= LAST_START
-}
-
-fn window_between(from: i64, to: i64) -> Option<Period>
-    requires from { is_showing from ≡ true }
-    requires to { is_showing to ≡ true }
-    ensures value { result ≡ window_between from to }
-    ensures from { IfSome result (λ w. w.from ≡ from) }
-    ensures to { IfSome result (λ w. w.to ≡ to) }
-    ensures order { IfSome result (λ w. w.from <ℤ w.to) }
-{
-    if from < to && to - from <= MAX_WINDOW_SECONDS as i64 {
-        Some(Period { from, to })
-    } else {
-        None
-    }
 }

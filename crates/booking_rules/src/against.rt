@@ -15,7 +15,7 @@ ghost use Rattle.model_series.specs.Lengths.{IsWeekLong};
 use cal_model::view::AccountView;
 use event_series::read::series_of;
 use model_json::tree::Tree;
-use model_resource::limits::MAX_BOOKINGS;
+use model_resource::limits::is_full;
 use model_room::clash::Clash;
 use model_series::series::Series;
 use std::alloc::{AllocError, Global};
@@ -70,7 +70,7 @@ fn is_any_full<V: AccountView>(view: &V, event: u64, resources: &[u64]) -> bool
     ensures { result ≡ list_any (λ n. nat_le MAX_BOOKINGS (length (other_bookings (V.base view.now).zones (V.history view.now ++ V.staged view.now) event n))) resources.now }
 {
     for number in resources {
-        if view.bookings(*number, event) >= MAX_BOOKINGS {
+        if is_full(view.bookings(*number, event)) {
             return true;
         }
     }

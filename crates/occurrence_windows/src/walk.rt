@@ -5,7 +5,7 @@ ghost use Rattle.jiff_tz.specs.PosixText.{tz_view};
 ghost use Rattle.model_series.specs.SeriesLimits.{wall_seconds};
 ghost use Rattle.model_window.specs.Clocks.{instant_in};
 ghost use Rattle.model_window.specs.Meetings.{has_meeting};
-ghost use Rattle.model_window.specs.Windows.{HasMeeting, IsMeeting, keeps_limits, meets_window};
+ghost use Rattle.model_window.specs.Windows.{HasMeeting, IsMeeting, meets_window};
 ghost use Rattle.occurrence_windows.specs.Bounds.{first_wall, last_wall, AreNear};
 ghost use Rattle.occurrence_windows.specs.Listing.{IsAfter, IsListOf};
 ghost use Rattle.rule_expand.specs.Later.{IsFirstOf};
@@ -17,29 +17,12 @@ use model_event::limits::{FIRST_START, LAST_START};
 use model_series::occurrence::Occurrence;
 use model_series::series::Series;
 use model_time::wall::Wall;
-use model_window::period::Period;
 use model_window::window::Window;
 use rule_expand::next_from;
 use std::alloc::{AllocError, Global};
 
 /// The most seconds between a wall second and its instant.
 const FARTHEST: i64 = 93_599;
-
-// Whether a period ends after the one limit and begins before the other.
-#[tactic(auto, unfolding(model_window::specs::Windows::keeps_limits))]
-fn keeps_limits(p: Period, window: Window) -> bool
-    ensures { result ≡ keeps_limits window p }
-{
-    let ends = match window.after {
-        None => true,
-        Some(after) => after < p.to,
-    };
-    let begins = match window.before {
-        None => true,
-        Some(before) => p.from < before,
-    };
-    ends && begins
-}
 
 // Whether an occurrence meets the window.
 #[tactic(auto, unfolding(model_window::specs::Windows::meets_window))]
@@ -50,7 +33,7 @@ fn meets_window(rule: &TimeZone, o: &Occurrence, window: Window) -> bool
 {
     match span_of(rule, o) {
         None => false,
-        Some(p) => keeps_limits(p, window),
+        Some(period) => window.is_met_by(period),
     }
 }
 

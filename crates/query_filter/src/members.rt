@@ -1,7 +1,7 @@
 //! The members of conditions and operators.
 ghost use Rattle.std.specs.Prelude.{◌≡◌, Some, map, option_map};
 ghost use Rattle.model_event.specs.Values.{is_showing, is_start};
-ghost use Rattle.model_filter.specs.Members.{condition_table, given_at, has_bad_member, has_other_than, is_operator};
+ghost use Rattle.model_filter.specs.Members.{condition_table, given_at, has_bad_member, has_other_than};
 ghost use Rattle.model_json.specs.TreeData.{data_of, pair_of};
 ghost use Rattle.property_table.specs.Names.{has_name};
 ghost use Rattle.property_table.specs.OnePass.{fails_given};
@@ -9,7 +9,6 @@ ghost use Rattle.property_table.specs.Table.{test_at};
 ghost use Rattle.property_table.specs.Values.{is_text_that};
 
 use model_event::limits::{FIRST_START, LAST_START};
-use model_event::values::is_one_of;
 use model_json::tree::{Member, Tree, TreeObject};
 use model_time::wall::Wall;
 use property_table::values::is_text;
@@ -36,13 +35,6 @@ pub(crate) fn given<'a>(object: &'a TreeObject, key: &str) -> Option<&'a Tree>
 {
     let value = object.get(key)?;
     if value.is_null() { None } else { Some(value) }
-}
-
-/// Whether a value is the name of an operator. Takes no memory.
-pub(crate) fn is_operator(value: &Tree) -> bool
-    ensures { result ≡ is_operator (data_of value.now) }
-{
-    is_one_of(value, &["AND", "OR", "NOT"])
 }
 
 /// Whether some member of a condition has a value of a wrong kind. Takes no memory.

@@ -6,9 +6,8 @@ ghost use Rattle.model_json.specs.TreeData.{data_of};
 ghost use Rattle.query_filter.specs.SoughtKinds.{sought_of};
 
 use crate::conditions::conditions_of;
-use crate::members::{
-    CONDITION_NAMES, OPERATOR_NAMES, given, has_bad_member, has_other_than, is_operator,
-};
+use crate::members::{CONDITION_NAMES, OPERATOR_NAMES, given, has_bad_member, has_other_than};
+use model_filter::operator::is_operator;
 use model_json::tree::{Tree, TreeObject};
 use property_table::values::is_text;
 
