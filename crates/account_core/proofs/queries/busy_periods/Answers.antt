@@ -5,9 +5,8 @@ use Rattle.model_availability.specs.Availability.{availability_refusal, availabi
 use Rattle.model_call.specs.declared.call.MethodError.TheVariants.{InvalidArguments}
 use Rattle.model_history.specs.Base.{Base}
 use Rattle.model_history.specs.History.{changes_of}
-use Rattle.account_core.proofs.queries.availability.Goals as goal
+use Rattle.account_core.proofs.queries.busy_periods.Goals as goal
 
--- src/queries.rt:64:1
 pub returns-in-Some : goal.returns-in-Some
 returns-in-Some c =
     let l = c.args.ledger.now in
