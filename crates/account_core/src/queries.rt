@@ -94,14 +94,7 @@ fn find_occurrences(
 ) -> Result<Reply, AllocError>
     ensures { IfOk result (λ r. r ≡ query_answer (base ledger.now) (ledger_entries ledger.now) (criteria_in criteria.now) true (paging_in paging.now)) }
 {
-    let found = expanded_query(
-        ledger.alloc,
-        &ledger.store,
-        &ledger.id,
-        &ledger.zones,
-        criteria,
-        paging,
-    );
+    let found = expanded_query(ledger.alloc, &ledger.events(), &ledger.id, criteria, paging);
     told(ledger, found)
 }
 

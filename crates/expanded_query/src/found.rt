@@ -17,6 +17,7 @@ ghost use Rattle.query_methods.specs.Requests.{paging_in};
 use crate::matches::expanded_matches;
 use crate::sight::OccurrenceSight;
 use account_store::Store;
+use event_store::StoredEvents;
 use model_call::call::MethodError;
 use model_json::text::Text;
 use model_json::tree::{Tree, TreeList};
@@ -50,13 +51,14 @@ pub(crate) fn found(
 /// The ids of a result, in its order.
 pub(crate) fn expanded_ids(
     alloc: Global,
-    store: &Store,
+    events: &StoredEvents<'_>,
     sight: &OccurrenceSight<'_>,
     order: &Order,
 ) -> Result<Vec<Text>, AllocError>
-    ensures { IfOk result (λ v. v.items ≡ ids_in_order order.now (all_given sight.now (changes_of (entries store.now)))) }
+    requires { sight.now.zones.now ≡ events.now.zones.now }
+    ensures { IfOk result (λ v. v.items ≡ ids_in_order order.now (all_given sight.now (changes_of (entries events.now.store.now)))) }
 {
-    let matches = expanded_matches(alloc, store, sight)?;
+    let matches = expanded_matches(alloc, events, sight)?;
     let places = result(alloc, &matches.items, order)?;
     ids_in_places(alloc, &matches.ids, places.items())
 }

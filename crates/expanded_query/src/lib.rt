@@ -1,4 +1,4 @@
-//! Queries of events in which each occurrence is a result of its own (draft JMAP for Calendars), over the store of an account.
+//! Queries of events in which each occurrence is a result of its own (draft JMAP for Calendars), over the stored events of an account.
 #![tactic(auto)]
 
 mod found;

@@ -5,7 +5,7 @@ ghost use Rattle.expanded_query.specs.Sights.{all_given, given_among};
 ghost use Rattle.model_history.specs.History.{changes_of};
 
 use crate::sight::OccurrenceSight;
-use account_store::Store;
+use event_store::StoredEvents;
 use model_history::entry::Kind;
 use model_json::text::Text;
 use model_query::item::Item;
@@ -19,36 +19,36 @@ pub(crate) struct Matches {
 }
 
 /// What all live events give, in order of creation and then of recurrence ids.
-#[tactic(auto, using(crate::proofs::LiveLemmas::live_now))]
 pub(crate) fn expanded_matches(
     alloc: Global,
-    store: &Store,
+    events: &StoredEvents<'_>,
     sight: &OccurrenceSight<'_>,
 ) -> Result<Matches, AllocError>
-    ensures ids { IfOk result (λ m. m.ids.items ≡ map (λ p. p.0) (all_given sight.now (changes_of (entries store.now)))) }
-    ensures items { IfOk result (λ m. m.items.items ≡ map (λ p. p.1) (all_given sight.now (changes_of (entries store.now)))) }
+    requires { sight.now.zones.now ≡ events.now.zones.now }
+    ensures ids { IfOk result (λ m. m.ids.items ≡ map (λ p. p.0) (all_given sight.now (changes_of (entries events.now.store.now)))) }
+    ensures items { IfOk result (λ m. m.items.items ≡ map (λ p. p.1) (all_given sight.now (changes_of (entries events.now.store.now)))) }
 {
-    let live = store.live_ids_at(alloc, Kind::Event, store.count(Kind::Event))?;
-    matches_among(alloc, store, sight, live.items())
+    matches_among(alloc, events, sight, events.store.ids(Kind::Event))
 }
 
 // What these events give, as far as they are live.
 fn matches_among(
     alloc: Global,
-    store: &Store,
+    events: &StoredEvents<'_>,
     sight: &OccurrenceSight<'_>,
     numbers: &[u64],
 ) -> Result<Matches, AllocError>
-    ensures ids { IfOk result (λ m. m.ids.items ≡ map (λ p. p.0) (given_among sight.now (changes_of (entries store.now)) numbers.now)) }
-    ensures items { IfOk result (λ m. m.items.items ≡ map (λ p. p.1) (given_among sight.now (changes_of (entries store.now)) numbers.now)) }
+    requires { sight.now.zones.now ≡ events.now.zones.now }
+    ensures ids { IfOk result (λ m. m.ids.items ≡ map (λ p. p.0) (given_among sight.now (changes_of (entries events.now.store.now)) numbers.now)) }
+    ensures items { IfOk result (λ m. m.items.items ≡ map (λ p. p.1) (given_among sight.now (changes_of (entries events.now.store.now)) numbers.now)) }
 {
     let mut matches = Matches {
         ids: Vec::new(alloc),
         items: Vec::new(alloc),
     };
     for number in numbers {
-        if let Some(event) = store.object(Kind::Event, *number) {
-            sight.add(alloc, *number, event, &mut matches)?;
+        if let Some(event) = events.event(*number) {
+            sight.add(alloc, *number, &event, &mut matches)?;
         }
     }
     Ok(matches)

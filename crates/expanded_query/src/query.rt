@@ -8,7 +8,7 @@ ghost use Rattle.query_methods.specs.Requests.{criteria_in, paging_in};
 
 use crate::found::{expanded_ids, found};
 use crate::terms::read_terms;
-use account_store::Store;
+use event_store::StoredEvents;
 use model_call::call::MethodError;
 use model_json::text::Text;
 use model_json::tree::Tree;
@@ -16,28 +16,26 @@ use query_methods::error::QueryError;
 use query_methods::numbers::is_paging;
 use query_methods::request::{Criteria, Paging};
 use std::alloc::Global;
-use zone_table::Zones;
 
 /// The arguments of the reply to a query of the events of an account, each of whose occurrences is a result of its own. `Method` tells why
 /// it is refused.
 ///
-/// Takes memory for the ids and the items of all results. Time grows with the number of live events and with that of the results.
+/// Takes memory for the ids and the items of all results. Time grows with the number of events and with that of the results.
 pub fn expanded_query(
     alloc: Global,
-    store: &Store,
+    events: &StoredEvents<'_>,
     account: &Text,
-    zones: &Zones,
     criteria: &Criteria<'_>,
     paging: &Paging<'_>,
 ) -> Result<Tree, QueryError>
-    ensures response { IfOk result (λ t. t ≡ query_response zones.now (changes_of (entries store.now)) (criteria_in criteria.now) true account.now (paging_in paging.now)) }
-    ensures answered { OnOk result (query_refusal zones.now (changes_of (entries store.now)) (criteria_in criteria.now) true (paging_in paging.now) ≡ None) }
-    ensures refused { IfErr result (λ e. Reports e (query_refusal zones.now (changes_of (entries store.now)) (criteria_in criteria.now) true (paging_in paging.now))) }
+    ensures response { IfOk result (λ t. t ≡ query_response events.now.zones.now (changes_of (entries events.now.store.now)) (criteria_in criteria.now) true account.now (paging_in paging.now)) }
+    ensures answered { OnOk result (query_refusal events.now.zones.now (changes_of (entries events.now.store.now)) (criteria_in criteria.now) true (paging_in paging.now) ≡ None) }
+    ensures refused { IfErr result (λ e. Reports e (query_refusal events.now.zones.now (changes_of (entries events.now.store.now)) (criteria_in criteria.now) true (paging_in paging.now))) }
 {
     if !is_paging(paging) {
         return Err(QueryError::Method(MethodError::InvalidArguments));
     }
-    let terms = read_terms(alloc, zones, criteria)?;
-    let ids = expanded_ids(alloc, store, &terms.sight, &terms.order)?;
-    found(alloc, store, account, &ids, paging)
+    let terms = read_terms(alloc, events.zones, criteria)?;
+    let ids = expanded_ids(alloc, events, &terms.sight, &terms.order)?;
+    found(alloc, events.store, account, &ids, paging)
 }

@@ -1,5 +1,6 @@
 //! What a query sees of events whose occurrences are results.
 ghost use Rattle.std.specs.Prelude.{◌≡◌, ◌++◌, All, IfOk, OnOk, Some, map, option_map, true, unwrap_or};
+ghost use Rattle.event_store.specs.StoredEvents.{HasItsSeries};
 ghost use Rattle.expanded_query.specs.Sights.{looks_for, gives};
 ghost use Rattle.jiff_tz.specs.PosixText.{tz_view};
 ghost use Rattle.model_filter.specs.Matches.{instants_asked};
@@ -14,7 +15,7 @@ use crate::id::result_id;
 use crate::item::item_of_occurrence;
 use crate::matches::Matches;
 use crate::occurrences::occurrences_meeting;
-use event_series::read::read_series;
+use event_store::StoredEvent;
 use jiff_tz::posix::TimeZone;
 use model_json::text::Text;
 use model_json::tree::Tree;
@@ -44,7 +45,8 @@ impl<'a> OccurrenceSight<'a> {
         floating: &'a Text,
     ) -> Result<OccurrenceSight<'a>, AllocError>
         requires { Some (tz_view rule) ≡ rule_of zones.now floating.now }
-        ensures { IfOk result (λ s. looks_for s ≡ (zones.now, (floating.now, filter))) }
+        ensures sight { IfOk result (λ s. looks_for s ≡ (zones.now, (floating.now, filter))) }
+        ensures zones { IfOk result (λ s. s.zones.now ≡ zones.now) }
     {
         Ok(OccurrenceSight {
             filter: filter.in_zone(alloc, rule)?,
@@ -58,26 +60,18 @@ impl<'a> OccurrenceSight<'a> {
         &self,
         alloc: Global,
         number: u64,
-        event: &Tree,
+        event: &StoredEvent<'_>,
         matches: &mut Matches,
     ) -> Result<(), AllocError>
-        ensures ids { OnOk result (matches.new.ids.items ≡ matches.old.ids.items ++ map (λ p. p.0) (gives self.now number (data_of event.now))) }
-        ensures items { OnOk result (matches.new.items.items ≡ matches.old.items.items ++ map (λ p. p.1) (gives self.now number (data_of event.now))) }
+        requires { HasItsSeries self.now.zones.now event.now }
+        ensures ids { OnOk result (matches.new.ids.items ≡ matches.old.ids.items ++ map (λ p. p.0) (gives self.now number (data_of event.now.object.now))) }
+        ensures items { OnOk result (matches.new.items.items ≡ matches.old.items.items ++ map (λ p. p.1) (gives self.now number (data_of event.now.object.now))) }
     {
-        let series = read_series(alloc, event, self.zones)?;
-        let rule = rule_of_event(self.zones, self.floating, event);
-        if self
-            .filter
-            .matches(alloc, event, series.as_ref(), rule.as_ref())?
-        {
-            self.add_meeting(
-                alloc,
-                number,
-                event,
-                series.as_ref(),
-                rule.as_ref(),
-                matches,
-            )
+        let object = event.object;
+        let series = event.series;
+        let rule = rule_of_event(self.zones, self.floating, object);
+        if self.filter.matches(alloc, object, series, rule.as_ref())? {
+            self.add_meeting(alloc, number, object, series, rule.as_ref(), matches)
         } else {
             Ok(())
         }

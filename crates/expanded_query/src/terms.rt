@@ -34,6 +34,7 @@ pub(crate) fn read_terms<'a>(
 ) -> Result<Terms<'a>, QueryError>
     ensures known { OnOk result (criteria_refusal zones.now (criteria_in criteria.now) true ≡ None) }
     ensures sight { IfOk result (λ t. looks_for t.sight ≡ (zones.now, (criteria.now.time_zone.now, filter_or_all criteria.now.filter.now))) }
+    ensures zones { IfOk result (λ t. t.sight.zones.now ≡ zones.now) }
     ensures order { IfOk result (λ t. t.order ≡ order_of (criteria_in criteria.now)) }
     ensures refused { IfErr result (λ e. Reports e (criteria_refusal zones.now (criteria_in criteria.now) true)) }
 {

@@ -6,8 +6,8 @@ use Rattle.expanded_query.proofs.matches.matches_among.Given as goal
 
 abbrev pub invariant-loop-number : goal.invariant-loop-number
 invariant-loop-number l = record {
-  ids : l.matches.ids.items ++ map (λ p. p.0) (given_among l.sight (changes_of (entries l.store)) (drop l.number-index l.numbers))
-      ≡ map (λ p. p.0) (given_among l.sight (changes_of (entries l.store)) l.numbers);
-  items : l.matches.items.items ++ map (λ p. p.1) (given_among l.sight (changes_of (entries l.store)) (drop l.number-index l.numbers))
-      ≡ map (λ p. p.1) (given_among l.sight (changes_of (entries l.store)) l.numbers);
+  ids : l.matches.ids.items ++ map (λ p. p.0) (given_among l.sight (changes_of (entries l.events.store.now)) (drop l.number-index l.numbers))
+      ≡ map (λ p. p.0) (given_among l.sight (changes_of (entries l.events.store.now)) l.numbers);
+  items : l.matches.items.items ++ map (λ p. p.1) (given_among l.sight (changes_of (entries l.events.store.now)) (drop l.number-index l.numbers))
+      ≡ map (λ p. p.1) (given_among l.sight (changes_of (entries l.events.store.now)) l.numbers);
 }
