@@ -26,7 +26,7 @@ use Rattle.query_order.specs.Ordered.{by_item}
 -- ---- looking at the live events alone
 
 -- leaving out what gives nothing
-some_given : {X : Type 0} (f : ℕ → List X) (p : ℕ → Bool) → ((id : ℕ) → p id ≡ false → f id ≡ []) → (ids : List ℕ) → flat_map f (filter p ids) ≡ flat_map f ids
+pub some_given : {X : Type 0} (f : ℕ → List X) (p : ℕ → Bool) → ((id : ℕ) → p id ≡ false → f id ≡ []) → (ids : List ℕ) → flat_map f (filter p ids) ≡ flat_map f ids
 some_given f p none [] = refl
 some_given f p none (id ∷ ids) = by_test (p id) refl (some_given f p none ids)
   where

@@ -5,7 +5,7 @@ use Rattle.cal_model.specs.Answer.{answered, unless_error}
 use Rattle.model_availability.specs.Availability.{availability_refusal, availability_response}
 use Rattle.model_call.specs.declared.call.MethodError.TheVariants.{InvalidArguments}
 use Rattle.model_history.specs.History.{changes_of}
-use Rattle.account_core.proofs.queries.availability.Goals as goal
+use Rattle.account_core.proofs.queries.busy_periods.Goals as goal
 
 pub returns-in-Some : goal.returns-in-Some
 returns-in-Some c =

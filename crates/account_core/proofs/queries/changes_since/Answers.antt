@@ -5,7 +5,7 @@ use Rattle.cal_model.specs.Answer.{answered, unless_error}
 use Rattle.model_history.specs.History.{changes_of}
 use Rattle.model_queries.specs.Queries.{query_changes_refusal, query_changes_response}
 use Rattle.query_methods.specs.Requests.{criteria_in, since_in}
-use Rattle.account_core.proofs.queries.query_changes.Goals as goal
+use Rattle.account_core.proofs.queries.changes_since.Goals as goal
 
 pub returns : goal.returns
 returns c =
