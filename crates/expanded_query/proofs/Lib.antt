@@ -1,0 +1,4 @@
+pub mod TitleLemmas
+pub mod Searched
+pub mod Sorted
+pub mod RefusalLemmas
