@@ -1,0 +1,4 @@
+pub mod FaultlessLemmas
+pub mod JobLemmas
+pub mod ListenLemmas
+pub mod ServeLemmas
