@@ -131,7 +131,8 @@ fn jobs_of<
         mut hands,
     } = office;
     let mut jobs = Vec::with_capacity(alloc, listeners.len())?;
-    for (worker, listener) in listeners.into_iter().enumerate() {
+    for listener in listeners {
+        let worker = jobs.len();
         jobs.push_reserved(WorkerJob {
             alloc,
             runtime,

@@ -2,8 +2,8 @@ use Rattle.std.proofs.Common.{◌≡◌, ℕ, ◌≤◌, length, slice_get}
 use Rattle.std.specs.Prelude.{All, vec_capacity}
 use Rattle.jmapd_listen.proofs.listen.jobs_of.Given as goal
 
-abbrev pub invariant-loop-worker : goal.invariant-loop-worker
-invariant-loop-worker g l = record {
+abbrev pub invariant-loop-listener : goal.invariant-loop-listener
+invariant-loop-listener g l = record {
   count : length l.jobs.items ≡ length l.yielded;
   room : length l.fn.listeners.items ≤ vec_capacity l.jobs;
   all : All (λ job. job.connections ≡ l.connections) l.jobs.items;
