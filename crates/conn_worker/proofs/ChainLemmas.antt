@@ -1,5 +1,5 @@
 -- Chains of connections, one after the other.
-use Rattle.std.proofs.Common.{◌≡◌, ℕ, suc, List, [], ◌∷◌, ◌++◌, flat_map, map, refl, sym, ap, ◌∙◌, subst}
+use Rattle.std.proofs.Common.{◌≡◌, ℕ, suc, List, [], ◌∷◌, ◌++◌, flat_map, map, refl, sym, ap, ◌∙◌, subst, arith}
 use Rattle.std.proofs.lemmas.List.{map-append}
 use Rattle.std.specs.Prelude.{◌≢◌}
 use Rattle.conn_worker.specs.Chained.{AllAnswered, CallsAreAChain}
@@ -28,10 +28,10 @@ each_chain site t u [] e answered = ([], ap (λ (y : Tools). y.desk) e, refl)
 each_chain site t u (v ∷ vs) e answered =
     let s = e.1 in
     let these = all_made (s.exchanges ++ s.unwritten) in
-    let ended = answered 0 v refl in
+    let ended = answered 0 v (omega arith) in
     let there : e.0.desk ≡ s.desk = rests_there v.back.served.end s.desk e.0.desk s.rests ended.0 ended.1 in
     let chain : Chain t.desk e.0.desk these = subst (λ (d : Shown). Chain t.desk d these) (sym there) s.told.chain in
-    let rest = each_chain site e.0 u vs e.2 (λ n x at. answered (suc n) x at) in
+    let rest = each_chain site e.0 u vs e.2 (λ n d within. answered (suc n) d (omega (arith, within))) in
     let fronts = s.told.added in
     (these ++ rest.0, join t.desk e.0.desk u.desk these rest.0 chain rest.1, map-append front_of these rest.0 ∙ (λ k. sym fronts k ++ rest.2 k))
 
