@@ -46,7 +46,7 @@ fn message(alloc: Global, status: Status) -> io::Result<String> {
     let line = match status {
         Status::Done => "",
         Status::Refused => "jmapd: request refused",
-        Status::Usage => "usage: jmapd batch|stdio|listen [options]",
+        Status::Usage => "usage: jmapd batch|stdio|listen|workload [options]",
         Status::Config { field, index } => {
             let field = field.name();
             return Ok(format!(in alloc; "jmapd: configuration: {field} {index}")?);
