@@ -53,7 +53,7 @@ fn start_instant(rule: &TimeZone, start: Wall) -> i64
 }
 
 // The title of the occurrence with a recurrence id. Its object is made only where an override names it.
-#[tactic(auto, using(crate::proofs::TitleLemmas::own_title, crate::proofs::TitleLemmas::no_overrides))]
+#[tactic(auto, using(crate::proofs::TitleLemmas::own_title, crate::proofs::TitleLemmas::no_override))]
 fn title_of(alloc: Global, event: &Tree, rid: Wall) -> Result<Text, AllocError>
     requires { is_in_years rid ≡ true }
     ensures { IfOk result (λ title. title ≡ title_at (local_text rid) (data_of event.now)) }
