@@ -1,12 +1,12 @@
 -- Occurrences in the order of their recurrence ids are those that a search over all recurrence ids finds.
-use Rattle.std.proofs.Common.{◌≡◌, ◌∙◌, ℕ, zero, suc, ℤ, pos, ◌+ℤ◌, ◌-ℤ◌, ◌^◌, ◌≤ℤ◌, ◌<ℤ◌, ◌⊎◌, inl, inr, Bool, true, false, List, [], ◌∷◌, ◌++◌, Option, Some, None, flat_map, refl, sym, ap, subst, arith}
+use Rattle.std.proofs.Common.{◌≡◌, ◌∙◌, ℕ, zero, suc, ℤ, pos, ◌+ℤ◌, ◌≤ℤ◌, ◌<ℤ◌, ◌⊎◌, inl, inr, Bool, true, false, List, [], ◌∷◌, ◌++◌, Some, flat_map, refl, sym, ap, subst, arith}
 use Rattle.std.specs.Prelude.{⊤}
 use Rattle.std.specs.List.{AllByRecursion}
 use Rattle.std.specs.Option.{option_map_or}
 use Rattle.std.proofs.lemmas.Int.{by_lt_z}
 use Rattle.jiff_core.proofs.SignedLemmas.{signed_arith}
 use Rattle.model_json.specs.Parts.{some_of}
-use Rattle.model_queries.specs.Expanded.{passing_from, passing_seconds}
+use Rattle.model_queries.specs.Expanded.{passing_from}
 use Rattle.model_series.specs.declared.occurrence.Occurrence.{Occurrence}
 use Rattle.model_series.specs.declared.series.Series.{Series}
 use Rattle.model_window.specs.Meetings.{occurrence_with, passes_with}

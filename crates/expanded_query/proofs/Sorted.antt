@@ -1,10 +1,12 @@
 -- Occurrences that were put in the order of their recurrence ids.
-use Rattle.std.proofs.Common.{◌≡◌, ◌∙◌, ℕ, zero, suc, ◌+◌, ◌≤◌, ◌<◌, ℤ, pos, negsuc, ◌+ℤ◌, ◌-ℤ◌, ◌^◌, ◌≤ℤ◌, ◌<ℤ◌, inl, inr, Bool, true, false, cond, List, [], ◌∷◌, Option, Some, None, flat_map, length, slice_get, slice_index_or, refl, sym, ap, subst, arith}
+use Rattle.std.proofs.Common.{◌≡◌, ◌∙◌, Bor, ℕ, zero, suc, ◌+◌, ◌≤◌, ◌<◌, ℤ, pos, negsuc, ◌+ℤ◌, ◌-ℤ◌, ◌^◌, ◌≤ℤ◌, inl, inr, Bool, true, false, cond, List, [], ◌∷◌, Some, length, slice_get, slice_index_or, refl, sym, ap, subst, arith}
 use Rattle.std.specs.Prelude.{All, ◌&&◌}
+use Rattle.std.specs.Fn.{Called, ComputesKey, Mut}
 use Rattle.std.specs.List.{AllByRecursion, list_all, sum_by}
 use Rattle.std.specs.List.Sorted.{IsPermutation, IsSortedByKey}
 use Rattle.std.specs.Ordering.{int_cmp, int_eq, is_lt}
 use Rattle.std.proofs.lemmas.Bool.Decides.{Decides-int_eq}
+use Rattle.std.proofs.lemmas.Fn.{always_returns_same}
 use Rattle.std.proofs.lemmas.Int.{by_lt_z}
 use Rattle.std.proofs.lemmas.List.Elements.{recursion_from_All}
 use Rattle.std.proofs.lemmas.List.Sums.{sum_by-cons}
@@ -74,7 +76,7 @@ fewer r o os h = let sum = sum_by-cons (one_at r) o os in omega (arith, sum, h)
 
 -- In order, and no recurrence id twice: then they rise.
 
-abbrev InOrder : List Occurrence → Type 0
+abbrev pub InOrder : List Occurrence → Type 0
 InOrder os = IsSortedByKey (λ (o : Occurrence). o.rid) int_cmp os
 
 not_less : (a b : ℤ) → is_lt (int_cmp a b) ≡ false → b ≤ℤ a
@@ -101,6 +103,12 @@ unfolding rises
 all_risen low [] first order once = tt
 all_risen low (o ∷ os) first order once = risen low o os first.0 order once
 
+-- from what a sort by them ensures
+pub put_in_order : {F : Type 0} {g : Mut F (Bor Occurrence × Unit {0}) ℤ} {f : F} (xs : List Occurrence)
+    → ((key : Occurrence → ℤ) → ComputesKey g key f → IsSortedByKey key int_cmp xs)
+    → ((a : Bor Occurrence × Unit {0}) (r : ℤ) (f' : F) → Called g f a r f' → (r ≡ a.0.now.rid) × (f' ≡ f)) → InOrder xs
+put_in_order {g = g} {f = f} xs sorted h = sorted (λ o. o.rid) (always_returns_same g (λ a r. r ≡ a.0.now.rid) f h)
+
 -- Members.
 
 one_of : (os : List Occurrence) (o : Occurrence) (k : ℕ) → k < length os → slice_index_or os k o ≡ o → is_one o os
@@ -123,10 +131,10 @@ each : {P Q : Occurrence → Type 0} → ((o : Occurrence) → P o → Q o) → 
 each f [] h = h
 each f (o ∷ os) h = (f o h.0, each f os h.1)
 
-member : {P : Occurrence → Type 0} (os : List Occurrence) (o : Occurrence) → AllByRecursion P os → is_one o os → P o
+member : (P : Occurrence → Type 0) (os : List Occurrence) (o : Occurrence) → AllByRecursion P os → is_one o os → P o
 unfolding is_one
-member [] o h m = absurd m
-member {P} (p ∷ ps) o h m = elim m [ inl e ↦ subst P e h.0 | inr n ↦ member ps o h.1 n ]
+member P [] o h m = absurd m
+member P (p ∷ ps) o h m = elim m [ inl e ↦ subst P e h.0 | inr n ↦ member P ps o h.1 n ]
 
 some_same : {A : Type 0} (x y : A) → Some x ≡ Some y → x ≡ y
 some_same x y h = cc
@@ -178,11 +186,11 @@ module _ (s : Series) (rule : TzText) (w : Window) where
       let low : ℤ = pos 0 -ℤ pos (2 ^ 57) in
       let least : AllByRecursion (λ o. low ≤ℤ o.rid) ys = each (λ o m. let n = near o m in omega (arith, signed_arith, n)) ys everyone in
       listed s (meets_window (instant_in rule) w) (2 ^ 58) low (low +ℤ pos (2 ^ 58)) ys refl (all_risen low ys least order once) (each (λ o m. (is_with s o m.0, m.1)) ys everyone)
-      (λ q m. let n = near q (member ys q everyone m) in omega (arith, signed_arith, n))
+      (λ q m. let n = near q (member Meets ys q everyone m) in omega (arith, signed_arith, n))
       (λ q f from to.
       let at = list.all q ((with_is s q.rid q f.0).0, f.1) in
-      let there = Contains-permutation xs ys q moved (at.0, (slice_get_within xs at.0 q at.1, at_place xs at.0 q at.1)) in
-      one_of ys q there.0 there.1.0 there.1.1)
+      let there = Contains-permutation xs ys q moved (at.0, slice_get_within xs at.0 q at.1, at_place xs at.0 q at.1) in
+      one_of ys q there.0 there.1 there.2)
 
   pub sorted_in_years : (xs ys : List Occurrence) → IsListOf Meets xs → IsPermutation xs ys → All (λ o. is_in_years o.rid ≡ true) ys
   sorted_in_years xs ys list moved = All-permutation (λ o. is_in_years o.rid ≡ true) xs ys moved (λ k d l. in_years (slice_index_or xs k d) (list.only k (slice_index_or xs k d) (got xs k d l)))

@@ -60,7 +60,7 @@ title_in (Ok d) = text_or_empty (codes "title") d
 title_in (Err pointer) = []
 
 -- that of the object of an occurrence, the LocalDateTime of whose recurrence id is the key
-abbrev pub title_at : List ℕ → Data → List ℕ
+unfoldable pub title_at : List ℕ → Data → List ℕ
 title_at key event = title_in (occurrence_in (members_in event) key (unwrap_or (override_at key event) []))
 
 -- what comparators see of an occurrence by its clock: its own start and title, and the rest of its event
