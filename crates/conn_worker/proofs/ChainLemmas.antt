@@ -6,7 +6,7 @@ use Rattle.conn_worker.specs.Chained.{AllAnswered, CallsAreAChain}
 use Rattle.conn_worker.specs.Working.{ServesEach, Tools, Visit}
 use Rattle.model_batch.proofs.Chains.{join}
 use Rattle.model_batch.specs.Chain.{Chain, Made, Shown, front_of}
-use Rattle.model_connection.specs.Exchanges.{Exchange, all_made}
+use Rattle.model_connection.specs.Exchanges.{all_made}
 use Rattle.model_connection.specs.Serving.{Rests}
 use Rattle.model_connection.specs.declared.served.ConnEnd.{ConnEnd}
 use Rattle.model_connection.specs.declared.served.ConnEnd.TheVariants as end

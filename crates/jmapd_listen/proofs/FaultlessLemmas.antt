@@ -1,6 +1,6 @@
 -- A `listen` in which nothing fails serves.
 use Rattle.std.proofs.Common.{◌≡◌, ◌+◌, ℕ, List, Option, Some, None, Result, Ok, Err, refl, sym, ap, ◌∙◌, subst, take, option_map}
-use Rattle.std.specs.Prelude.{◌⊎◌, IfSome, ⊥}
+use Rattle.std.specs.Prelude.{◌⊎◌, IfSome}
 use mathlib.Core.Logic.{inl, inr}
 use Rattle.command_line.specs.Commands.{Listen, listen_command_of}
 use Rattle.io_edge.specs.Outside.{IsMissing, Loads, OpenerShown, Rose, file_named}

@@ -1,5 +1,5 @@
 -- What comes of a `listen` in which nothing fails.
-use Rattle.std.specs.Prelude.{◌≡◌, ◌⊎◌, List, Some, ⊥, ℕ}
+use Rattle.std.specs.Prelude.{◌≡◌, ◌⊎◌, List, Some, ℕ}
 use Rattle.command_line.specs.Commands.{Listen, listen_command_of}
 use Rattle.io_edge.specs.Outside.{OpenerShown, Rose}
 use Rattle.jmapd_run.specs.Completes.{IsAccepted}

@@ -1,5 +1,5 @@
 -- What the command `listen` does, whatever bytes come on its connections.
-use Rattle.std.specs.Prelude.{◌≡◌, ◌⊎◌, ◌+◌, ◌*◌, ◌<◌, ◌≤◌, ℕ, List, Some, None, Ok, Err, ⊥}
+use Rattle.std.specs.Prelude.{◌≡◌, ◌⊎◌, ◌+◌, ◌*◌, ◌<◌, ◌≤◌, ℕ, List, Some, None, Ok, Err}
 use Rattle.command_line.specs.Commands.{Listen, listen_command_of}
 use Rattle.conn_worker.specs.Working.{Tools, Works}
 use Rattle.io_edge.specs.Outside.{OpenerShown, Rose}

@@ -1,5 +1,5 @@
 //! The job of a worker.
-ghost use Rattle.std.specs.Prelude.{◌≡◌, ◌×◌, ◌≤◌, ◌<◌, ◌^◌, length};
+ghost use Rattle.std.specs.Prelude.{◌≡◌, ◌≤◌, ◌<◌, ◌^◌, length};
 ghost use Rattle.std.specs.Arc.{arc_value};
 ghost use Rattle.account_desk.specs.FreshDesk.{bases};
 ghost use Rattle.account_desk.specs.SharedDesk.{shown_by_passes};

@@ -1,5 +1,5 @@
 //! The command `listen`.
-ghost use Rattle.std.specs.Prelude.{◌≡◌, ◌×◌, ◌≤◌, ◌+◌, All, IfOk, length, map, string_bytes};
+ghost use Rattle.std.specs.Prelude.{◌≡◌, ◌≤◌, ◌+◌, All, IfOk, length, map, string_bytes};
 ghost use Rattle.command_line.specs.Shown.{listen_shown};
 ghost use Rattle.command_line.specs.declared.listen.TheConstants.{MOST_CONNECTIONS, MOST_WORKERS};
 ghost use Rattle.jmapd_listen.specs.Listens.{ListensHow, ServesSite};
