@@ -8,7 +8,6 @@ use crate::get::get;
 use crate::ledger::Ledger;
 use crate::queries::{availability, query, query_changes};
 use crate::set::set;
-use availability_method::AvailabilityRequest;
 use model_call::call::{Asks, Call, Reply};
 use model_history::book::Book;
 use model_history::stamp::Stamp;
@@ -16,7 +15,6 @@ use model_json::text::Text;
 use model_room::clash::Clash;
 use model_series::series::Series;
 use model_time::moment::Moment;
-use query_methods::request::{Criteria, Paging, Since};
 use set_methods::request::SetRequest;
 use std::alloc::{AllocError, Global};
 use std::marker::Model;
@@ -162,66 +160,8 @@ fn answer(ledger: &mut Ledger, stamp: &Stamp, call: &Call) -> Result<Reply, Allo
             };
             set(ledger, stamp, &request, &call.created)
         }
-        Asks::Query {
-            filter,
-            sort,
-            position,
-            anchor,
-            anchor_offset,
-            limit,
-            calculate_total,
-            expand,
-            time_zone,
-        } => {
-            let criteria = Criteria {
-                filter,
-                sort,
-                time_zone,
-            };
-            let paging = Paging {
-                position: *position,
-                anchor,
-                anchor_offset: *anchor_offset,
-                limit: *limit,
-                calculate_total: *calculate_total,
-            };
-            query(ledger, &criteria, *expand, &paging)
-        }
-        Asks::QueryChanges {
-            filter,
-            sort,
-            since,
-            max,
-            up_to: _,
-            calculate_total,
-            expand,
-            time_zone,
-        } => {
-            let criteria = Criteria {
-                filter,
-                sort,
-                time_zone,
-            };
-            let since = Since {
-                state: since,
-                most: *max,
-                calculate_total: *calculate_total,
-            };
-            query_changes(ledger, &criteria, *expand, &since)
-        }
-        Asks::Availability {
-            id,
-            utc_start,
-            utc_end,
-            time_zone,
-        } => {
-            let request = AvailabilityRequest {
-                id,
-                utc_start,
-                utc_end,
-                time_zone,
-            };
-            availability(ledger, &request)
-        }
+        Asks::Query { .. } => query(ledger, &call.asks),
+        Asks::QueryChanges { .. } => query_changes(ledger, &call.asks),
+        Asks::Availability { .. } => availability(ledger, &call.asks),
     }
 }

@@ -1,5 +1,6 @@
 //! The history of an account with the changes that a call is about to make.
-ghost use Rattle.std.specs.Prelude.{◌≡◌, ◌<◌, ◌≤◌, ◌^◌, ◌++◌, [], IfNone, OnErr, OnOk, length, option_map, true, vec_capacity, vec_len};
+ghost use Rattle.std.specs.Coded.{codes};
+ghost use Rattle.std.specs.Prelude.{◌≡◌, ◌<◌, ◌≤◌, ◌^◌, ◌++◌, ◌∷◌, [], IfNone, OnErr, OnOk, length, map, option_map, true, vec_capacity, vec_len};
 ghost use Rattle.std.specs.Arc.{arc_value};
 ghost use Rattle.account_core.specs.Tally.{Tallies};
 ghost use Rattle.account_rooms.specs.RoomChanges.{MayChange, rooms_after};
@@ -7,6 +8,7 @@ ghost use Rattle.account_rooms.specs.Covered.{AreCoveredOnce};
 ghost use Rattle.account_rooms.specs.Rooms.{AreFree, AreRooms};
 ghost use Rattle.account_store.specs.Store.{entries, spare};
 ghost use Rattle.cal_model.specs.Answer.{entries_from};
+ghost use Rattle.event_store.specs.SeriesPut.{series_put};
 ghost use Rattle.model_history.specs.History.{changes_of};
 ghost use Rattle.model_resource.specs.Bookings.{other_bookings};
 ghost use Rattle.model_resource.specs.Resources.{is_resource};
@@ -19,6 +21,7 @@ use crate::uses::has_event;
 use account_rooms::Rooms;
 use account_store::Store;
 use cal_model::view::AccountView;
+use event_store::{SeriesLog, StoredEvents};
 use model_history::entry::{Change, Entry, Kind};
 use model_history::stamp::Stamp;
 use model_json::text::Text;
@@ -32,7 +35,8 @@ use zone_table::Zones;
 
 /// The history of an account, and the changes that a call makes before they become entries.
 ///
-/// Contracts see the account's base, its entries, the staged changes, and how many of these can become entries without memory.
+/// Contracts see the account's base, its entries, the staged changes, and how many of these can become entries without memory. What was read of
+/// a change when it was staged stands beside it from then on.
 #[derive(Drop)]
 pub struct Ledger {
     pub alloc: Global,
@@ -42,12 +46,15 @@ pub struct Ledger {
     /// What the history holds.
     kept: Tally,
     pub(crate) staged: Vec<Change>,
+    /// The series of the events of the history and of the staged changes.
+    series: SeriesLog,
     /// What the history and the staged changes hold.
     pub(crate) tally: Tally,
     /// The live resource calendars with their bookings, at the history and the staged changes; it goes back to those at the history.
     pub(crate) rooms: Rooms,
     ghost kept_told: { Tallies kept (changes_of (entries store)) },
     ghost told: { Tallies tally (changes_of (entries store) ++ staged.items) },
+    ghost series_read: { series ≡ map (series_put (arc_value zones)) (changes_of (entries store) ++ staged.items) } by { Prim.hlevel codes },
     ghost kept_rooms: { AreRooms (arc_value zones) (changes_of (entries store)) rooms.kept },
     ghost rooms_now: { AreRooms (arc_value zones) (changes_of (entries store) ++ staged.items) rooms.rooms },
 }
@@ -69,9 +76,18 @@ impl Ledger {
             store: Store::new(alloc),
             kept: Tally::new(),
             staged: Vec::new(alloc),
+            series: SeriesLog::new(alloc),
             tally: Tally::new(),
             rooms: Rooms::new(alloc),
         }
+    }
+
+    /// The events of the account, each with its series. Takes no memory.
+    pub fn events(&self) -> StoredEvents<'_>
+        ensures store { result.store.now ≡ self.now.store }
+        ensures zones { result.zones.now ≡ (base self.now).zones }
+    {
+        StoredEvents::new(&self.store, &self.zones, &self.series)
     }
 
     /// Takes memory for the entries that the staged changes become. After want of memory nothing is staged.
@@ -122,9 +138,10 @@ impl Ledger {
     }
 }
 
-// Takes memory for one staged change more, which the rooms follow.
+// Takes memory for one staged change more, which the rooms follow and whose series is read.
 fn follow(
     staged: &mut Vec<Change>,
+    series: &mut SeriesLog,
     rooms: &mut Rooms,
     zones: &Zones,
     change: &Change,
@@ -133,11 +150,14 @@ fn follow(
     ensures staged { staged.new.items ≡ staged.old.items }
     ensures len { vec_len staged.new ≡ vec_len staged.old }
     ensures place { OnOk result (vec_len staged.new < vec_capacity staged.new) }
+    ensures series { OnOk result (series.new ≡ series.old ++ series_put zones.now change.now ∷ []) }
+    ensures unread { OnErr result (series.new ≡ series.old) }
     ensures rooms { OnOk result (rooms.new.rooms ≡ rooms_after zones.now change.now rooms.old.rooms) }
     ensures kept { rooms.new.kept ≡ rooms.old.kept }
 {
     staged.reserve(1)?;
-    rooms.follow(zones, change)
+    rooms.follow(zones, change)?;
+    series.read(zones, change)
 }
 
 // Puts the entries of these changes at the end.
@@ -221,7 +241,13 @@ impl AccountView for Ledger {
     }
 
     fn stage(&mut self, change: Change, size: usize) -> Result<(), AllocError> {
-        match follow(&mut self.staged, &mut self.rooms, &self.zones, &change) {
+        match follow(
+            &mut self.staged,
+            &mut self.series,
+            &mut self.rooms,
+            &self.zones,
+            &change,
+        ) {
             Ok(()) => {
                 self.tally.count(change.kind, change.id, size);
                 self.staged.push_reserved(change);
@@ -229,6 +255,7 @@ impl AccountView for Ledger {
             }
             Err(error) => {
                 self.staged.clear();
+                self.series.truncate(self.store.entries().len());
                 self.tally = self.kept;
                 self.rooms.undo();
                 Err(error)
@@ -238,6 +265,7 @@ impl AccountView for Ledger {
 
     fn forget(&mut self) {
         self.staged.clear();
+        self.series.truncate(self.store.entries().len());
         self.tally = self.kept;
         self.rooms.undo();
     }

@@ -19,7 +19,7 @@ ids_step : (c : Change) (cs : List Change) (kind : Kind) (ids : List ℕ) (b : B
 ids_step c cs kind ids true is rest = ap (λ b. ids_from (if b then with_id ids c.id else ids) (of_kind kind cs) kind) is ∙ rest (with_id ids c.id)
 ids_step c cs kind ids false is rest = rest ids
 
-ids_of_kind : (cs : List Change) (kind : Kind) (ids : List ℕ) → ids_from ids (of_kind kind cs) kind ≡ ids_from ids cs kind
+pub ids_of_kind : (cs : List Change) (kind : Kind) (ids : List ℕ) → ids_from ids (of_kind kind cs) kind ≡ ids_from ids cs kind
 ids_of_kind [] kind ids = refl
 ids_of_kind (c ∷ cs) kind ids = ids_step c cs kind ids (is_kind kind c.kind) refl (ids_of_kind cs kind)
 

@@ -19,19 +19,19 @@ use Rattle.account_store.specs.Places.{ArePlaces, object_in}
 
 -- ---- what stands at a place, among more entries
 
-read_still : (es more : List Entry) (i : ℕ) (t : Tree) → object_in es i ≡ Some t → object_in (es ++ more) i ≡ Some t
-read_still [] more i t h = absurd (none-some t h)
-read_still (e ∷ es) more zero t h = h
-read_still (e ∷ es) more (suc i) t h = read_still es more i t h
+read_still : (es more : List Entry) (kind : Kind) (i : ℕ) (t : Tree) → object_in es kind i ≡ Some t → object_in (es ++ more) kind i ≡ Some t
+read_still [] more kind i t h = absurd (none-some t h)
+read_still (e ∷ es) more kind zero t h = h
+read_still (e ∷ es) more kind (suc i) t h = read_still es more kind i t h
 
-read_last : (es : List Entry) (e : Entry) → object_in (es ++ e ∷ []) (length es) ≡ e.change.object
-read_last [] e = refl
-read_last (x ∷ es) e = read_last es e
+read_last : (es : List Entry) (e : Entry) (kind : Kind) → is_kind kind e.change.kind ≡ true → object_in (es ++ e ∷ []) kind (length es) ≡ e.change.object
+read_last [] e kind is = ap (λ b. if b then e.change.object else None) is
+read_last (x ∷ es) e kind is = read_last es e kind is
 
-object_still : (es more : List Entry) (o : Option ℕ) (t : Option Tree) → option_map (object_in es) o ≡ option_map Some t → option_map (object_in (es ++ more)) o ≡ option_map Some t
-object_still es more None t h = h
-object_still es more (Some i) None h = absurd (none-some (object_in es i) (sym h))
-object_still es more (Some i) (Some t) h = ap (λ r. Some r) (read_still es more i t (ap option_flatten h))
+object_still : (es more : List Entry) (kind : Kind) (o : Option ℕ) (t : Option Tree) → option_map (object_in es kind) o ≡ option_map Some t → option_map (object_in (es ++ more) kind) o ≡ option_map Some t
+object_still es more kind None t h = h
+object_still es more kind (Some i) None h = absurd (none-some (object_in es kind i) (sym h))
+object_still es more kind (Some i) (Some t) h = ap (λ r. Some r) (read_still es more kind i t (ap option_flatten h))
 
 -- ---- the puts and removals that were told before
 
@@ -45,15 +45,15 @@ rest (p ∷ ps) = ps
 abbrev with_object : Option (Option Tree) → Put (Option Tree) → Put (Option Tree)
 with_object o p = record { id = p.id; state = p.state; object = o }
 
-puts_still : (es more : List Entry) (ps : List (Put ℕ)) (qs : List (Put Tree)) → read_by (object_in es) ps ≡ read_by Some qs → read_by (object_in (es ++ more)) ps ≡ read_by Some qs
-puts_still es more [] qs h = h
-puts_still es more (p ∷ ps) [] h = absurd (none-some (record { id = p.id; state = p.state; object = option_map (object_in es) p.object }) (sym (ap (λ l. slice_get l 0) h)))
-puts_still es more (p ∷ ps) (q ∷ qs) h =
+puts_still : (es more : List Entry) (kind : Kind) (ps : List (Put ℕ)) (qs : List (Put Tree)) → read_by (object_in es kind) ps ≡ read_by Some qs → read_by (object_in (es ++ more) kind) ps ≡ read_by Some qs
+puts_still es more kind [] qs h = h
+puts_still es more kind (p ∷ ps) [] h = absurd (none-some (record { id = p.id; state = p.state; object = option_map (object_in es kind) p.object }) (sym (ap (λ l. slice_get l 0) h)))
+puts_still es more kind (p ∷ ps) (q ∷ qs) h =
     let one = ap first h in
-    let object : option_map (object_in (es ++ more)) p.object ≡ option_map Some q.object = object_still es more p.object q.object (ap (λ r. r.object) one) in
-    ap (λ o. record { id = p.id; state = p.state; object = o } ∷ read_by (object_in (es ++ more)) ps) object
-    ∙ ap (λ r. with_object (option_map Some q.object) r ∷ read_by (object_in (es ++ more)) ps) one
-    ∙ ap (λ l. record { id = q.id; state = q.state; object = option_map Some q.object } ∷ l) (puts_still es more ps qs (ap rest h))
+    let object : option_map (object_in (es ++ more) kind) p.object ≡ option_map Some q.object = object_still es more kind p.object q.object (ap (λ r. r.object) one) in
+    ap (λ o. record { id = p.id; state = p.state; object = o } ∷ read_by (object_in (es ++ more) kind) ps) object
+    ∙ ap (λ r. with_object (option_map Some q.object) r ∷ read_by (object_in (es ++ more) kind) ps) one
+    ∙ ap (λ l. record { id = q.id; state = q.state; object = option_map Some q.object } ∷ l) (puts_still es more kind ps qs (ap rest h))
 
 -- ---- one more
 
@@ -96,13 +96,13 @@ told_more es e kind ps are true is =
     let p = told_of es e (suc (state_at (changes_of es) e.change.kind)) (length es) in
     let qs = puts_in kind (changes_of es) in
     let q = next_put (changes_of es) e.change in
-    map-append (λ (p : Put ℕ). record { id = p.id; state = p.state; object = option_map (object_in all) p.object }) ps (p ∷ [])
-    ∙ ap (λ l. l ++ read_by (object_in all) (p ∷ [])) (puts_still es (e ∷ []) ps qs are)
-    ∙ ap (λ o. read_by Some qs ++ record { id = p.id; state = p.state; object = o } ∷ []) (placed (object_in all) (length es) e.change.object (read_last es e))
+    map-append (λ (p : Put ℕ). record { id = p.id; state = p.state; object = option_map (object_in all kind) p.object }) ps (p ∷ [])
+    ∙ ap (λ l. l ++ read_by (object_in all kind) (p ∷ [])) (puts_still es (e ∷ []) kind ps qs are)
+    ∙ ap (λ o. read_by Some qs ++ record { id = p.id; state = p.state; object = o } ∷ []) (placed (object_in all kind) (length es) e.change.object (read_last es e kind is))
     ∙ sym (map-append (λ (p : Put Tree). record { id = p.id; state = p.state; object = option_map Some p.object }) qs (q ∷ []))
     ∙ ap (read_by Some) (sym (puts_in_more (changes_of es) e.change kind true is) ∙ ap (puts_in kind) (sym (map-append (λ (x : Entry). x.change) es (e ∷ []))))
 told_more es e kind ps are false is =
-    puts_still es (e ∷ []) ps (puts_in kind (changes_of es)) are
+    puts_still es (e ∷ []) kind ps (puts_in kind (changes_of es)) are
     ∙ ap (read_by Some) (sym (puts_in_more (changes_of es) e.change kind false is) ∙ ap (puts_in kind) (sym (map-append (λ (x : Entry). x.change) es (e ∷ []))))
 
 -- the tables of both kinds after one more entry

@@ -1,8 +1,8 @@
 //! The store of an account.
-ghost use Rattle.std.specs.Prelude.{◌≡◌, ◌<◌, ◌≤◌, ◌+◌, ◌++◌, ◌∷◌, ◌↔◌, [], false, filter, is_some, length, map, option_and_then, option_copied, take, IfOk, IsErrOf, OnOk};
+ghost use Rattle.std.specs.Prelude.{◌≡◌, ◌<◌, ◌≤◌, ◌+◌, ◌++◌, ◌∷◌, ◌↔◌, [], false, filter, is_some, length, map, None, option_and_then, option_copied, take, IfOk, IsErrOf, OnOk, if◌then◌else◌};
 ghost use Rattle.std.specs.Coded.{codes};
 ghost use Rattle.model_json.specs.DataCode.{data_code};
-ghost use Rattle.model_history.specs.History.{changes_of, ids_at, live_at, live_object, state_at};
+ghost use Rattle.model_history.specs.History.{changes_of, ids_at, is_kind, live_at, live_object, state_at};
 ghost use Rattle.model_history.specs.Pages.{is_retained, mentions};
 ghost use Rattle.model_history.specs.declared.entry.Kind.{Kind};
 ghost use Rattle.state_log.specs.IsPage.{IsPage};
@@ -79,21 +79,42 @@ impl Store {
     pub fn object(&self, kind: Kind, id: u64) -> Option<&Tree>
         ensures { option_copied result ≡ live_object (changes_of (entries self.now)) kind id }
     {
-        self.object_of(self.tables.of(kind).get(id).copied())
+        self.object_of(kind, self.place(kind, id))
     }
 
     /// The object of a kind and number at state `k` of the kind, where it was live. Takes no memory.
     pub fn object_at(&self, kind: Kind, id: u64, k: u64) -> Option<&Tree>
         ensures { option_copied result ≡ live_object (changes_up_to (entries self.now) kind k) kind id }
     {
-        self.object_of(self.tables.of(kind).get_at(id, k).copied())
+        self.object_of(kind, self.place_at(kind, id, k))
     }
 
-    // The object that the entry at a place puts.
-    fn object_of(&self, place: Option<usize>) -> Option<&Tree>
-        ensures { option_copied result ≡ option_and_then (object_in (entries self.now)) place }
+    // The same at a place that there may be.
+    fn object_of(&self, kind: Kind, place: Option<usize>) -> Option<&Tree>
+        ensures { option_copied result ≡ option_and_then (object_in (entries self.now) kind) place }
     {
-        self.journal.entries().get(place?)?.change.object.as_ref()
+        self.object_in(kind, place?)
+    }
+
+    /// The object of a kind that the entry at a place puts. Takes no memory.
+    pub fn object_in(&self, kind: Kind, place: usize) -> Option<&Tree>
+        ensures { option_copied result ≡ object_in (entries self.now) kind place }
+    {
+        object_put(kind, self.journal.entries().get(place)?)
+    }
+
+    /// The place among the entries of the one that put the object of a kind and number, where that is live. Takes no memory.
+    pub fn place(&self, kind: Kind, id: u64) -> Option<usize>
+        ensures { option_and_then (object_in (entries self.now) kind) result ≡ live_object (changes_of (entries self.now)) kind id }
+    {
+        self.tables.of(kind).get(id).copied()
+    }
+
+    /// The same at state `k` of the kind, where the object was live then. Takes no memory.
+    pub fn place_at(&self, kind: Kind, id: u64, k: u64) -> Option<usize>
+        ensures { option_and_then (object_in (entries self.now) kind) result ≡ live_object (changes_up_to (entries self.now) kind k) kind id }
+    {
+        self.tables.of(kind).get_at(id, k).copied()
     }
 
     /// The live objects of a kind, in order of creation. Takes memory for the list.
@@ -103,7 +124,7 @@ impl Store {
         ensures { IfOk result (λ v. map (λ t. t.now) v.items ≡ live_at (changes_of (entries self.now)) kind) }
     {
         let mut live = Vec::new(alloc);
-        for id in self.tables.of(kind).ids() {
+        for id in self.ids(kind) {
             if let Some(object) = self.object(kind, *id) {
                 live.push(object)?;
             }
@@ -118,11 +139,18 @@ impl Store {
         self.tables.of(kind).live_at(alloc, k)
     }
 
+    /// The numbers of all objects of a kind that were ever created, in order of creation. Takes no memory.
+    pub fn ids(&self, kind: Kind) -> &[u64]
+        ensures { result.now ≡ ids_at (changes_of (entries self.now)) kind }
+    {
+        self.tables.of(kind).ids()
+    }
+
     /// How many objects of a kind were ever created, so that the next gets the number after it. Takes no memory.
     pub fn created(&self, kind: Kind) -> u64
         ensures { result ≡ length (ids_at (changes_of (entries self.now)) kind) }
     {
-        self.tables.of(kind).ids().len() as u64
+        self.ids(kind).len() as u64
     }
 
     /// The state of a kind: how many entries are of it (RFC 8620 section 5.1). Takes no memory.
@@ -138,5 +166,16 @@ impl Store {
         ensures not_retained { IsErrOf result ChangesError.NotRetained ↔ (is_retained (state_at (changes_of (entries self.now)) kind) since ≡ false) }
     {
         self.journal.changes(kind, since, max)
+    }
+}
+
+// The object of a kind that an entry puts.
+fn object_put(kind: Kind, entry: &Entry) -> Option<&Tree>
+    ensures { option_copied result ≡ (if is_kind kind entry.now.change.kind then entry.now.change.object else None) }
+{
+    if kind.is(entry.change.kind) {
+        entry.change.object.as_ref()
+    } else {
+        None
     }
 }

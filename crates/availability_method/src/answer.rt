@@ -10,39 +10,36 @@ use crate::events::busy_of;
 use crate::request::AvailabilityRequest;
 use crate::response::response;
 use crate::window::read_window;
-use account_store::Store;
-use model_history::entry::Kind;
+use event_store::StoredEvents;
 use model_json::text::Text;
 use model_json::tree::Tree;
 use std::alloc::{AllocError, Global};
-use zone_table::Zones;
 
 /// The arguments of the response that tells when the owner of an account is busy, or `None` where an argument of the call isn't one
 /// that it may have.
 ///
-/// Takes memory for the response, and for the series and the occurrences of the account's events, one event after the other.
+/// Takes memory for the response and for a list of the account's events. Time grows with their occurrences in the window.
 pub fn availability(
     alloc: Global,
     account: &Text,
-    zones: &Zones,
-    store: &Store,
+    events: &StoredEvents<'_>,
     request: &AvailabilityRequest<'_>,
 ) -> Result<Option<Tree>, AllocError>
-    ensures { let base : Base = record { account_id = account.now; zones = zones.now } in
+    ensures { let base : Base = record { account_id = account.now; zones = events.now.zones.now } in
         let start = request.now.utc_start.now in
         let end = request.now.utc_end.now in
         let zone = request.now.time_zone.now in
         let refusal = availability_refusal base request.now.id.now start end zone in
         IfOk result (λ r. MatchOption r (refusal ≡ Some InvalidArguments)
-        (λ t. (refusal ≡ None) × (t ≡ availability_response base (changes_of (entries store.now)) start end zone))) }
+        (λ t. (refusal ≡ None) × (t ≡ availability_response base (changes_of (entries events.now.store.now)) start end zone))) }
 {
-    if request.id.as_str() != account.as_str() || !zones.has(request.time_zone) {
+    if request.id.as_str() != account.as_str() || !events.zones.has(request.time_zone) {
         return Ok(None);
     }
     let Some(window) = read_window(request.utc_start, request.utc_end) else {
         return Ok(None);
     };
-    let events = store.live(alloc, Kind::Event)?;
-    let busy = busy_of(alloc, &events, zones, request.time_zone, window)?;
+    let live = events.live(alloc)?;
+    let busy = busy_of(alloc, &live, events.zones, request.time_zone, window)?;
     Ok(Some(response(alloc, account, busy.periods())?))
 }

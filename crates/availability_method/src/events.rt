@@ -1,6 +1,7 @@
 //! The busy periods of events.
-ghost use Rattle.std.specs.Prelude.{◌≡◌, ◌&&◌, ◌||◌, ◌<ℤ◌, ℤ, IfOk, OnOk, map, true};
+ghost use Rattle.std.specs.Prelude.{◌≡◌, ◌&&◌, ◌||◌, ◌<ℤ◌, ℤ, All, IfOk, OnOk, map, true};
 ghost use Rattle.availability_method.specs.Periods.{AreInYears};
+ghost use Rattle.event_store.specs.StoredEvents.{HasItsSeries};
 ghost use Rattle.model_availability.specs.BusyInstants.{is_taken_up, takes_up};
 ghost use Rattle.model_availability.specs.Runs.{runs_in};
 ghost use Rattle.model_event.specs.Values.{is_showing};
@@ -8,9 +9,8 @@ ghost use Rattle.model_json.specs.TreeData.{data_of};
 ghost use Rattle.model_window.specs.BusyPeriods.{is_busy, lies_in};
 
 use availability::Busy;
-use event_series::read::read_series;
+use event_store::StoredEvent;
 use model_json::text::Text;
-use model_json::tree::Tree;
 use model_window::period::Period;
 use std::alloc::{AllocError, Global};
 use zone_instants::rule_of_event;
@@ -19,15 +19,16 @@ use zone_table::Zones;
 /// The busy periods of a window, over all occurrences of these events. A floating event has the zone of this name.
 pub(crate) fn busy_of(
     alloc: Global,
-    events: &[&Tree],
+    events: &[StoredEvent<'_>],
     zones: &Zones,
     floating: &Text,
     window: Period,
 ) -> Result<Busy, AllocError>
+    requires series { All (HasItsSeries zones.now) events.now }
     requires from { is_showing window.from ≡ true }
     requires to { is_showing window.to ≡ true }
     requires order { window.from <ℤ window.to }
-    ensures periods { IfOk result (λ b. b.periods.items ≡ runs_in (is_taken_up zones.now floating.now (map (λ t. t.now) events.now)) window) }
+    ensures periods { IfOk result (λ b. b.periods.items ≡ runs_in (is_taken_up zones.now floating.now (map (λ e. e.object.now) events.now)) window) }
     ensures years { IfOk result (λ b. AreInYears b.periods.items) }
 {
     let mut busy = Busy::new(alloc, window);
@@ -41,19 +42,20 @@ pub(crate) fn busy_of(
 fn add_event(
     alloc: Global,
     busy: &mut Busy,
-    event: &Tree,
+    event: &StoredEvent<'_>,
     zones: &Zones,
     floating: &Text,
 ) -> Result<(), AllocError>
+    requires { HasItsSeries zones.now event.now }
     ensures window { busy.new.window ≡ busy.old.window }
     ensures busy { OnOk result ((u : ℤ) → is_busy busy.new.periods.items u
-        ≡ (is_busy busy.old.periods.items u || (lies_in u busy.old.window && takes_up zones.now floating.now u (data_of event.now)))) }
+        ≡ (is_busy busy.old.periods.items u || (lies_in u busy.old.window && takes_up zones.now floating.now u (data_of event.now.object.now)))) }
 {
-    let Some(series) = read_series(alloc, event, zones)? else {
+    let Some(series) = event.series else {
         return Ok(());
     };
-    let Some(rule) = rule_of_event(zones, floating, event) else {
+    let Some(rule) = rule_of_event(zones, floating, event.object) else {
         return Ok(());
     };
-    busy.add(alloc, &series, &rule)
+    busy.add(alloc, series, &rule)
 }

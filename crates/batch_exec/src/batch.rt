@@ -35,7 +35,6 @@ fn error_name(error: MethodError) -> &'static str
         MethodError::AnchorNotFound => "anchorNotFound",
         MethodError::CannotCalculateChanges => "cannotCalculateChanges",
         MethodError::TooManyChanges => "tooManyChanges",
-        MethodError::NotBuilt => "notBuilt",
     }
 }
 

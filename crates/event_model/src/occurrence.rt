@@ -114,8 +114,8 @@ fn is_given_by_rules(alloc: Global, event: &Tree, rid: Wall) -> Result<bool, All
     Ok(is_day(rules.items(), start, day_of(rid)))
 }
 
-// The override at a key.
-fn override_at<'a>(event: &'a Tree, key: &Text) -> Option<&'a TreeObject>
+/// The override of the occurrence whose recurrence id is the LocalDateTime of this key. Takes no memory.
+pub fn override_at<'a>(event: &'a Tree, key: &Text) -> Option<&'a TreeObject>
     ensures { option_map (λ patch. patch.now) result ≡ override_at key.now (data_of event.now) }
 {
     match event.get("recurrenceOverrides") {

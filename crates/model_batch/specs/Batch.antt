@@ -11,7 +11,7 @@ use Rattle.model_batch.specs.Chain.{Made, Shown, Chain, Stops, front_of}
 use Rattle.model_json.specs.TreeData.{data_of}
 use Rattle.model_call.specs.declared.call.Call.{Call}
 use Rattle.model_call.specs.declared.call.MethodError.{MethodError}
-use Rattle.model_call.specs.declared.call.MethodError.TheVariants.{UnknownMethod, InvalidArguments, InvalidResultReference, AccountNotFound, AccountReadOnly, RequestTooLarge, StateMismatch, UnsupportedFilter, UnsupportedSort, AnchorNotFound, CannotCalculateChanges, TooManyChanges, NotBuilt}
+use Rattle.model_call.specs.declared.call.MethodError.TheVariants.{UnknownMethod, InvalidArguments, InvalidResultReference, AccountNotFound, AccountReadOnly, RequestTooLarge, StateMismatch, UnsupportedFilter, UnsupportedSort, AnchorNotFound, CannotCalculateChanges, TooManyChanges}
 use Rattle.model_batch.specs.declared.desk.DeskError.{DeskError}
 use Rattle.model_batch.specs.declared.desk.DeskError.TheVariants as reason
 use Rattle.model_batch.specs.declared.desk.Front.{Front}
@@ -53,7 +53,6 @@ error_type UnsupportedSort = codes "unsupportedSort"
 error_type AnchorNotFound = codes "anchorNotFound"
 error_type CannotCalculateChanges = codes "cannotCalculateChanges"
 error_type TooManyChanges = codes "tooManyChanges"
-error_type NotBuilt = codes "notBuilt"
 
 -- RFC 8620 section 3.4
 abbrev pub response_with : List ℕ → List ℕ → Tree → MethodResponse

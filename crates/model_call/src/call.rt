@@ -124,8 +124,6 @@ pub enum MethodError {
     CannotCalculateChanges,
     /// The changes are more than the client takes.
     TooManyChanges,
-    /// The form of the call isn't built.
-    NotBuilt,
 }
 
 /// What a call is answered.

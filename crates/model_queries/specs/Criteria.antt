@@ -1,9 +1,10 @@
 -- Which events a query asks for, and in which order (RFC 8620 section 5.5).
-use Rattle.std.specs.Prelude.{ℕ, List, [], ◌&&◌, Bool, true, false, not, Option, Some, None, option_map, unwrap_or, if◌then◌else◌}
+use Rattle.std.specs.Prelude.{ℕ, pos, ◌-ℤ◌, int_le, List, [], ◌&&◌, ◌||◌, Bool, true, false, not, Option, Some, None, option_map, unwrap_or, if◌then◌else◌}
+use Rattle.std.specs.Option.{option_map_or}
 use Rattle.model_call.specs.declared.call.MethodError.{MethodError}
 use Rattle.model_call.specs.declared.call.MethodError.TheVariants.{InvalidArguments, UnsupportedFilter, UnsupportedSort}
 use Rattle.model_filter.specs.Filters.{is_bad_filter, is_unsupported_filter}
-use Rattle.model_filter.specs.Matches.{event_matches}
+use Rattle.model_filter.specs.Matches.{event_matches, window_asked}
 use Rattle.model_json.specs.Data.{Data, no_members, null, object}
 use Rattle.model_json.specs.TreeData.{data_of}
 use Rattle.model_json.specs.declared.tree.Tree.{Tree}
@@ -11,6 +12,7 @@ use Rattle.model_query.specs.Sorts.{Sort, bad_sort, unsupported_sort, by_compara
 use Rattle.model_query.specs.declared.comparator.Comparator.{Comparator}
 use Rattle.model_query.specs.declared.item.Item.{Item}
 use Rattle.model_queries.specs.Items.{seen_where}
+use Rattle.model_queries.specs.declared.limits.TheConstants.{MAX_EXPANDED_SECONDS}
 use Rattle.model_site.specs.TimeZones.{ZoneText, has_zone}
 
 -- The condition without members, which holds of every event, where no filter is given.
@@ -47,23 +49,34 @@ module _ (c : Criteria) where
   abbrev pub are_terms : Bool
   are_terms = not (is_bad_filter (filter_or_all c.filter)) && not (is_bad_sort (sort_in (sort_or_none c.sort)))
 
-  -- something of the filter isn't known, or of the sort
+  abbrev pub order_of : List Comparator
+  order_of = comparators_of (sort_in (sort_or_none c.sort))
+
+-- the filter is one condition with both times, `before` at most 366 days of wall time past `after`
+abbrev pub asks_window : Data → Bool
+asks_window filter = option_map_or (λ w. int_le (w.1 -ℤ w.0) (pos MAX_EXPANDED_SECONDS)) (window_asked filter) false
+
+-- Each occurrence is a result of its own where `expand` is true.
+
+-- not all of the filter is known, or it lacks the window that occurrences are to meet
+abbrev pub lacks_support : Bool → Data → Bool
+lacks_support expand filter = is_unsupported_filter filter || (expand && not (asks_window filter))
+
+module _ (c : Criteria) (expand : Bool) where
+  -- what of the filter isn't supported, or of the sort
   abbrev pub unsupported : Option MethodError
   unsupported =
-      if is_unsupported_filter (filter_or_all c.filter) then Some UnsupportedFilter
+      if lacks_support expand (filter_or_all c.filter) then Some UnsupportedFilter
       else if is_unsupported_sort (sort_in (sort_or_none c.sort)) then Some UnsupportedSort else None
 
   -- why filter and sort are refused
   abbrev pub terms_refusal : Option MethodError
-  terms_refusal = if are_terms then unsupported else Some InvalidArguments
-
-  abbrev pub order_of : List Comparator
-  order_of = comparators_of (sort_in (sort_or_none c.sort))
+  terms_refusal = if are_terms c then unsupported else Some InvalidArguments
 
 module _ (zones : List ZoneText) (c : Criteria) where
   -- why criteria are refused: their zone isn't known, or filter or sort is refused
-  abbrev pub criteria_refusal : Option MethodError
-  criteria_refusal = if has_zone zones c.time_zone then terms_refusal c else Some InvalidArguments
+  abbrev pub criteria_refusal : Bool → Option MethodError
+  criteria_refusal expand = if has_zone zones c.time_zone then terms_refusal c expand else Some InvalidArguments
 
   -- what the query sees of an event's object
   abbrev pub sight_of : Tree → Option Item

@@ -7,7 +7,7 @@ use Rattle.model_call.specs.declared.call.MethodError.TheVariants.{AnchorNotFoun
 use Rattle.model_history.specs.ObjectId.{object_number, state_text}
 use Rattle.model_history.specs.declared.entry.Change.{Change}
 use Rattle.model_history.specs.declared.entry.Kind.TheVariants.{Event}
-use Rattle.model_json.specs.Data.{Pair, text, truth, whole}
+use Rattle.model_json.specs.Data.{Data, Pair, text, truth, whole}
 use Rattle.model_json.specs.declared.tree.Tree.{Tree}
 use Rattle.model_json.specs.declared.tree.Tree.TheVariants.{Object}
 use Rattle.model_queries.specs.States.{id_list}
@@ -46,36 +46,46 @@ abbrev pub most_ids : Option ℤ → ℕ
 most_ids limit = option_map_or (λ n. min (unsigned_abs n) MAX_IDS_IN_QUERY) limit MAX_IDS_IN_QUERY
 
 -- the limit of the server is told where it isn't the client's that holds
-abbrev pub limit_member : Option ℤ → List Pair
-limit_member limit = if is_own_limit limit then [] else (codes "limit", whole (pos MAX_IDS_IN_QUERY)) ∷ []
+abbrev pub server_limit : Option ℤ → List Pair
+server_limit limit = if is_own_limit limit then [] else (codes "limit", whole (pos MAX_IDS_IN_QUERY)) ∷ []
 
 abbrev pub total_member : Bool → ℕ → List Pair
 total_member calculate_total total = if calculate_total then (codes "total", whole (pos total)) ∷ [] else []
 
-abbrev pub window_in : Paging → List ℕ → Option Cut
-window_in p ids = window_of (length ids) p.position (anchor_in ids p.anchor) p.anchor_offset (most_ids p.limit)
+-- the window of a result of so many ids; none where the anchor isn't in it
+abbrev pub cut_asked : Paging → ℕ → Anchor → Option Cut
+cut_asked p total anchor = window_of total p.position anchor p.anchor_offset (most_ids p.limit)
 
-abbrev pub ids_within : Cut → List ℕ → List ℕ
-ids_within cut ids = take (cut.to - cut.from) (drop cut.from ids)
+abbrev pub missing_anchor : Option Cut → Option MethodError
+missing_anchor cut = option_map_or (λ c. None) cut (Some AnchorNotFound)
+
+-- what stands at the places of a cut
+abbrev pub cut_out : {X : Type 0} → Cut → List X → List X
+cut_out cut ids = take (cut.to - cut.from) (drop cut.from ids)
 
 -- where no window is asked for, as when a query is refused
 abbrev pub no_window : Cut
 no_window = record { from = 0; to = 0 }
 
--- the arguments of the reply that tells this window of the result
-abbrev pub window_response : List ℕ → List Change → Paging → Bool → List ℕ → Cut → Tree
-window_response account cs p expand ids cut = Object (
-    (codes "accountId", text account) ∷ (codes "canCalculateChanges", truth (not expand)) ∷ (codes "ids", id_list Event (ids_within cut ids))
-    ∷ limit_member p.limit ++ (codes "position", whole (pos cut.from)) ∷ (codes "queryState", text (state_text Event cs))
-    ∷ total_member p.calculate_total (length ids))
+-- the arguments of the reply that tells these ids, which are a window of a result of so many
+abbrev pub window_response : List ℕ → List Change → Paging → Bool → Data → ℕ → Cut → Tree
+window_response account cs p expand ids total cut = Object (
+    (codes "accountId", text account) ∷ (codes "canCalculateChanges", truth (not expand)) ∷ (codes "ids", ids)
+    ∷ server_limit p.limit ++ (codes "position", whole (pos cut.from)) ∷ (codes "queryState", text (state_text Event cs))
+    ∷ total_member p.calculate_total total)
+
+-- the same of the numbers of events
+abbrev pub numbers_window : List ℕ → List Change → Paging → List ℕ → Cut → Tree
+numbers_window account cs p ids cut = window_response account cs p false (id_list Event (cut_out cut ids)) (length ids) cut
+
+abbrev pub cut_of_numbers : Paging → List ℕ → Option Cut
+cut_of_numbers p ids = cut_asked p (length ids) (anchor_in ids p.anchor)
 
 module _ (see : Tree → Option Item) (order : List Comparator) (cs : List Change) (p : Paging) where
-  -- the window that is asked for; none where the anchor isn't in the result
-  abbrev pub window_found : Option Cut
-  window_found = window_in p (result_of see order cs)
-
   abbrev pub anchor_refusal : Option MethodError
-  anchor_refusal = option_map_or (λ cut. None) window_found (Some AnchorNotFound)
+  anchor_refusal = missing_anchor (cut_of_numbers p (result_of see order cs))
 
-  abbrev pub found_response : List ℕ → Bool → Tree
-  found_response account expand = window_response account cs p expand (result_of see order cs) (unwrap_or window_found no_window)
+  abbrev pub found_response : List ℕ → Tree
+  found_response account =
+      let ids = result_of see order cs in
+      numbers_window account cs p ids (unwrap_or (cut_of_numbers p ids) no_window)

@@ -20,16 +20,16 @@ abbrev pub text_or_empty : List ℕ → Data → List ℕ
 text_or_empty key d = unwrap_or (text_at key d) []
 
 -- the moment that the UTCDate at a key names
-abbrev pub moment_at : List ℕ → Data → ℤ
-moment_at key d = unwrap_or (option_and_then utc_in (text_at key d)) (pos 0)
+abbrev pub utc_moment : List ℕ → Data → ℤ
+utc_moment key d = unwrap_or (option_and_then utc_in (text_at key d)) (pos 0)
 
 abbrev pub item_of : List ZoneText → List ℕ → Data → Item
 item_of zones floating d = record {
   start = start_instant zones floating d;
   uid = text_or_empty (codes "uid") d;
   title = text_or_empty (codes "title") d;
-  created = moment_at (codes "created") d;
-  updated = moment_at (codes "updated") d;
+  created = utc_moment (codes "created") d;
+  updated = utc_moment (codes "updated") d;
 }
 
 -- what a query sees of an event's object: its item, and nothing where the filter doesn't hold of it

@@ -1,8 +1,8 @@
 -- What `CalendarEvent/query` and `CalendarEvent/queryChanges` are answered (RFC 8620 sections 5.5 and 5.6, draft JMAP for Calendars).
-use Rattle.std.specs.Prelude.{ℕ, ℤ, List, ◌&&◌, ◌||◌, Bool, true, not, Option, Some, nat_le, unsigned_abs, unwrap_or, if◌then◌else◌}
+use Rattle.std.specs.Prelude.{ℕ, ℤ, List, ◌&&◌, ◌||◌, Bool, true, false, not, Option, Some, nat_le, unsigned_abs, unwrap_or, if◌then◌else◌}
 use Rattle.std.specs.Option.{option_map_or, option_or}
 use Rattle.model_call.specs.declared.call.MethodError.{MethodError}
-use Rattle.model_call.specs.declared.call.MethodError.TheVariants.{CannotCalculateChanges, InvalidArguments, NotBuilt}
+use Rattle.model_call.specs.declared.call.MethodError.TheVariants.{CannotCalculateChanges, InvalidArguments}
 use Rattle.model_core.specs.declared.numbers.TheConstants.{MAX_UNSIGNED_INT}
 use Rattle.model_history.specs.declared.entry.Change.{Change}
 use Rattle.model_history.specs.declared.entry.Kind.TheVariants.{Event}
@@ -10,6 +10,7 @@ use Rattle.model_json.specs.Data.{whole}
 use Rattle.model_json.specs.declared.tree.Tree.{Tree}
 use Rattle.model_queries.specs.Changed.{Since, changed_response, size_refusal}
 use Rattle.model_queries.specs.Criteria.{Criteria, criteria_refusal, order_of, sight_of}
+use Rattle.model_queries.specs.Expanded.{expanded_anchor_refusal, expanded_response}
 use Rattle.model_queries.specs.Found.{Paging, anchor_refusal, found_response}
 use Rattle.model_queries.specs.States.{is_known_state, is_maximum}
 use Rattle.model_site.specs.TimeZones.{ZoneText}
@@ -27,12 +28,12 @@ is_paging p = (is_int p.position && is_int p.anchor_offset) && option_map_or (λ
 module _ (zones : List ZoneText) (cs : List Change) (c : Criteria) (expand : Bool) where
   abbrev pub query_refusal : Paging → Option MethodError
   query_refusal p =
-      if expand then Some NotBuilt
-      else if not (is_paging p) then Some InvalidArguments
-      else option_or (criteria_refusal zones c) (anchor_refusal (sight_of zones c) (order_of c) cs p)
+      if not (is_paging p) then Some InvalidArguments
+      else option_or (criteria_refusal zones c expand)
+      (if expand then expanded_anchor_refusal zones cs c p else anchor_refusal (sight_of zones c) (order_of c) cs p)
 
   abbrev pub query_response : List ℕ → Paging → Tree
-  query_response account p = found_response (sight_of zones c) (order_of c) cs p account expand
+  query_response account p = if expand then expanded_response zones cs c account p else found_response (sight_of zones c) (order_of c) cs p account
 
   -- the state that a text names
   abbrev pub state_named : List ℕ → ℕ
@@ -46,7 +47,7 @@ module _ (zones : List ZoneText) (cs : List Change) (c : Criteria) (expand : Boo
   abbrev pub query_changes_refusal : Since → Option MethodError
   query_changes_refusal s =
       if not (is_maximum s.most) then Some InvalidArguments
-      else option_or (criteria_refusal zones c) (since_refusal s)
+      else option_or (criteria_refusal zones c false) (since_refusal s)
 
   abbrev pub query_changes_response : List ℕ → Since → Tree
   query_changes_response account s = changed_response (sight_of zones c) (order_of c) cs account s (state_named s.state)

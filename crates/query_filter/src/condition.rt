@@ -116,8 +116,8 @@ impl<'a> EventTest<'a> {
     }
 }
 
-// The window of a condition.
-fn instants_asked(clock: &Clock, condition: &TreeObject) -> Window
+/// The window between the instants of `after` and `before` of a condition. Takes no memory.
+pub(crate) fn instants_asked(clock: &Clock, condition: &TreeObject) -> Window
     ensures value { result ≡ instants_asked clock.now condition.now }
     ensures near { AreNear result }
 {

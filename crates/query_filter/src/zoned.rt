@@ -2,14 +2,15 @@
 ghost use Rattle.std.specs.Prelude.{◌≡◌, [], IfOk, map, option_map, unwrap_or};
 ghost use Rattle.jiff_tz.specs.PosixText.{tz_view};
 ghost use Rattle.model_filter.specs.Filters.{all_true, holds, operator_holds, some_true};
-ghost use Rattle.model_filter.specs.Matches.{matches_by};
+ghost use Rattle.model_filter.specs.Matches.{instants_asked, matches_by};
 ghost use Rattle.model_json.specs.Data.{members_of, object};
-ghost use Rattle.model_json.specs.Parts.{as_text};
+ghost use Rattle.model_json.specs.Parts.{as_text, members_in};
 ghost use Rattle.model_json.specs.TreeData.{data_of};
+ghost use Rattle.occurrence_windows.specs.Bounds.{AreNear};
 ghost use Rattle.query_filter.specs.EventTests.{event_meets};
 
 use crate::clock::Clock;
-use crate::condition::EventTest;
+use crate::condition::{EventTest, instants_asked};
 use crate::conditions::conditions_of;
 use crate::filter::Filter;
 use crate::members::given;
@@ -18,6 +19,7 @@ use jiff_tz::posix::TimeZone;
 use model_json::text::Text;
 use model_json::tree::{Tree, TreeObject};
 use model_series::series::Series;
+use model_window::window::Window;
 use std::alloc::{AllocError, Global};
 use std::marker::Model;
 
@@ -77,6 +79,14 @@ impl ZonedFilter {
             rule,
         };
         test.holds(&self.filter.tree)
+    }
+
+    /// The window between the instants of `after` and `before`, where the filter is one condition. Takes no memory.
+    pub fn window(&self) -> Window
+        ensures value { result ≡ instants_asked self.now.clock (members_in self.now.filter) }
+        ensures near { AreNear result }
+    {
+        window_asked(&self.clock, &self.filter.tree)
     }
 
     // Folds the texts and reads the times of the filter, as far as there is room for them.
@@ -147,6 +157,21 @@ impl<'a> EventTest<'a> {
             }
         }
         Ok(false)
+    }
+}
+
+// The window of a filter that is one condition.
+#[tactic(auto, using(model_json::specs::Data::pairs_back))]
+fn window_asked(clock: &Clock, filter: &Tree) -> Window
+    ensures value { result ≡ instants_asked clock.now (members_in (data_of filter.now)) }
+    ensures near { AreNear result }
+{
+    match filter {
+        Tree::Object(condition) => instants_asked(clock, condition),
+        _ => Window {
+            after: None,
+            before: None,
+        },
     }
 }
 

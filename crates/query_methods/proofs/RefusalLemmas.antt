@@ -12,9 +12,9 @@ use Rattle.model_site.specs.TimeZones.{ZoneText}
 use Rattle.time_text.specs.State.{state_in}
 
 -- a query is refused then for its anchor alone
-pub by_anchor : (zones : List ZoneText) (cs : List Change) (c : Criteria) (expand : Bool) (p : Paging) → expand ≡ false → is_paging p ≡ true → criteria_refusal zones c ≡ None
-    → query_refusal zones cs c expand p ≡ anchor_refusal (sight_of zones c) (order_of c) cs p
-by_anchor zones cs c expand p e h k = rw (e, h, k) refl
+pub by_anchor : (zones : List ZoneText) (cs : List Change) (c : Criteria) (p : Paging) → is_paging p ≡ true → criteria_refusal zones c false ≡ None
+    → query_refusal zones cs c false p ≡ anchor_refusal (sight_of zones c) (order_of c) cs p
+by_anchor zones cs c p h k = rw (h, k) refl
 
 -- the state is one that is known, and the text names it
 known_is : (b : Bool) (o : Option ℕ) (k : ℕ) → Some k ≡ (if b then o else None) → (b ≡ true) × (o ≡ Some k)
@@ -25,7 +25,7 @@ pub named : (cs : List Change) (text : List ℕ) (k : ℕ) → Some k ≡ (if is
 named cs text k h = ap (λ o. unwrap_or o 0) (sym (known_is (is_known_state Event cs text) (state_in text) k h).1)
 
 -- its changes are refused then for their number alone
-pub by_size : (zones : List ZoneText) (cs : List Change) (c : Criteria) (expand : Bool) (s : Since) (k : ℕ) → is_maximum s.most ≡ true → criteria_refusal zones c ≡ None → expand ≡ false
+pub by_size : (zones : List ZoneText) (cs : List Change) (c : Criteria) (expand : Bool) (s : Since) (k : ℕ) → is_maximum s.most ≡ true → criteria_refusal zones c false ≡ None → expand ≡ false
     → Some k ≡ (if is_known_state Event cs s.state then state_in s.state else None) → query_changes_refusal zones cs c expand s ≡ size_refusal (sight_of zones c) (order_of c) cs s k
 by_size zones cs c expand s k m r e h =
     let parts = known_is (is_known_state Event cs s.state) (state_in s.state) k h in

@@ -3,27 +3,30 @@ use Rattle.std.proofs.Common.{◌≡◌, ℕ, Bool, true, false, true≢false, c
 use Rattle.std.proofs.Math.Seq.{take-length}
 use Rattle.std.proofs.lemmas.List.Elements.{filter-append}
 use Rattle.std.proofs.lemmas.List.Sums.{length-filter}
+use Rattle.account_store.proofs.EarlierLemmas.{ids_of_kind}
 use Rattle.account_store.specs.Earlier.{changes_up_to, live_ids}
 use Rattle.model_history.specs.History.{changes_of, ids_at, is_kind, live_object, state_at}
 use Rattle.model_history.specs.Pages.{is_in}
 use Rattle.model_history.specs.declared.entry.Change.{Change}
 use Rattle.model_history.specs.declared.entry.Entry.{Entry}
 use Rattle.model_history.specs.declared.entry.Kind.TheVariants.{Event}
+use Rattle.model_json.specs.InOrder.{in_order, put_in}
 use Rattle.model_json.specs.declared.tree.Tree.{Tree}
 use Rattle.model_queries.specs.Changed.{delta_since}
-use Rattle.model_query.specs.Matching.{match_of, matches, of_events, result_at, result_of, touched_since}
+use Rattle.model_query.specs.Matching.{match_of, matches, of_events, result_at, result_of, touched_since, with_number}
 use Rattle.model_query.specs.QueryChanges.{delta_of, indexed}
 use Rattle.model_query.specs.Results.{numbers_at, places}
 use Rattle.model_query.specs.declared.comparator.Comparator.{Comparator}
 use Rattle.model_query.specs.declared.item.Item.{Item}
-use Rattle.query_methods.specs.Among.{matches_among, result_among}
+use Rattle.query_methods.specs.Among.{matches_among, number_if, result_among}
 use Rattle.query_order.proofs.Histories.{matches_of_events, none_kept, results_agree}
 use Rattle.query_order.proofs.Places.{named_places}
+use Rattle.query_order.specs.Ordered.{by_item}
 
 -- ---- looking at the live events alone
 
 -- leaving out what gives nothing
-some_given : {X : Type 0} (f : ℕ → List X) (p : ℕ → Bool) → ((id : ℕ) → p id ≡ false → f id ≡ []) → (ids : List ℕ) → flat_map f (filter p ids) ≡ flat_map f ids
+pub some_given : {X : Type 0} (f : ℕ → List X) (p : ℕ → Bool) → ((id : ℕ) → p id ≡ false → f id ≡ []) → (ids : List ℕ) → flat_map f (filter p ids) ≡ flat_map f ids
 some_given f p none [] = refl
 some_given f p none (id ∷ ids) = by_test (p id) refl (some_given f p none ids)
   where
@@ -45,12 +48,35 @@ state_counts cs = sym (length-filter (λ c. is_kind Event c.kind) cs)
 
 -- the result at that state is that of the history
 pub result_now : (see : Tree → Option Item) (order : List Comparator) (es : List Entry) (k : ℕ) → k ≡ state_at (changes_of es) Event
-    → result_among see order (changes_up_to es Event k) (live_ids (changes_up_to es Event k) Event) ≡ result_of see order (changes_of es)
+    → result_among see order (changes_up_to es Event k) (ids_at (changes_of es) Event) ≡ result_of see order (changes_of es)
 result_now see order es k is =
     let all = of_events (changes_of es) in
     let counted : k ≡ length all = is ∙ state_counts (changes_of es) in
-    ap (λ cs. result_among see order cs (live_ids cs Event)) (ap (λ n. take n all) counted ∙ take-length all)
-    ∙ ap (λ ps. numbers_at (map (λ p. p.0) ps) (places order (map (λ p. p.1) ps))) (matches_of_live see all ∙ matches_of_events see (changes_of es))
+    ap (λ cs. result_among see order cs (ids_at (changes_of es) Event)) (ap (λ n. take n all) counted ∙ take-length all)
+    ∙ ap (result_among see order all) (sym (ids_of_kind (changes_of es) Event []))
+    ∙ ap (λ ps. numbers_at (map (λ p. p.0) ps) (places order (map (λ p. p.1) ps))) (matches_of_events see (changes_of es))
+
+-- ---- where nothing is compared
+
+put_first : (p : ℕ × Item) (ps : List (ℕ × Item)) → put_in (by_item []) p ps ≡ p ∷ ps
+put_first p [] = refl
+put_first p (q ∷ ps) = refl
+
+as_they_stand : (ps : List (ℕ × Item)) → in_order (by_item []) ps ≡ ps
+as_they_stand [] = refl
+as_they_stand (p ∷ ps) = ap (put_in (by_item []) p) (as_they_stand ps) ∙ put_first p ps
+
+-- the result is in order of creation
+pub result_uncompared : (see : Tree → Option Item) (order : List Comparator) (cs : List Change) (numbers : List ℕ) → order ≡ [] → map (λ p. p.0) (matches_among see cs numbers) ≡ result_among see order cs numbers
+result_uncompared see order cs numbers none =
+    sym (ap (λ o. result_among see o cs numbers) none ∙ named_places [] (matches_among see cs numbers) ∙ ap (map (λ p. p.0)) (as_they_stand (matches_among see cs numbers)))
+
+pub number_told : (see : Tree → Option Item) (id : ℕ) (t : Tree) (b : Bool) → b ≡ is_some (see t) → number_if b id ≡ map (λ p. p.0) (match_of see id (Some t))
+number_told see id t b is = ap (λ b. number_if b id) is ∙ by_item_seen (see t)
+  where
+    by_item_seen : (o : Option Item) → number_if (is_some o) id ≡ map (λ p. p.0) (with_number id o)
+    by_item_seen None = refl
+    by_item_seen (Some item) = refl
 
 -- ---- looking at touched events alone
 

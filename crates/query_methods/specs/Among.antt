@@ -1,5 +1,5 @@
 -- Results of queries that look at some events alone.
-use Rattle.std.specs.Prelude.{ℕ, List, Option, flat_map, map}
+use Rattle.std.specs.Prelude.{ℕ, List, [], ◌∷◌, Bool, Option, flat_map, map, if◌then◌else◌}
 use Rattle.model_history.specs.History.{live_object}
 use Rattle.model_history.specs.declared.entry.Change.{Change}
 use Rattle.model_history.specs.declared.entry.Kind.TheVariants.{Event}
@@ -17,3 +17,7 @@ matches_among see cs numbers = flat_map (λ id. match_of see id (live_object cs 
 abbrev pub result_among : (Tree → Option Item) → List Comparator → List Change → List ℕ → List ℕ
 result_among see order cs numbers =
     numbers_at (map (λ p. p.0) (matches_among see cs numbers)) (places order (map (λ p. p.1) (matches_among see cs numbers)))
+
+-- the number, where the test holds
+abbrev pub number_if : Bool → ℕ → List ℕ
+number_if b number = if b then number ∷ [] else []

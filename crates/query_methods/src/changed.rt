@@ -18,6 +18,7 @@ use crate::result::{current_result, touched_result};
 use crate::sight::Sight;
 use crate::touched::touched_since;
 use account_store::Store;
+use event_store::StoredEvents;
 use model_call::call::MethodError;
 use model_history::entry::Kind;
 use model_json::num::Num;
@@ -32,42 +33,56 @@ use time_text::object_id_text;
 /// The arguments of the reply that tells what changed of a result since a state. `Method` tells that it is more than the client takes.
 pub(crate) fn changed<S: Sight>(
     alloc: Global,
-    store: &Store,
+    events: &StoredEvents<'_>,
     account: &Text,
     sight: &S,
     order: &Order,
     since: &Since<'_>,
     state: u64,
 ) -> Result<Tree, QueryError>
-    requires reached { state ≤ state_at (changes_of (entries store.now)) Event }
+    requires zones { S.zones sight.now ≡ events.now.zones.now }
+    requires reached { state ≤ state_at (changes_of (entries events.now.store.now)) Event }
     requires maximum { is_maximum since.now.most ≡ true }
-    ensures response { IfOk result (λ t. t ≡ changed_response (S.see sight.now) order.now (changes_of (entries store.now)) account.now (since_in since.now) state) }
-    ensures few { OnOk result (size_refusal (S.see sight.now) order.now (changes_of (entries store.now)) (since_in since.now) state ≡ None) }
-    ensures refused { IfErr result (λ e. Reports e (size_refusal (S.see sight.now) order.now (changes_of (entries store.now)) (since_in since.now) state)) }
+    ensures response { IfOk result (λ t. t ≡ changed_response (S.see sight.now) order.now (changes_of (entries events.now.store.now)) account.now (since_in since.now) state) }
+    ensures few { OnOk result (size_refusal (S.see sight.now) order.now (changes_of (entries events.now.store.now)) (since_in since.now) state ≡ None) }
+    ensures refused { IfErr result (λ e. Reports e (size_refusal (S.see sight.now) order.now (changes_of (entries events.now.store.now)) (since_in since.now) state)) }
 {
-    let now = current_result(alloc, store, sight, order)?;
-    let delta = delta_since(alloc, store, sight, order, state, &now)?;
+    let now = current_result(alloc, events, sight, order)?;
+    let delta = delta_since(alloc, events, sight, order, state, &now)?;
     if !is_within(since.most, &delta) {
         return Err(QueryError::Method(MethodError::TooManyChanges));
     }
-    Ok(delta_tree(alloc, store, account, since, now.len() as u64, &delta)?)
+    Ok(delta_tree(
+        alloc,
+        events.store,
+        account,
+        since,
+        now.len() as u64,
+        &delta,
+    )?)
 }
 
 // Of the earlier result only those events are looked at that were touched since.
 fn delta_since<S: Sight>(
     alloc: Global,
-    store: &Store,
+    events: &StoredEvents<'_>,
     sight: &S,
     order: &Order,
     state: u64,
     now: &[u64],
 ) -> Result<Delta, AllocError>
-    requires reached { state ≤ state_at (changes_of (entries store.now)) Event }
-    requires result { now.now ≡ result_of (S.see sight.now) order.now (changes_of (entries store.now)) }
-    ensures { IfOk result (λ delta. delta ≡ delta_since (S.see sight.now) order.now (changes_of (entries store.now)) state) }
+    requires zones { S.zones sight.now ≡ events.now.zones.now }
+    requires reached { state ≤ state_at (changes_of (entries events.now.store.now)) Event }
+    requires result { now.now ≡ result_of (S.see sight.now) order.now (changes_of (entries events.now.store.now)) }
+    ensures { IfOk result (λ delta. delta ≡ delta_since (S.see sight.now) order.now (changes_of (entries events.now.store.now)) state) }
 {
-    let touched = touched_since(alloc, store.entries(), store.count(Kind::Event), state)?;
-    let before = touched_result(alloc, store, sight, order, state, &touched)?;
+    let touched = touched_since(
+        alloc,
+        events.store.entries(),
+        events.store.count(Kind::Event),
+        state,
+    )?;
+    let before = touched_result(alloc, events, sight, order, state, &touched)?;
     changes_of(alloc, &before, now, &touched)
 }
 

@@ -1,10 +1,10 @@
 //! Which events a query asks for, and in which order.
-ghost use Rattle.std.specs.Prelude.{◌≡◌, IfErr, IfOk, OnOk, None};
-ghost use Rattle.model_queries.specs.Criteria.{criteria_refusal, filter_or_all, order_of, sight_of, sort_or_none, terms_refusal};
+ghost use Rattle.std.specs.Prelude.{◌≡◌, IfErr, IfOk, OnOk, None, false};
+ghost use Rattle.model_queries.specs.Criteria.{asks_window, criteria_refusal, filter_or_all, order_of, sight_of, sort_or_none, terms_refusal};
 ghost use Rattle.model_query.specs.Sorts.{by_comparators, sort_in};
-ghost use Rattle.query_filter.specs.ReadFilters.{IsRead};
 ghost use Rattle.query_methods.specs.FilterSights.{seen_by};
 ghost use Rattle.query_methods.specs.Reports.{Reports};
+ghost use Rattle.query_methods.specs.ReadFor.{IsReadFor};
 ghost use Rattle.query_methods.specs.Requests.{criteria_in};
 ghost use Rattle.query_order.specs.Reports.{Reports as ReportsSort};
 
@@ -13,6 +13,7 @@ use crate::filter_sight::FilterSight;
 use crate::request::Criteria;
 use model_call::call::MethodError;
 use model_json::tree::{Tree, TreeObject};
+use model_queries::limits::MAX_EXPANDED_SECONDS;
 use query_filter::{Filter, FilterError};
 use query_order::order::Order;
 use query_order::sort_argument::SortError;
@@ -29,7 +30,8 @@ pub(crate) struct Terms<'a> {
     pub order: Order,
 }
 
-/// Reads criteria. What is bad of any is told before what isn't known, and of that the filter's before the sort's.
+/// Reads the criteria of a query whose results are events. What is bad of any is told before what isn't known, and of that the filter's
+/// before the sort's.
 ///
 /// Takes memory for the filter, its folded texts and the comparators.
 pub(crate) fn read_terms<'a>(
@@ -37,27 +39,35 @@ pub(crate) fn read_terms<'a>(
     zones: &'a Zones,
     criteria: &Criteria<'a>,
 ) -> Result<Terms<'a>, QueryError>
-    ensures known { OnOk result (criteria_refusal zones.now (criteria_in criteria.now) ≡ None) }
+    ensures known { OnOk result (criteria_refusal zones.now (criteria_in criteria.now) false ≡ None) }
     ensures sight { IfOk result (λ t. seen_by t.sight ≡ sight_of zones.now (criteria_in criteria.now)) }
+    ensures zones { IfOk result (λ t. t.sight.zones.now ≡ zones.now) }
     ensures order { IfOk result (λ t. t.order ≡ order_of (criteria_in criteria.now)) }
-    ensures refused { IfErr result (λ e. Reports e (criteria_refusal zones.now (criteria_in criteria.now))) }
+    ensures refused { IfErr result (λ e. Reports e (criteria_refusal zones.now (criteria_in criteria.now) false)) }
 {
     let Some(rule) = rule_of(zones, criteria.time_zone) else {
         return Err(QueryError::Method(MethodError::InvalidArguments));
     };
-    let (filter, order) = filter_and_order(alloc, criteria)?;
+    let (filter, order) = filter_and_order(alloc, criteria, false)?;
     let sight = FilterSight::new(alloc, filter, rule, zones, criteria.time_zone)?;
     Ok(Terms { sight, order })
 }
 
-// The filter and the order, where the zone is known.
-fn filter_and_order(alloc: Global, criteria: &Criteria<'_>) -> Result<(Filter, Order), QueryError>
-    ensures known { OnOk result (terms_refusal (criteria_in criteria.now) ≡ None) }
+/// Reads the filter and the sort of criteria, whatever their zone. Where each occurrence is to be a result of its own (`expand`), a filter
+/// that doesn't ask for a window of at most 366 days isn't supported.
+///
+/// Takes memory for the filter and the comparators.
+pub fn filter_and_order(
+    alloc: Global,
+    criteria: &Criteria<'_>,
+    expand: bool,
+) -> Result<(Filter, Order), QueryError>
+    ensures known { OnOk result (terms_refusal (criteria_in criteria.now) expand ≡ None) }
     ensures filter { IfOk result (λ r. r.0 ≡ filter_or_all criteria.now.filter.now) }
     ensures order { IfOk result (λ r. r.1 ≡ order_of (criteria_in criteria.now)) }
-    ensures refused { IfErr result (λ e. Reports e (terms_refusal (criteria_in criteria.now))) }
+    ensures refused { IfErr result (λ e. Reports e (terms_refusal (criteria_in criteria.now) expand)) }
 {
-    let filter = read_filter(alloc, criteria.filter);
+    let filter = read_filter(alloc, criteria.filter, expand);
     let order = read_order(alloc, criteria.sort);
     match (filter, order) {
         (Ok(filter), Ok(order)) => Ok((filter, order)),
@@ -76,12 +86,27 @@ fn filter_and_order(alloc: Global, criteria: &Criteria<'_>) -> Result<(Filter, O
     }
 }
 
-fn read_filter(alloc: Global, filter: &Option<Tree>) -> Result<Filter, FilterError>
-    ensures { IsRead (filter_or_all filter.now) result }
+fn read_filter(alloc: Global, filter: &Option<Tree>, expand: bool) -> Result<Filter, FilterError>
+    ensures { IsReadFor expand (filter_or_all filter.now) result }
 {
-    match filter {
-        Some(filter) => Filter::read(filter),
-        None => Filter::read(&Tree::Object(TreeObject::new(Vec::new(alloc)))),
+    let filter = match filter {
+        Some(filter) => Filter::read(filter)?,
+        None => Filter::read(&Tree::Object(TreeObject::new(Vec::new(alloc))))?,
+    };
+    if expand && !asks_window(&filter) {
+        return Err(FilterError::Unsupported);
+    }
+    Ok(filter)
+}
+
+fn asks_window(filter: &Filter) -> bool
+    ensures { result ≡ asks_window filter.now }
+{
+    match filter.window() {
+        Some((after, before)) => {
+            before.seconds() as i128 - after.seconds() as i128 <= MAX_EXPANDED_SECONDS as i128
+        }
+        None => false,
     }
 }
 

@@ -1,6 +1,7 @@
 //! What a query of a filter sees of events.
 ghost use Rattle.std.specs.Prelude.{◌≡◌, IfOk, Some, false, unwrap_or};
 ghost use Rattle.std.specs.Coded.{codes};
+ghost use Rattle.event_store.specs.StoredEvents.{HasItsSeries};
 ghost use Rattle.jiff_tz.specs.PosixText.{tz_view};
 ghost use Rattle.model_filter.specs.Matches.{event_matches};
 ghost use Rattle.model_json.specs.TreeData.{data_of};
@@ -10,10 +11,9 @@ ghost use Rattle.query_filter.specs.AnyTime.{IsForAnyTime};
 
 use crate::item::item_of;
 use crate::sight::Sight;
-use event_series::read::read_series;
+use event_store::StoredEvent;
 use jiff_tz::posix::TimeZone;
 use model_json::text::Text;
-use model_json::tree::Tree;
 use model_query::item::Item;
 use query_filter::{Filter, ZonedFilter};
 use std::alloc::{AllocError, Global};
@@ -44,7 +44,8 @@ impl<'a> FilterSight<'a> {
         floating: &'a Text,
     ) -> Result<FilterSight<'a>, AllocError>
         requires { Some (tz_view rule) ≡ rule_of zones.now floating.now }
-        ensures { IfOk result (λ s. seen_by s ≡ seen_where (event_matches zones.now floating.now filter) zones.now floating.now) }
+        ensures sight { IfOk result (λ s. seen_by s ≡ seen_where (event_matches zones.now floating.now filter) zones.now floating.now) }
+        ensures zones { IfOk result (λ s. s.zones.now ≡ zones.now) }
     {
         let has_time = filter.has_time();
         Ok(FilterSight {
@@ -55,28 +56,34 @@ impl<'a> FilterSight<'a> {
         })
     }
 
-    // Whether the filter holds of an event. Its series is read only where the filter asks when the event is.
-    fn holds(&self, alloc: Global, event: &Tree) -> Result<bool, AllocError>
-        ensures { IfOk result (λ b. b ≡ event_matches self.now.zones.now self.now.floating.now self.now.filter.filter (data_of event.now)) }
+    // Whether the filter holds of an event. The rule of its zone is looked up only where the filter asks when the event is.
+    fn meets(&self, alloc: Global, event: &StoredEvent<'_>) -> Result<bool, AllocError>
+        requires { HasItsSeries self.now.zones.now event.now }
+        ensures { IfOk result (λ b. b ≡ event_matches self.now.zones.now self.now.floating.now self.now.filter.filter (data_of event.now.object.now)) }
     {
         if !self.has_time {
-            return self.filter.matches(alloc, event, None, None);
+            return self.filter.matches(alloc, event.object, None, None);
         }
-        let series = read_series(alloc, event, self.zones)?;
-        let rule = rule_of_event(self.zones, self.floating, event);
+        let rule = rule_of_event(self.zones, self.floating, event.object);
         self.filter
-            .matches(alloc, event, series.as_ref(), rule.as_ref())
+            .matches(alloc, event.object, event.series, rule.as_ref())
     }
 }
 
 impl<'a> Sight for FilterSight<'a> {
     ghost use Rattle.query_methods.specs.FilterSights.{seen_by};
 
+    ghost zones = { λ s. s.zones.now };
+
     ghost see = { seen_by };
 
-    fn see(&self, alloc: Global, event: &Tree) -> Result<Option<Item>, AllocError> {
-        if self.holds(alloc, event)? {
-            Ok(Some(item_of(alloc, self.zones, self.floating, event)?))
+    fn holds(&self, alloc: Global, event: &StoredEvent<'_>) -> Result<bool, AllocError> {
+        self.meets(alloc, event)
+    }
+
+    fn see(&self, alloc: Global, event: &StoredEvent<'_>) -> Result<Option<Item>, AllocError> {
+        if self.meets(alloc, event)? {
+            Ok(Some(item_of(alloc, self.zones, self.floating, event.object)?))
         } else {
             Ok(None)
         }

@@ -1,11 +1,12 @@
 //! The window of a result that a query asks for.
-ghost use Rattle.std.specs.Prelude.{◌≡◌, ◌==◌, IfErr, IfOk, OnOk, None, false, length, option_and_then, true};
+ghost use Rattle.std.specs.Prelude.{◌≡◌, ◌==◌, IfErr, IfOk, OnOk, None, option_and_then, true};
 ghost use Rattle.std.specs.List.{position};
 ghost use Rattle.account_store.specs.Store.{entries};
 ghost use Rattle.model_history.specs.History.{changes_of};
 ghost use Rattle.model_history.specs.ObjectId.{object_number};
 ghost use Rattle.model_history.specs.declared.entry.Kind.TheVariants.{Event};
-ghost use Rattle.model_queries.specs.Found.{anchor_in, anchor_refusal, found_response, ids_within, is_own_limit, most_ids, window_in, window_response};
+ghost use Rattle.model_json.specs.TreeData.{data_of};
+ghost use Rattle.model_queries.specs.Found.{anchor_in, anchor_refusal, cut_asked, found_response, is_own_limit, most_ids, numbers_window, window_response, cut_out};
 ghost use Rattle.model_queries.specs.Queries.{is_paging};
 ghost use Rattle.model_query.specs.Windows.{IsInMemory};
 ghost use Rattle.query_methods.specs.Reports.{Reports};
@@ -17,6 +18,7 @@ use crate::request::Paging;
 use crate::result::current_result;
 use crate::sight::Sight;
 use account_store::Store;
+use event_store::StoredEvents;
 use model_call::call::MethodError;
 use model_history::entry::Kind;
 use model_json::num::Num;
@@ -33,32 +35,35 @@ use time_text::read_object_id;
 /// The arguments of the reply to a query that asks for this window of its result. `Method` tells that the anchor isn't in the result.
 pub(crate) fn found<S: Sight>(
     alloc: Global,
-    store: &Store,
+    events: &StoredEvents<'_>,
     account: &Text,
     sight: &S,
     order: &Order,
     paging: &Paging<'_>,
 ) -> Result<Tree, QueryError>
-    requires { is_paging (paging_in paging.now) ≡ true }
-    ensures response { IfOk result (λ t. t ≡ found_response (S.see sight.now) order.now (changes_of (entries store.now)) (paging_in paging.now) account.now false) }
-    ensures found { OnOk result (anchor_refusal (S.see sight.now) order.now (changes_of (entries store.now)) (paging_in paging.now) ≡ None) }
-    ensures refused { IfErr result (λ e. Reports e (anchor_refusal (S.see sight.now) order.now (changes_of (entries store.now)) (paging_in paging.now))) }
+    requires paging { is_paging (paging_in paging.now) ≡ true }
+    requires zones { S.zones sight.now ≡ events.now.zones.now }
+    ensures response { IfOk result (λ t. t ≡ found_response (S.see sight.now) order.now (changes_of (entries events.now.store.now)) (paging_in paging.now) account.now) }
+    ensures found { OnOk result (anchor_refusal (S.see sight.now) order.now (changes_of (entries events.now.store.now)) (paging_in paging.now) ≡ None) }
+    ensures refused { IfErr result (λ e. Reports e (anchor_refusal (S.see sight.now) order.now (changes_of (entries events.now.store.now)) (paging_in paging.now))) }
 {
-    let ids = current_result(alloc, store, sight, order)?;
-    let Some(cut) = window_in(&ids, paging) else {
+    let ids = current_result(alloc, events, sight, order)?;
+    let Some(cut) = cut_asked(paging, ids.len() as u64, anchor_in(&ids, paging.anchor)) else {
         return Err(QueryError::Method(MethodError::AnchorNotFound));
     };
-    Ok(window_tree(alloc, store, account, paging, &ids, cut)?)
+    Ok(numbers_window(alloc, events.store, account, paging, &ids, cut)?)
 }
 
-fn window_in(ids: &[u64], paging: &Paging<'_>) -> Option<Cut>
-    requires { is_paging (paging_in paging.now) ≡ true }
-    ensures { result ≡ window_in (paging_in paging.now) ids.now }
+/// The window of a result of so many ids that a query asks for, or `None` where its anchor isn't in the result. Takes no memory.
+pub fn cut_asked(paging: &Paging<'_>, total: u64, anchor: Anchor) -> Option<Cut>
+    requires paging { is_paging (paging_in paging.now) ≡ true }
+    requires anchor { IsInMemory anchor }
+    ensures { result ≡ cut_asked (paging_in paging.now) total anchor }
 {
     window(
-        ids.len() as u64,
+        total,
         paging.position.get() as i64,
-        anchor_in(ids, paging.anchor),
+        anchor,
         paging.anchor_offset.get() as i64,
         most_ids(paging.limit),
     )
@@ -107,15 +112,17 @@ fn is_own_limit(limit: Option<Num>) -> bool
     }
 }
 
-fn ids_within(cut: Cut, ids: &[u64]) -> &[u64]
-    ensures { result.now ≡ ids_within cut ids.now }
+/// The ids of a window of a result. Takes no memory.
+pub fn cut_out<T>(cut: Cut, ids: &[T]) -> &[T]
+    ensures { result.now ≡ cut_out cut ids.now }
 {
     let from = min(cut.from, ids.len() as u64) as usize;
     let count = min(cut.to.saturating_sub(cut.from), (ids.len() - from) as u64) as usize;
     &ids[from..from + count]
 }
 
-fn window_tree(
+// The reply that tells a window of the numbers of events.
+fn numbers_window(
     alloc: Global,
     store: &Store,
     account: &Text,
@@ -123,20 +130,51 @@ fn window_tree(
     ids: &[u64],
     cut: Cut,
 ) -> Result<Tree, AllocError>
-    ensures { IfOk result (λ t. t ≡ window_response account.now (changes_of (entries store.now)) (paging_in paging.now) false ids.now cut) }
+    ensures { IfOk result (λ t. t ≡ numbers_window account.now (changes_of (entries store.now)) (paging_in paging.now) ids.now cut) }
+{
+    let part = Part {
+        ids: id_list(alloc, Kind::Event, cut_out(cut, ids))?,
+        total: ids.len() as u64,
+        cut,
+    };
+    window_tree(alloc, store, account, paging, false, part)
+}
+
+/// The part of a result that a query asks for.
+#[derive(Drop)]
+pub struct Part {
+    /// The ids in it.
+    pub ids: Tree,
+    /// The length of the result.
+    pub total: u64,
+    /// The places of the ids in the result.
+    pub cut: Cut,
+}
+
+/// The arguments of the reply that tells a part of a result. Where each occurrence is a result of its own (`expand`), what changes of the
+/// result isn't told.
+pub fn window_tree(
+    alloc: Global,
+    store: &Store,
+    account: &Text,
+    paging: &Paging<'_>,
+    expand: bool,
+    part: Part,
+) -> Result<Tree, AllocError>
+    ensures { IfOk result (λ t. t ≡ window_response account.now (changes_of (entries store.now)) (paging_in paging.now) expand (data_of part.ids) part.total part.cut) }
 {
     let mut members = vec![in alloc;
         ("accountId", Tree::Text(account.copy()?)),
-        ("canCalculateChanges", Tree::Truth(true)),
-        ("ids", id_list(alloc, Kind::Event, ids_within(cut, ids))?),
+        ("canCalculateChanges", Tree::Truth(!expand)),
+        ("ids", part.ids),
     ]?;
     if !is_own_limit(paging.limit) {
         members.push(("limit", number_tree(MAX_IDS_IN_QUERY as u64)))?;
     }
-    members.push(("position", number_tree(cut.from)))?;
+    members.push(("position", number_tree(part.cut.from)))?;
     members.push(("queryState", state_tree(alloc, store.count(Kind::Event))?))?;
     if paging.calculate_total {
-        members.push(("total", number_tree(ids.len() as u64)))?;
+        members.push(("total", number_tree(part.total)))?;
     }
     Tree::object(alloc, members)
 }

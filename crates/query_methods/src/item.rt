@@ -3,7 +3,7 @@ ghost use Rattle.std.specs.Prelude.{◌≡◌, IfOk, codes, option_and_then};
 ghost use Rattle.model_event.specs.Events.{start_in};
 ghost use Rattle.model_json.specs.Parts.{text_at};
 ghost use Rattle.model_json.specs.TreeData.{data_of};
-ghost use Rattle.model_queries.specs.Items.{item_of, moment_at, start_instant, text_or_empty};
+ghost use Rattle.model_queries.specs.Items.{item_of, utc_moment, start_instant, text_or_empty};
 ghost use Rattle.model_time.specs.LocalTimes.{local_in, utc_in};
 
 use model_json::text::Text;
@@ -32,12 +32,13 @@ pub fn item_of(
         start: start_instant(zones, floating, event),
         uid,
         title,
-        created: moment_at(event, "created"),
-        updated: moment_at(event, "updated"),
+        created: utc_moment(event, "created"),
+        updated: utc_moment(event, "updated"),
     })
 }
 
-fn text_or_empty(alloc: Global, event: &Tree, key: &str) -> Result<Text, AllocError>
+/// The text at a key of an event, empty where there is none. Takes memory for a copy.
+pub fn text_or_empty(alloc: Global, event: &Tree, key: &str) -> Result<Text, AllocError>
     ensures { IfOk result (λ text. text ≡ text_or_empty key.now (data_of event.now)) }
 {
     match event.text_at(key) {
@@ -46,8 +47,9 @@ fn text_or_empty(alloc: Global, event: &Tree, key: &str) -> Result<Text, AllocEr
     }
 }
 
-fn moment_at(event: &Tree, key: &str) -> i64
-    ensures { result ≡ moment_at key.now (data_of event.now) }
+/// The moment that the UTCDate at a key of an event names, in seconds of UTC from 1970, or 0 where there is none. Takes no memory.
+pub fn utc_moment(event: &Tree, key: &str) -> i64
+    ensures { result ≡ utc_moment key.now (data_of event.now) }
 {
     match given_moment(event, key) {
         Some(moment) => moment,

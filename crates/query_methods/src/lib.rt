@@ -2,10 +2,10 @@
 #![tactic(auto)]
 
 mod changed;
-mod criteria;
+pub mod criteria;
 pub mod error;
 mod filter_sight;
-mod found;
+pub mod found;
 pub mod ids;
 pub mod item;
 pub mod laws;

@@ -12,7 +12,7 @@ use model_core::numbers::MAX_UNSIGNED_INT;
 use model_json::num::Num;
 
 /// Whether positions and offsets are Ints, and the limit is an UnsignedInt (RFC 8620 section 1.3). Takes no memory.
-pub(crate) fn is_paging(paging: &Paging<'_>) -> bool
+pub fn is_paging(paging: &Paging<'_>) -> bool
     ensures { result ≡ is_paging (paging_in paging.now) }
 {
     is_int(paging.position) && is_int(paging.anchor_offset) && is_limit(paging.limit)

@@ -1,5 +1,5 @@
 //! `CalendarEvent/query` (RFC 8620 section 5.5, draft JMAP for Calendars).
-ghost use Rattle.std.specs.Prelude.{◌≡◌, IfErr, IfOk, OnOk, None};
+ghost use Rattle.std.specs.Prelude.{◌≡◌, IfErr, IfOk, OnOk, None, false};
 ghost use Rattle.account_store.specs.Store.{entries};
 ghost use Rattle.model_history.specs.History.{changes_of};
 ghost use Rattle.model_queries.specs.Queries.{query_refusal, query_response};
@@ -11,35 +11,29 @@ use crate::error::QueryError;
 use crate::found::found;
 use crate::numbers::is_paging;
 use crate::request::{Criteria, Paging};
-use account_store::Store;
+use event_store::StoredEvents;
 use model_call::call::MethodError;
 use model_json::text::Text;
 use model_json::tree::Tree;
 use std::alloc::Global;
-use zone_table::Zones;
 
-/// The arguments of the reply to a query of the events of an account. `Method` tells why it is refused.
+/// The arguments of the reply to a query of the events of an account, each a result. `Method` tells why it is refused.
 ///
-/// Takes memory for the items of the events that the filter holds of. Time grows with the number of live events.
+/// Takes memory for the events that the filter holds of, and where there are comparators for their items. Time grows with the number of events.
 pub fn query(
     alloc: Global,
-    store: &Store,
+    events: &StoredEvents<'_>,
     account: &Text,
-    zones: &Zones,
     criteria: &Criteria<'_>,
-    expand: bool,
     paging: &Paging<'_>,
 ) -> Result<Tree, QueryError>
-    ensures response { IfOk result (λ t. t ≡ query_response zones.now (changes_of (entries store.now)) (criteria_in criteria.now) expand account.now (paging_in paging.now)) }
-    ensures answered { OnOk result (query_refusal zones.now (changes_of (entries store.now)) (criteria_in criteria.now) expand (paging_in paging.now) ≡ None) }
-    ensures refused { IfErr result (λ e. Reports e (query_refusal zones.now (changes_of (entries store.now)) (criteria_in criteria.now) expand (paging_in paging.now))) }
+    ensures response { IfOk result (λ t. t ≡ query_response events.now.zones.now (changes_of (entries events.now.store.now)) (criteria_in criteria.now) false account.now (paging_in paging.now)) }
+    ensures answered { OnOk result (query_refusal events.now.zones.now (changes_of (entries events.now.store.now)) (criteria_in criteria.now) false (paging_in paging.now) ≡ None) }
+    ensures refused { IfErr result (λ e. Reports e (query_refusal events.now.zones.now (changes_of (entries events.now.store.now)) (criteria_in criteria.now) false (paging_in paging.now))) }
 {
-    if expand {
-        return Err(QueryError::Method(MethodError::NotBuilt));
-    }
     if !is_paging(paging) {
         return Err(QueryError::Method(MethodError::InvalidArguments));
     }
-    let terms = read_terms(alloc, zones, criteria)?;
-    found(alloc, store, account, &terms.sight, &terms.order, paging)
+    let terms = read_terms(alloc, events.zones, criteria)?;
+    found(alloc, events, account, &terms.sight, &terms.order, paging)
 }

@@ -16,6 +16,7 @@ use crate::error::QueryError;
 use crate::numbers::is_maximum;
 use crate::request::{Criteria, Since};
 use account_store::Store;
+use event_store::StoredEvents;
 use model_call::call::MethodError;
 use model_history::entry::Kind;
 use model_json::text::Text;
@@ -23,7 +24,6 @@ use model_json::tree::Tree;
 use state_log::WINDOW;
 use std::alloc::Global;
 use time_text::read_state;
-use zone_table::Zones;
 
 /// The arguments of the reply that tells what changed of the result of a query since a state. `Method` tells why it isn't told.
 ///
@@ -31,26 +31,25 @@ use zone_table::Zones;
 /// Time grows with the number of live events.
 pub fn query_changes(
     alloc: Global,
-    store: &Store,
+    events: &StoredEvents<'_>,
     account: &Text,
-    zones: &Zones,
     criteria: &Criteria<'_>,
     expand: bool,
     since: &Since<'_>,
 ) -> Result<Tree, QueryError>
-    ensures response { IfOk result (λ t. t ≡ query_changes_response zones.now (changes_of (entries store.now)) (criteria_in criteria.now) expand account.now (since_in since.now)) }
-    ensures answered { OnOk result (query_changes_refusal zones.now (changes_of (entries store.now)) (criteria_in criteria.now) expand (since_in since.now) ≡ None) }
-    ensures refused { IfErr result (λ e. Reports e (query_changes_refusal zones.now (changes_of (entries store.now)) (criteria_in criteria.now) expand (since_in since.now))) }
+    ensures response { IfOk result (λ t. t ≡ query_changes_response events.now.zones.now (changes_of (entries events.now.store.now)) (criteria_in criteria.now) expand account.now (since_in since.now)) }
+    ensures answered { OnOk result (query_changes_refusal events.now.zones.now (changes_of (entries events.now.store.now)) (criteria_in criteria.now) expand (since_in since.now) ≡ None) }
+    ensures refused { IfErr result (λ e. Reports e (query_changes_refusal events.now.zones.now (changes_of (entries events.now.store.now)) (criteria_in criteria.now) expand (since_in since.now))) }
 {
     if !is_maximum(since.most) {
         return Err(QueryError::Method(MethodError::InvalidArguments));
     }
-    let terms = read_terms(alloc, zones, criteria)?;
-    match known_state(store, since.state) {
+    let terms = read_terms(alloc, events.zones, criteria)?;
+    match known_state(events.store, since.state) {
         Some(state) if !expand => {
             changed(
                 alloc,
-                store,
+                events,
                 account,
                 &terms.sight,
                 &terms.order,

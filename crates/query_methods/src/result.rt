@@ -6,10 +6,10 @@ ghost use Rattle.model_history.specs.History.{changes_of, live_object};
 ghost use Rattle.model_history.specs.Pages.{is_in};
 ghost use Rattle.model_history.specs.declared.entry.Kind.TheVariants.{Event};
 ghost use Rattle.model_query.specs.Matching.{match_of, result_at, result_of, with_number};
-ghost use Rattle.query_methods.specs.Among.{matches_among, result_among};
+ghost use Rattle.query_methods.specs.Among.{matches_among, number_if, result_among};
 
 use crate::sight::Sight;
-use account_store::Store;
+use event_store::StoredEvents;
 use model_history::entry::Kind;
 use model_query::item::Item;
 use query_order::change::numbers_among;
@@ -19,52 +19,58 @@ use std::alloc::{AllocError, Global};
 
 /// The numbers of the events in the result of a query, in its order (RFC 8620 section 5.5).
 ///
-/// Takes memory for the items of all of them. Time grows with the number of live events.
+/// Takes memory for them, and where there are comparators for the items of all of them. Time grows with the number of events.
 #[tactic(auto, using(crate::proofs::ResultLemmas::result_now))]
 pub fn current_result<S: Sight>(
     alloc: Global,
-    store: &Store,
+    events: &StoredEvents<'_>,
     sight: &S,
     order: &Order,
 ) -> Result<Vec<u64>, AllocError>
-    ensures { IfOk result (λ v. v.items ≡ result_of (S.see sight.now) order.now (changes_of (entries store.now))) }
+    requires { S.zones sight.now ≡ events.now.zones.now }
+    ensures { IfOk result (λ v. v.items ≡ result_of (S.see sight.now) order.now (changes_of (entries events.now.store.now))) }
 {
-    let state = store.count(Kind::Event);
-    let live = store.live_ids_at(alloc, Kind::Event, state)?;
-    result_among(alloc, store, sight, order, state, live.items())
+    let state = events.store.count(Kind::Event);
+    let numbers = events.store.ids(Kind::Event);
+    result_among(alloc, events, sight, order, state, numbers)
 }
 
 /// Those of the numbers in the result at state `state` of events that are in a list, in the order of the result.
 ///
-/// Takes memory for their items alone.
+/// Takes memory for them and their items alone, and for the list of those that were live then.
 #[tactic(auto, using(crate::proofs::ResultLemmas::touched_result))]
 pub(crate) fn touched_result<S: Sight>(
     alloc: Global,
-    store: &Store,
+    events: &StoredEvents<'_>,
     sight: &S,
     order: &Order,
     state: u64,
     touched: &[u64],
 ) -> Result<Vec<u64>, AllocError>
-    ensures { IfOk result (λ v. filter (is_in touched.now) v.items ≡ filter (is_in touched.now) (result_at (S.see sight.now) order.now (changes_of (entries store.now)) state)) }
+    requires { S.zones sight.now ≡ events.now.zones.now }
+    ensures { IfOk result (λ v. filter (is_in touched.now) v.items ≡ filter (is_in touched.now) (result_at (S.see sight.now) order.now (changes_of (entries events.now.store.now)) state)) }
 {
-    let live = store.live_ids_at(alloc, Kind::Event, state)?;
+    let live = events.store.live_ids_at(alloc, Kind::Event, state)?;
     let among = numbers_among(alloc, live.items(), touched)?;
-    result_among(alloc, store, sight, order, state, &among)
+    result_among(alloc, events, sight, order, state, &among)
 }
 
 // The result of a query that looks at these events alone, at a state.
 fn result_among<S: Sight>(
     alloc: Global,
-    store: &Store,
+    events: &StoredEvents<'_>,
     sight: &S,
     order: &Order,
     state: u64,
     numbers: &[u64],
 ) -> Result<Vec<u64>, AllocError>
-    ensures { IfOk result (λ v. v.items ≡ result_among (S.see sight.now) order.now (changes_up_to (entries store.now) Event state) numbers.now) }
+    requires { S.zones sight.now ≡ events.now.zones.now }
+    ensures { IfOk result (λ v. v.items ≡ result_among (S.see sight.now) order.now (changes_up_to (entries events.now.store.now) Event state) numbers.now) }
 {
-    let matches = matches_among(alloc, store, sight, state, numbers)?;
+    if order.is_empty() {
+        return found_among(alloc, events, sight, state, numbers);
+    }
+    let matches = matches_among(alloc, events, sight, state, numbers)?;
     let places = result(alloc, &matches.items, order)?;
     numbers_at(alloc, &matches.numbers, places.items())
 }
@@ -78,19 +84,20 @@ struct Matches {
 
 fn matches_among<S: Sight>(
     alloc: Global,
-    store: &Store,
+    events: &StoredEvents<'_>,
     sight: &S,
     state: u64,
     numbers: &[u64],
 ) -> Result<Matches, AllocError>
-    ensures numbers { IfOk result (λ m. m.numbers.items ≡ map (λ p. p.0) (matches_among (S.see sight.now) (changes_up_to (entries store.now) Event state) numbers.now)) }
-    ensures items { IfOk result (λ m. m.items.items ≡ map (λ p. p.1) (matches_among (S.see sight.now) (changes_up_to (entries store.now) Event state) numbers.now)) }
+    requires { S.zones sight.now ≡ events.now.zones.now }
+    ensures numbers { IfOk result (λ m. m.numbers.items ≡ map (λ p. p.0) (matches_among (S.see sight.now) (changes_up_to (entries events.now.store.now) Event state) numbers.now)) }
+    ensures items { IfOk result (λ m. m.items.items ≡ map (λ p. p.1) (matches_among (S.see sight.now) (changes_up_to (entries events.now.store.now) Event state) numbers.now)) }
     ensures paired { IfOk result (λ m. length m.numbers.items ≡ length m.items.items) }
 {
     let mut found = Vec::new(alloc);
     let mut items = Vec::new(alloc);
     for number in numbers {
-        if let Some(item) = item_at(alloc, store, sight, state, *number)? {
+        if let Some(item) = item_at(alloc, events, sight, state, *number)? {
             found.push(*number)?;
             items.push(item)?;
         }
@@ -103,15 +110,52 @@ fn matches_among<S: Sight>(
 
 fn item_at<S: Sight>(
     alloc: Global,
-    store: &Store,
+    events: &StoredEvents<'_>,
     sight: &S,
     state: u64,
     number: u64,
 ) -> Result<Option<Item>, AllocError>
-    ensures { IfOk result (λ o. with_number number o ≡ match_of (S.see sight.now) number (live_object (changes_up_to (entries store.now) Event state) Event number)) }
+    requires { S.zones sight.now ≡ events.now.zones.now }
+    ensures { IfOk result (λ o. with_number number o ≡ match_of (S.see sight.now) number (live_object (changes_up_to (entries events.now.store.now) Event state) Event number)) }
 {
-    match store.object_at(Kind::Event, number, state) {
-        Some(event) => sight.see(alloc, event),
+    match events.event_at(number, state) {
+        Some(event) => sight.see(alloc, &event),
         None => Ok(None),
+    }
+}
+
+// The numbers of the events of which a filter holds. No items are made of them.
+fn found_among<S: Sight>(
+    alloc: Global,
+    events: &StoredEvents<'_>,
+    sight: &S,
+    state: u64,
+    numbers: &[u64],
+) -> Result<Vec<u64>, AllocError>
+    requires { S.zones sight.now ≡ events.now.zones.now }
+    ensures { IfOk result (λ v. v.items ≡ map (λ p. p.0) (matches_among (S.see sight.now) (changes_up_to (entries events.now.store.now) Event state) numbers.now)) }
+{
+    let mut found = Vec::new(alloc);
+    for number in numbers {
+        if is_match(alloc, events, sight, state, *number)? {
+            found.push(*number)?;
+        }
+    }
+    Ok(found)
+}
+
+fn is_match<S: Sight>(
+    alloc: Global,
+    events: &StoredEvents<'_>,
+    sight: &S,
+    state: u64,
+    number: u64,
+) -> Result<bool, AllocError>
+    requires { S.zones sight.now ≡ events.now.zones.now }
+    ensures { IfOk result (λ b. number_if b number ≡ map (λ p. p.0) (match_of (S.see sight.now) number (live_object (changes_up_to (entries events.now.store.now) Event state) Event number))) }
+{
+    match events.event_at(number, state) {
+        Some(event) => sight.holds(alloc, &event),
+        None => Ok(false),
     }
 }

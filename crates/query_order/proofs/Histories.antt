@@ -136,7 +136,7 @@ object_step : (k : Bool) (c : Change) (cs : List Change) (before : Option Tree) 
 object_step true c cs before id e h = h (cond (names Event id c) c.object before)
 object_step false c cs before id e h = h before ∙ ap (λ k. object_from (cond (k && (id == c.id)) c.object before) cs Event id) (sym e)
 
-object_of_events : (cs : List Change) (before : Option Tree) (id : ℕ) → object_from before (of_events cs) Event id ≡ object_from before cs Event id
+pub object_of_events : (cs : List Change) (before : Option Tree) (id : ℕ) → object_from before (of_events cs) Event id ≡ object_from before cs Event id
 object_of_events [] before id = refl
 object_of_events (c ∷ cs) before id = object_step (is_kind Event c.kind) c cs before id refl (λ b. object_of_events cs b id)
 
@@ -146,7 +146,7 @@ ids_step : (k : Bool) (c : Change) (cs : List Change) (ids : List ℕ) → is_ki
 ids_step true c cs ids e h = h (cond (is_kind Event c.kind) (with_id ids c.id) ids)
 ids_step false c cs ids e h = h ids ∙ ap (λ k. ids_from (cond k (with_id ids c.id) ids) cs Event) (sym e)
 
-ids_of_events : (cs : List Change) (ids : List ℕ) → ids_from ids (of_events cs) Event ≡ ids_from ids cs Event
+pub ids_of_events : (cs : List Change) (ids : List ℕ) → ids_from ids (of_events cs) Event ≡ ids_from ids cs Event
 ids_of_events [] ids = refl
 ids_of_events (c ∷ cs) ids = ids_step (is_kind Event c.kind) c cs ids refl (λ b. ids_of_events cs b)
 

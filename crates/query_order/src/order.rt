@@ -1,5 +1,5 @@
 //! Orders of a query's result.
-ghost use Rattle.std.specs.Prelude.{◌≡◌, ◌≤◌, length};
+ghost use Rattle.std.specs.Prelude.{◌≡◌, ◌≤◌, ◌↔◌, [], IsTrue, length};
 ghost use Rattle.model_query.specs.Comparing.{by_property, by_comparator, by_all};
 
 use model_query::comparator::{Comparator, MOST_COMPARATORS, Property};
@@ -32,6 +32,13 @@ impl Order {
         ensures { result ≡ comparators.items }
     {
         Order { comparators }
+    }
+
+    /// Whether there are no comparators. Takes no memory.
+    pub fn is_empty(&self) -> bool
+        ensures { IsTrue result ↔ (self.now ≡ []) }
+    {
+        self.comparators.is_empty()
     }
 
     /// How two items stand to each other: `Equal` where no comparator tells them apart. Takes no memory.

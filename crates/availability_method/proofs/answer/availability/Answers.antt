@@ -25,7 +25,7 @@ no_zone base id start end zone h = rw (not_all (bytes_eq id base.account_id) _ _
 
 pub returns-then-ne : goal.returns-then-ne
 returns-then-ne c =
-    let base : Base = record { account_id = c.args.account.now; zones = c.args.zones.now } in
+    let base : Base = record { account_id = c.args.account.now; zones = c.args.events.now.zones.now } in
     let r = c.args.request.now in
     elim c.then-ne.branch [
       | then-ne-via-then-ne w ↦ other_id base r.id.now r.utc_start.now r.utc_end.now r.time_zone.now (rw (c.as_str.ensures, c.as_str-2.ensures) at (not_is _ (sym c.ne.ensures ∙ w.if-ne.true)))

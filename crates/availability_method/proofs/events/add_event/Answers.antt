@@ -1,4 +1,4 @@
-use Rattle.std.proofs.Common.{◌∙◌, sym}
+use Rattle.std.proofs.Common.{◌∙◌, ap, option_map, sym}
 use Rattle.jiff_tz.specs.PosixText.{tz_view}
 use Rattle.model_json.specs.TreeData.{data_of}
 use Rattle.model_recurrence.specs.SeriesOf.{series_in}
@@ -8,5 +8,5 @@ use Rattle.availability_method.proofs.events.add_event.Goals as goal
 
 pub returns-clause-busy : goal.returns-clause-busy
 returns-clause-busy c = one_more_by c.add.result c.args.busy.now.window c.args.busy.now.periods.items c.add.new.self.periods.items
-    (series_in c.args.zones.now (data_of c.args.event.now)) (rule_of_event c.args.zones.now c.args.floating.now (data_of c.args.event.now)) c.in-Some.series (tz_view c.in-Some-rule_of_event.rule)
-    (sym c.in_ok-series.ensures ∙ c.in-Some.is) (sym c.in-Some-rule_of_event.ensures) c.add.ensures.busy
+    (series_in c.args.zones.now (data_of c.args.event.now.object.now)) (rule_of_event c.args.zones.now c.args.floating.now (data_of c.args.event.now.object.now)) c.in-Some.series.now (tz_view c.in-Some-rule_of_event.rule)
+    (sym c.requires ∙ ap (option_map (λ s. s.now)) c.in-Some.is) (sym c.in-Some-rule_of_event.ensures) c.add.ensures.busy

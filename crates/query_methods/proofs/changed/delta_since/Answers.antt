@@ -9,11 +9,11 @@ use Rattle.query_methods.proofs.changed.delta_since.Goals as goal
 
 pub touched_since-requires-clause-count : goal.touched_since-requires-clause-count
 touched_since-requires-clause-count g c =
-    c.count.ensures ∙ state_counts (changes_of (entries c.args.store.now)) ∙ ap (λ es. length (of_events (changes_of es))) (sym c.entries.ensures)
+    c.count.ensures ∙ state_counts (changes_of (entries c.args.events.now.store.now)) ∙ ap (λ es. length (of_events (changes_of es))) (sym c.entries.ensures)
 
 pub returns : goal.returns
 returns g c =
-    let cs = changes_of (entries c.args.store.now) in
+    let cs = changes_of (entries c.args.events.now.store.now) in
     let touched : c.deref-3.result.now ≡ touched_since cs c.args.state =
     c.deref-3.ensures.value ∙ c.in_ok-touched.ensures ∙ ap (λ es. touched_since (changes_of es) c.args.state) c.entries.ensures in
     let lists : c.deref.result.now ≡ c.deref-3.result.now = c.deref.ensures.value ∙ sym c.deref-3.ensures.value in

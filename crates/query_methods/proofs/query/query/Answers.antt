@@ -1,4 +1,4 @@
-use Rattle.std.proofs.Common.{◌≡◌, subst, sym, ◌∙◌}
+use Rattle.std.proofs.Common.{◌≡◌, false, subst, sym, ◌∙◌}
 use Rattle.std.proofs.lemmas.Result.{IfErr-weaker, IfOk-weaker, on_ok_weaker}
 use Rattle.account_store.specs.Store.{entries}
 use Rattle.model_history.specs.History.{changes_of}
@@ -12,28 +12,28 @@ use Rattle.query_methods.specs.Requests.{criteria_in, paging_in}
 
 pub returns-clause-response : goal.returns-clause-response
 returns-clause-response c =
-    let cs = changes_of (entries c.args.store.now) in
+    let cs = changes_of (entries c.args.events.now.store.now) in
     let asked = criteria_in c.args.criteria.now in
     IfOk-weaker c.found.result _ _
-    (λ t is. is ∙ (λ i. found_response (c.in_ok-terms.ensures.sight i) (c.in_ok-terms.ensures.order i) cs (paging_in c.args.paging.now) c.args.account.now (sym c.if-expand.false i)))
+    (λ t is. is ∙ (λ i. found_response (c.in_ok-terms.ensures.sight i) (c.in_ok-terms.ensures.order i) cs (paging_in c.args.paging.now) c.args.account.now))
     c.found.ensures.response
 
 pub returns-clause-answered : goal.returns-clause-answered
 returns-clause-answered c =
-    let cs = changes_of (entries c.args.store.now) in
+    let cs = changes_of (entries c.args.events.now.store.now) in
     let asked = criteria_in c.args.criteria.now in
     let p = paging_in c.args.paging.now in
-    let told : query_refusal c.args.zones.now cs asked c.args.expand p ≡ anchor_refusal (seen_by c.in_ok-terms.terms.sight) c.in_ok-terms.terms.order cs p =
-    by_anchor c.args.zones.now cs asked c.args.expand p c.if-expand.false (sym c.is_paging.ensures ∙ c.if-not-is_paging.false) c.in_ok-terms.ensures.known
+    let told : query_refusal c.args.events.now.zones.now cs asked false p ≡ anchor_refusal (seen_by c.in_ok-terms.terms.sight) c.in_ok-terms.terms.order cs p =
+    by_anchor c.args.events.now.zones.now cs asked p (sym c.is_paging.ensures ∙ c.if-not-is_paging.false) c.in_ok-terms.ensures.known
     ∙ (λ i. anchor_refusal (sym c.in_ok-terms.ensures.sight i) (sym c.in_ok-terms.ensures.order i) cs p) in
     on_ok_weaker c.found.result (λ none. told ∙ none) c.found.ensures.found
 
 pub returns-clause-refused : goal.returns-clause-refused
 returns-clause-refused c =
-    let cs = changes_of (entries c.args.store.now) in
+    let cs = changes_of (entries c.args.events.now.store.now) in
     let asked = criteria_in c.args.criteria.now in
     let p = paging_in c.args.paging.now in
-    let told : query_refusal c.args.zones.now cs asked c.args.expand p ≡ anchor_refusal (seen_by c.in_ok-terms.terms.sight) c.in_ok-terms.terms.order cs p =
-    by_anchor c.args.zones.now cs asked c.args.expand p c.if-expand.false (sym c.is_paging.ensures ∙ c.if-not-is_paging.false) c.in_ok-terms.ensures.known
+    let told : query_refusal c.args.events.now.zones.now cs asked false p ≡ anchor_refusal (seen_by c.in_ok-terms.terms.sight) c.in_ok-terms.terms.order cs p =
+    by_anchor c.args.events.now.zones.now cs asked p (sym c.is_paging.ensures ∙ c.if-not-is_paging.false) c.in_ok-terms.ensures.known
     ∙ (λ i. anchor_refusal (sym c.in_ok-terms.ensures.sight i) (sym c.in_ok-terms.ensures.order i) cs p) in
     IfErr-weaker c.found.result _ _ (λ e reports. subst (Reports e) (sym told) reports) c.found.ensures.refused

@@ -7,9 +7,9 @@ use Rattle.query_methods.specs.Among.{matches_among}
 
 abbrev pub invariant-loop-number : goal.invariant-loop-number
 invariant-loop-number g l = record {
-  numbers : l.found.items ++ map (λ p. p.0) (matches_among (g.S.Sight.see l.sight) (changes_up_to (entries l.store) Event l.state) (drop l.number-index l.numbers))
-      ≡ map (λ p. p.0) (matches_among (g.S.Sight.see l.sight) (changes_up_to (entries l.store) Event l.state) l.numbers);
-  items : l.items.items ++ map (λ p. p.1) (matches_among (g.S.Sight.see l.sight) (changes_up_to (entries l.store) Event l.state) (drop l.number-index l.numbers))
-      ≡ map (λ p. p.1) (matches_among (g.S.Sight.see l.sight) (changes_up_to (entries l.store) Event l.state) l.numbers);
+  numbers : l.found.items ++ map (λ p. p.0) (matches_among (g.S.Sight.see l.sight) (changes_up_to (entries l.events.store.now) Event l.state) (drop l.number-index l.numbers))
+      ≡ map (λ p. p.0) (matches_among (g.S.Sight.see l.sight) (changes_up_to (entries l.events.store.now) Event l.state) l.numbers);
+  items : l.items.items ++ map (λ p. p.1) (matches_among (g.S.Sight.see l.sight) (changes_up_to (entries l.events.store.now) Event l.state) (drop l.number-index l.numbers))
+      ≡ map (λ p. p.1) (matches_among (g.S.Sight.see l.sight) (changes_up_to (entries l.events.store.now) Event l.state) l.numbers);
   paired : length l.found.items ≡ length l.items.items;
 }

@@ -2,6 +2,7 @@ use Rattle.std.proofs.Common.{◌≡◌, ap, append-nil, refl, subst, sym, ◌�
 use Rattle.std.specs.Arc.{arc_value}
 use Rattle.account_core.proofs.Committing.{tally_committed}
 use Rattle.account_core.proofs.Rooms.{none_staged, rooms_committed}
+use Rattle.account_core.proofs.SeriesRead.{read_committed}
 use Rattle.account_core.specs.Tally.{Tallies}
 use Rattle.account_rooms.specs.Rooms.{AreRooms}
 use Rattle.account_rooms.specs.RoomsView.{RoomsView}
@@ -22,6 +23,7 @@ invariant_of-self c =
     record {
       kept_told = kept;
       told = subst (λ items. Tallies c.args.self.now.tally (changes_of (entries c.push_all.new.store) ++ items)) (sym emptied) (rw append-nil kept);
+      series_read = read_committed zones _ _ c.args.stamp.now _ c.replace-staged.new.dest.items c.args.self.now.series c.args.self.now.series_read pushed emptied;
       kept_rooms = subst (AreRooms zones (changes_of (entries c.push_all.new.store))) (sym then) rooms;
       rooms_now = none_staged zones _ _ c.args.self.now.rooms.rooms c.keep.new.self.rooms rooms emptied now;
     }

@@ -3,11 +3,13 @@ use Rattle.std.specs.Arc.{arc_value}
 use Rattle.account_core.proofs.Counting.{next, tally_counted}
 use Rattle.account_core.proofs.Numbers.{new_is_next}
 use Rattle.account_core.proofs.Rooms.{one_staged}
+use Rattle.account_core.proofs.SeriesRead.{one_read}
 use Rattle.account_core.specs.Ledger.{history, staged}
 use Rattle.account_core.specs.Tally.{count_created}
 use Rattle.account_rooms.proofs.Following.{rooms_may}
 use Rattle.account_rooms.specs.RoomChanges.{MayChange, rooms_after}
 use Rattle.account_rooms.specs.Rooms.{AreRooms}
+use Rattle.event_store.specs.SeriesPut.{series_put}
 use Rattle.model_history.specs.declared.entry.Kind.TheVariants.{Calendar}
 use Rattle.account_core.proofs.ledger.LedgerAccountView.stage.Goals as goal
 
@@ -32,6 +34,8 @@ invariant_of-self c =
       kept_told = l.kept_told;
       told = rw (c.push_reserved.ensures.items, c.follow.ensures.staged, ← append_assoc)
           (tally_counted l.tally c.count.new.self _ c.args.change c.args.size l.told c.requires.fit.number c.requires.size c.count.ensures.entries c.count.ensures.size c.count.ensures.created);
+      series_read = one_read zones (history l) (staged l) c.push_reserved.new.self.items c.args.change l.series c.follow.new.series l.series_read more
+          (c.in-Ok.ensures.series ∙ ap (λ zs. l.series ++ series_put zs c.args.change ∷ []) c.deref.ensures);
       kept_rooms = subst (AreRooms zones (history l)) (sym c.follow.ensures.kept) l.kept_rooms;
       rooms_now = one_staged zones (history l) (staged l) c.push_reserved.new.self.items c.args.change l.rooms.rooms c.follow.new.rooms.rooms l.rooms_now c.requires.fit new more after;
     }

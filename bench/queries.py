@@ -1,0 +1,131 @@
+#!/usr/bin/env python3
+"""Times queries of events and what changed of them by `jmapd stdio` on accounts of 3,000 and 45,000 events; README.md tells what it prints."""
+
+import json
+
+from availability import WEEKLY, fill, local
+from calendars import Connection
+from connections import TOKEN, next_body
+from events import TEAM
+from measure import compact, options
+
+USING = ["urn:ietf:params:jmap:core", "urn:ietf:params:jmap:calendars"]
+ACCOUNTS = (3_000, 45_000)
+MOST_GROWTH = 18  # of the time, for 15 times the events
+FOUR_YEARS = 4 * 365 * 1_440  # in minutes
+TIMES = 20
+
+
+def meeting(number, events):
+    """Events at any time of four years, in two zones, of which each third is weekly without end."""
+    zone = "America/New_York" if number % 2 else "Etc/UTC"
+    made = {"calendarIds": {"C1": True}, "start": local(number * (FOUR_YEARS // events)), "duration": "PT45M", "timeZone": zone, "title": f"Meeting {number}"}
+    return made | ({"recurrenceRules": WEEKLY} if number % 3 == 0 else {})
+
+
+def described(number, events):
+    """The same with three participants and a description, about 900 bytes as they are stored."""
+    return meeting(number, events) | {"participants": TEAM, "description": "What we talk about, and who prepares what of it. " * 6}
+
+
+def month(year):
+    return {"after": f"{year}-05-01T00:00:00", "before": f"{year}-06-01T00:00:00"}
+
+
+def ask(connection, name, arguments):
+    """The arguments of the answer to a call."""
+    body = compact({"using": USING, "methodCalls": [[name, {"accountId": "A1"} | arguments, "c"]]})
+    head = f"POST /jmap HTTP/1.1\r\nHost: localhost\r\nAuthorization: Bearer {TOKEN}\r\nContent-Length: {len(body)}\r\n\r\n"
+    connection.write(head.encode() + body, 1)
+    answer = json.loads(next_body(connection.program.stdout))["methodResponses"][0]
+    if answer[0] == "error":
+        raise ValueError(json.dumps(answer))
+    return answer[1]
+
+
+def timed(connection, name, arguments):
+    """The milliseconds of processor that a call takes, and the arguments of its answer."""
+    before = connection.milliseconds()
+    told = ask(connection, name, arguments)
+    return connection.milliseconds() - before, told
+
+
+def found(connection, condition):
+    taken, told = timed(connection, "CalendarEvent/query", {"filter": condition, "timeZone": "Etc/UTC", "calculateTotal": True})
+    return taken, told["total"]
+
+
+def in_2024(connection, _number):
+    return found(connection, month(2024))
+
+
+def in_2500(connection, _number):
+    return found(connection, month(2500))
+
+
+def with_text(connection, _number):
+    return found(connection, {"text": "MEETING 77"})
+
+
+def changed(connection, number):
+    """What changed of the events of a month when one was set anew."""
+    update = {"E1": {"title": f"Planning {number}"}}
+    since = ask(connection, "CalendarEvent/set", {"update": update})["oldState"]
+    asked = {"filter": month(2024), "timeZone": "Etc/UTC", "sinceQueryState": since}
+    taken, told = timed(connection, "CalendarEvent/queryChanges", asked)
+    return taken, len(told["removed"]) + len(told["added"])
+
+
+def weekly_ones(events):
+    return (events + 2) // 3
+
+
+def named_77(events):
+    return sum("77" == str(number)[:2] for number in range(events))
+
+
+# The events, the call, the most milliseconds that it may take of 3,000, and how much it tells, where that is easily said.
+CALLS = {
+    "ids of a month in 2024": (meeting, in_2024, 1.0, None),
+    "ids of a month in 2500": (meeting, in_2500, 1.0, weekly_ones),
+    "text search": (meeting, with_text, 3.0, named_77),
+    "text search, 900 bytes an event": (described, with_text, 3.0, named_77),
+    "changes after one update": (meeting, changed, 2.0, lambda _events: 2),
+}
+
+
+def milliseconds_of(binary, event, call, events, expected):
+    """The least milliseconds of processor that a call takes on an account of so many events."""
+    connection = Connection(binary)
+    fill(connection, lambda number: event(number, events), events)
+    figures = []
+    for number in range(TIMES):
+        taken, told = call(connection, number)
+        if expected and told != expected(events):
+            raise ValueError(f"{told} in place of {expected(events)}")
+        figures.append(taken)
+    connection.close()
+    return min(figures)
+
+
+def main():
+    chosen = options(__doc__)
+    missed = []
+    print("call                              events  milliseconds a call  at most")
+    for name, (event, call, most, expected) in CALLS.items():
+        figures = []
+        # 45,000 events of 900 bytes are more than an account may hold
+        for events in ACCOUNTS[: 1 if event == described else 2]:
+            goal = most if events == ACCOUNTS[0] else MOST_GROWTH * most
+            figures.append(min(milliseconds_of(chosen.binary, event, call, events, expected) for _ in range(chosen.rounds)))
+            print(f"{name:32} {events:7} {figures[-1]:20.3f}  {goal:7}", flush=True)
+            missed += [f"{name} is above {goal}"] if figures[-1] > goal else []
+        if len(figures) > 1:
+            growth = figures[1] / figures[0]
+            print(f"{name}: 45,000 events take {growth:.1f} times as long as 3,000")
+            missed += [f"{name} grows by {growth:.1f}"] if growth > MOST_GROWTH else []
+    print("all goals are met" if not missed else "missed: " + "; ".join(missed))
+
+
+if __name__ == "__main__":
+    main()

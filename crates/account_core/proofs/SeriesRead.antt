@@ -1,0 +1,38 @@
+-- What was read of changes, beside them.
+use Rattle.std.proofs.Common.{◌≡◌, ℕ, List, [], ◌∷◌, ◌++◌, Option, append-nil, append_assoc, length, map, take, refl, sym, ap, ◌∙◌}
+use Rattle.std.proofs.lemmas.List.{map-append}
+use Rattle.account_core.proofs.Committing.{changes_committed}
+use Rattle.cal_model.specs.Answer.{entries_from}
+use Rattle.event_store.specs.SeriesPut.{series_put}
+use Rattle.model_history.specs.History.{changes_of}
+use Rattle.model_history.specs.declared.entry.Change.{Change}
+use Rattle.model_history.specs.declared.entry.Entry.{Entry}
+use Rattle.model_history.specs.declared.stamp.Stamp.{Stamp}
+use Rattle.model_series.specs.declared.series.Series.{Series}
+use Rattle.model_site.specs.TimeZones.{ZoneText}
+
+module _ (zones : List ZoneText) where
+  -- one change more is staged
+  pub one_read : (cs staged more : List Change) (c : Change) (ss ts : List (Option Series)) → ss ≡ map (series_put zones) (cs ++ staged) → more ≡ staged ++ c ∷ []
+      → ts ≡ ss ++ series_put zones c ∷ [] → ts ≡ map (series_put zones) (cs ++ more)
+  one_read cs staged more c ss ts h is push =
+      push ∙ ap (λ l. l ++ series_put zones c ∷ []) h ∙ sym (map-append (series_put zones) (cs ++ staged) (c ∷ []))
+      ∙ ap (map (series_put zones)) (append_assoc cs staged (c ∷ []) ∙ ap (λ ds. cs ++ ds) (sym is))
+
+  take_read : (es : List Entry) (ds : List Change) → take (length es) (map (series_put zones) (changes_of es ++ ds)) ≡ map (series_put zones) (changes_of es)
+  take_read [] [] = refl
+  take_read [] (d ∷ ds) = refl
+  take_read (e ∷ es) ds = ap (λ l. series_put zones e.change ∷ l) (take_read es ds)
+
+  -- nothing is staged any more
+  pub none_read : (es : List Entry) (staged none : List Change) (n : ℕ) (ss ts : List (Option Series)) → ss ≡ map (series_put zones) (changes_of es ++ staged) → none ≡ [] → n ≡ length es
+      → ts ≡ take n ss → ts ≡ map (series_put zones) (changes_of es ++ none)
+  none_read es staged none n ss ts h is count cut =
+      cut ∙ ap (take n) h ∙ ap (λ m. take m (map (series_put zones) (changes_of es ++ staged))) count ∙ take_read es staged
+      ∙ ap (map (series_put zones)) (sym (append-nil (changes_of es)) ∙ ap (λ ds. changes_of es ++ ds) (sym is))
+
+  -- the staged changes are part of the history
+  pub read_committed : (h h' : List Entry) (s : Stamp) (cs none : List Change) (ss : List (Option Series)) → ss ≡ map (series_put zones) (changes_of h ++ cs) → h' ≡ h ++ entries_from s 0 cs
+      → none ≡ [] → ss ≡ map (series_put zones) (changes_of h' ++ none)
+  read_committed h h' s cs none ss read is empty =
+      read ∙ ap (map (series_put zones)) (sym (changes_committed h h' s cs is) ∙ sym (append-nil (changes_of h')) ∙ ap (λ ds. changes_of h' ++ ds) (sym empty))

@@ -1,0 +1,25 @@
+use Rattle.std.proofs.Common.{◌≡◌, MatchOption, None, Some, [], subst, subst₂, sym, ap, ◌∙◌}
+use Rattle.account_core.specs.Ledger.{base, ledger_entries}
+use Rattle.account_store.specs.Store.{entries}
+use Rattle.cal_model.specs.Answer.{answered, unless_error}
+use Rattle.model_availability.specs.Availability.{availability_refusal, availability_response}
+use Rattle.model_call.specs.declared.call.MethodError.TheVariants.{InvalidArguments}
+use Rattle.model_history.specs.Base.{Base}
+use Rattle.model_history.specs.History.{changes_of}
+use Rattle.account_core.proofs.queries.busy_periods.Goals as goal
+
+pub returns-in-Some : goal.returns-in-Some
+returns-in-Some c =
+    let l = c.args.ledger.now in
+    let q = c.args.request.now in
+    let h = ledger_entries l in
+    let events = c.events.result in
+    let lent : Base = record { account_id = l.id; zones = events.zones.now } in
+    let refusal = availability_refusal lent q.id.now q.utc_start.now q.utc_end.now q.time_zone.now in
+    let response = availability_response lent (changes_of (entries events.store.now)) q.utc_start.now q.utc_end.now q.time_zone.now in
+    let found = subst (λ r. MatchOption r (refusal ≡ Some InvalidArguments) (λ t. (refusal ≡ None) × (t ≡ response))) c.in-Some.is c.in_ok-arguments.ensures in
+    let told = subst₂ (λ zs s. (availability_refusal (record { account_id = l.id; zones = zs }) q.id.now q.utc_start.now q.utc_end.now q.time_zone.now ≡ None)
+        × (c.in-Some.arguments ≡ availability_response (record { account_id = l.id; zones = zs }) (changes_of (entries s)) q.utc_start.now q.utc_end.now q.time_zone.now))
+        c.events.ensures.zones c.events.ensures.store found in
+    c.reply.ensures ∙ ap (answered h c.in-Some.arguments) (c.new-in-Some.ensures ∙ c.new.ensures.items) ∙ ap (λ t. answered h t []) told.1
+    ∙ ap (λ e. unless_error h e (answered h (availability_response (base l) (changes_of h) q.utc_start.now q.utc_end.now q.time_zone.now) [])) (sym told.0)

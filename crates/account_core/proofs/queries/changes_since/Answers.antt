@@ -1,0 +1,20 @@
+use Rattle.std.proofs.Common.{◌≡◌, IfOk, [], subst₂}
+use Rattle.account_core.specs.Ledger.{ledger_entries}
+use Rattle.account_store.specs.Store.{entries}
+use Rattle.cal_model.specs.Answer.{answered, unless_error}
+use Rattle.model_history.specs.History.{changes_of}
+use Rattle.model_queries.specs.Queries.{query_changes_refusal, query_changes_response}
+use Rattle.query_methods.specs.Requests.{criteria_in, since_in}
+use Rattle.account_core.proofs.queries.changes_since.Goals as goal
+
+pub returns : goal.returns
+returns c =
+    let l = c.args.ledger.now in
+    let criteria = criteria_in c.args.criteria.now in
+    let since = since_in c.args.since.now in
+    let zones = c.events.result.zones.now in
+    let cs = changes_of (entries c.events.result.store.now) in
+    let changed = c.query_changes-changed.ensures in
+    subst₂ (λ zs s. IfOk c.told.result (λ r. r ≡ unless_error (ledger_entries l) (query_changes_refusal zs (changes_of (entries s)) criteria c.args.expand since)
+    (answered (ledger_entries l) (query_changes_response zs (changes_of (entries s)) criteria c.args.expand l.id since) []))) c.events.ensures.zones c.events.ensures.store
+    (c.told.ensures (query_changes_refusal zones cs criteria c.args.expand since) (query_changes_response zones cs criteria c.args.expand l.id since) changed.response changed.answered changed.refused)

@@ -1,0 +1,6 @@
+-- The lemmas, by subject.
+pub mod Earlier
+pub mod Seconds
+pub mod Others
+pub mod Resources
+pub mod Outcomes

@@ -1,0 +1,2 @@
+pub mod SeriesPut
+pub mod StoredEvents

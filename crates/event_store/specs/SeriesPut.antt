@@ -1,0 +1,17 @@
+-- What is read of the events that changes put.
+use Rattle.std.specs.Prelude.{◌≡◌, ℕ, List, Option, Some, None, option_and_then, slice_get, if◌then◌else◌}
+use Rattle.model_history.specs.History.{is_kind}
+use Rattle.model_history.specs.declared.entry.Change.{Change}
+use Rattle.model_history.specs.declared.entry.Kind.TheVariants.{Event}
+use Rattle.model_json.specs.TreeData.{data_of}
+use Rattle.model_recurrence.specs.SeriesOf.{series_in}
+use Rattle.model_series.specs.declared.series.Series.{Series}
+use Rattle.model_site.specs.TimeZones.{ZoneText}
+
+-- the series of the event that a change puts (RFC 8984 section 4.3); none for a calendar, a removal, and an event with a bad property
+abbrev pub series_put : List ZoneText → Change → Option Series
+series_put zones c = if is_kind Event c.kind then option_and_then (λ t. series_in zones (data_of t)) c.object else None
+
+-- at the place of each of these changes stands the series of the event that it puts
+abbrev pub AreRead : List ZoneText → List Change → List (Option Series) → Type 0
+AreRead zones cs ss = (place : ℕ) (c : Change) → slice_get cs place ≡ Some c → slice_get ss place ≡ Some (series_put zones c)

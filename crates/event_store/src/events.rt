@@ -1,0 +1,109 @@
+//! The events of an account's store.
+ghost use Rattle.std.specs.Prelude.{◌≡◌, ◌++◌, All, IfOk, IfSome, OnOk, map, option_and_then, option_map};
+ghost use Rattle.account_store.specs.Earlier.{changes_up_to};
+ghost use Rattle.account_store.specs.Places.{object_in};
+ghost use Rattle.account_store.specs.Store.{entries};
+ghost use Rattle.event_store.specs.SeriesPut.{AreRead};
+ghost use Rattle.event_store.specs.StoredEvents.{HasItsSeries};
+ghost use Rattle.model_history.specs.History.{changes_of, live_at, live_object};
+ghost use Rattle.model_history.specs.declared.entry.Kind.TheVariants.{Event};
+ghost use Rattle.model_json.specs.Parts.{some_of};
+
+use crate::series_log::SeriesLog;
+use account_store::Store;
+use model_history::entry::Kind;
+use model_json::tree::Tree;
+use model_series::series::Series;
+use std::alloc::{AllocError, Global};
+use zone_table::Zones;
+
+/// An event as it stands in an account.
+#[derive(Clone, Copy)]
+pub struct StoredEvent<'a> {
+    /// The event.
+    pub object: &'a Tree,
+    /// Its series, or `None` where a property of it is bad.
+    pub series: Option<&'a Series>,
+}
+
+/// The events of an account's store, each with its series as these zones have it.
+#[derive(Clone, Copy)]
+pub struct StoredEvents<'a> {
+    /// The account's store.
+    pub store: &'a Store,
+    /// The time zones that there are.
+    pub zones: &'a Zones,
+    series: &'a SeriesLog,
+    ghost read: { AreRead zones.now (changes_of (entries store.now)) series.now },
+}
+
+impl<'a> StoredEvents<'a> {
+    /// The events of a store, where the log begins with what was read of its changes. Takes no memory.
+    pub fn new(store: &'a Store, zones: &'a Zones, series: &'a SeriesLog) -> StoredEvents<'a>
+        requires { AreRead zones.now (changes_of (entries store.now)) series.now }
+        ensures store { result.store.now ≡ store.now }
+        ensures zones { result.zones.now ≡ zones.now }
+    {
+        StoredEvents {
+            store,
+            zones,
+            series,
+        }
+    }
+
+    /// The event of a number, where it is live. Takes no memory.
+    pub fn event(&self, id: u64) -> Option<StoredEvent<'a>>
+        ensures object { option_map (λ e. e.object.now) result ≡ live_object (changes_of (entries self.now.store.now)) Event id }
+        ensures series { IfSome result (HasItsSeries self.now.zones.now) }
+    {
+        self.event_in(self.store.place(Kind::Event, id))
+    }
+
+    /// The event of a number at state `k` of events, where it was live then. Takes no memory.
+    pub fn event_at(&self, id: u64, k: u64) -> Option<StoredEvent<'a>>
+        ensures object { option_map (λ e. e.object.now) result ≡ live_object (changes_up_to (entries self.now.store.now) Event k) Event id }
+        ensures series { IfSome result (HasItsSeries self.now.zones.now) }
+    {
+        self.event_in(self.store.place_at(Kind::Event, id, k))
+    }
+
+    /// The live events, in order of creation. Takes memory for the list.
+    ///
+    /// Time grows with the number of events that were ever created.
+    pub fn live(&self, alloc: Global) -> Result<Vec<StoredEvent<'a>>, AllocError>
+        ensures objects { IfOk result (λ v. map (λ e. e.object.now) v.items ≡ live_at (changes_of (entries self.now.store.now)) Event) }
+        ensures series { IfOk result (λ v. All (HasItsSeries self.now.zones.now) v.items) }
+    {
+        let mut live = Vec::new(alloc);
+        for id in self.store.ids(Kind::Event) {
+            push_some(&mut live, self.event(*id))?;
+        }
+        Ok(live)
+    }
+
+    // The event that the entry at a place puts.
+    fn event_in(&self, place: Option<usize>) -> Option<StoredEvent<'a>>
+        ensures object { option_map (λ e. e.object.now) result ≡ option_and_then (object_in (entries self.now.store.now) Event) place }
+        ensures series { IfSome result (HasItsSeries self.now.zones.now) }
+    {
+        let place = place?;
+        let object = self.store.object_in(Kind::Event, place)?;
+        Some(StoredEvent {
+            object,
+            series: self.series.get(place),
+        })
+    }
+}
+
+// Puts an event at the end, where there is one.
+fn push_some<'a>(
+    list: &mut Vec<StoredEvent<'a>>,
+    event: Option<StoredEvent<'a>>,
+) -> Result<(), AllocError>
+    ensures { OnOk result (list.new.items ≡ list.old.items ++ some_of event.entry) }
+{
+    if let Some(event) = event {
+        list.push(event)?;
+    }
+    Ok(())
+}

@@ -1,0 +1,5 @@
+pub mod TitleLemmas
+pub mod Searched
+pub mod Sorted
+pub mod RefusalLemmas
+pub mod PushLemmas

@@ -1,0 +1,30 @@
+//! The occurrences of a series that meet a window.
+ghost use Rattle.std.specs.Prelude.{◌≡◌, All, IfOk, true};
+ghost use Rattle.jiff_tz.specs.PosixText.{tz_view};
+ghost use Rattle.model_queries.specs.Expanded.{occurrences_meeting};
+ghost use Rattle.model_time.specs.Walls.{is_in_years};
+ghost use Rattle.model_window.specs.Clocks.{instant_in};
+ghost use Rattle.occurrence_windows.specs.Bounds.{AreNear};
+
+use jiff_tz::posix::TimeZone;
+use model_series::occurrence::Occurrence;
+use model_series::series::Series;
+use model_window::window::Window;
+use occurrence_windows::expanded;
+use std::alloc::{AllocError, Global};
+
+/// The occurrences of a series that meet a window, by their recurrence ids.
+pub(crate) fn occurrences_meeting(
+    alloc: Global,
+    series: &Series,
+    rule: &TimeZone,
+    window: Window,
+) -> Result<Vec<Occurrence>, AllocError>
+    requires { AreNear window }
+    ensures value { IfOk result (λ os. os.items ≡ occurrences_meeting series.now (instant_in (tz_view rule.now)) window) }
+    ensures years { IfOk result (λ os. All (λ o. is_in_years o.rid ≡ true) os.items) }
+{
+    let mut list = expanded(alloc, series, rule, window)?;
+    list.sort_by_key(|o| o.rid.seconds())?;
+    Ok(list)
+}

@@ -1,0 +1,41 @@
+//! `CalendarEvent/query` with `expandRecurrences` (RFC 8620 section 5.5, draft JMAP for Calendars).
+ghost use Rattle.std.specs.Prelude.{◌≡◌, IfErr, IfOk, OnOk, None, true};
+ghost use Rattle.account_store.specs.Store.{entries};
+ghost use Rattle.model_history.specs.History.{changes_of};
+ghost use Rattle.model_queries.specs.Queries.{query_refusal, query_response};
+ghost use Rattle.query_methods.specs.Reports.{Reports};
+ghost use Rattle.query_methods.specs.Requests.{criteria_in, paging_in};
+
+use crate::found::{expanded_ids, found};
+use crate::terms::read_terms;
+use event_store::StoredEvents;
+use model_call::call::MethodError;
+use model_json::text::Text;
+use model_json::tree::Tree;
+use query_methods::error::QueryError;
+use query_methods::numbers::is_paging;
+use query_methods::request::{Criteria, Paging};
+use std::alloc::Global;
+
+/// The arguments of the reply to a query of the events of an account, each of whose occurrences is a result of its own. `Method` tells why
+/// it is refused.
+///
+/// Takes memory for the ids and the items of all results. Time grows with the number of events and with that of the results.
+pub fn expanded_query(
+    alloc: Global,
+    events: &StoredEvents<'_>,
+    account: &Text,
+    criteria: &Criteria<'_>,
+    paging: &Paging<'_>,
+) -> Result<Tree, QueryError>
+    ensures response { IfOk result (λ t. t ≡ query_response events.now.zones.now (changes_of (entries events.now.store.now)) (criteria_in criteria.now) true account.now (paging_in paging.now)) }
+    ensures answered { OnOk result (query_refusal events.now.zones.now (changes_of (entries events.now.store.now)) (criteria_in criteria.now) true (paging_in paging.now) ≡ None) }
+    ensures refused { IfErr result (λ e. Reports e (query_refusal events.now.zones.now (changes_of (entries events.now.store.now)) (criteria_in criteria.now) true (paging_in paging.now))) }
+{
+    if !is_paging(paging) {
+        return Err(QueryError::Method(MethodError::InvalidArguments));
+    }
+    let terms = read_terms(alloc, events.zones, criteria)?;
+    let ids = expanded_ids(alloc, events, &terms.sight, &terms.order)?;
+    found(alloc, events.store, account, &ids, paging)
+}

@@ -1,0 +1,13 @@
+use Rattle.std.proofs.Common.{◌≡◌, [], ◌∙◌}
+use Rattle.std.proofs.lemmas.Result.{IfOk-weaker}
+use Rattle.account_store.specs.Earlier.{changes_up_to}
+use Rattle.account_store.specs.Store.{entries}
+use Rattle.model_history.specs.declared.entry.Kind.TheVariants.{Event}
+use Rattle.query_methods.proofs.ResultLemmas.{result_uncompared}
+use Rattle.query_methods.proofs.result.result_among.Goals as goal
+
+pub returns-then-is_empty : goal.returns-then-is_empty
+returns-then-is_empty g c =
+    let cs = changes_up_to (entries c.args.events.now.store.now) Event c.args.state in
+    let none : c.args.order.now ≡ [] = c.is_empty.ensures.0 c.if-is_empty.true in
+    IfOk-weaker c.found_among.result _ _ (λ v is. is ∙ result_uncompared (g.S.Sight.see c.args.sight.now) c.args.order.now cs c.args.numbers.now none) c.found_among.ensures
