@@ -1,7 +1,9 @@
 -- What the live events of a history give.
-use Rattle.std.proofs.Common.{◌≡◌, ◌∙◌, ℕ, Bool, true, false, true≢false, List, [], Option, Some, None, flat_map, is_some, length, take, refl, sym, ap}
+use Rattle.std.proofs.Common.{◌≡◌, ◌∙◌, ℕ, false, true≢false, List, [], Option, Some, None, flat_map, is_some, take, refl, sym, ap}
 use Rattle.std.proofs.Math.Seq.{take-length}
 use Rattle.account_store.specs.Earlier.{changes_up_to, live_ids}
+use Rattle.expanded_query.specs.Sights.{all_given, given_among}
+use Rattle.expanded_query.specs.declared.sight.OccurrenceSight.{OccurrenceSight}
 use Rattle.model_history.specs.History.{changes_of, ids_at, live_object, state_at}
 use Rattle.model_history.specs.declared.entry.Change.{Change}
 use Rattle.model_history.specs.declared.entry.Entry.{Entry}
@@ -33,3 +35,7 @@ module _ (zones : List ZoneText) (zone : List ℕ) (filter : Data) where
       ∙ some_given (λ n. results_of_live zones zone filter n (live_object (of_events cs) Event n)) (λ n. is_some (live_object (of_events cs) Event n))
       (λ n. none_live n (live_object (of_events cs) Event n)) (ids_at (of_events cs) Event)
       ∙ (λ i. flat_map (λ n. results_of_live zones zone filter n (same n i)) (ids_of_events cs [] i))
+
+pub given_now : (s : OccurrenceSight) (es : List Entry) (k : ℕ) (numbers : List ℕ) → k ≡ state_at (changes_of es) Event → numbers ≡ live_ids (changes_up_to es Event k) Event
+    → given_among s (changes_of es) numbers ≡ all_given s (changes_of es)
+given_now s es k numbers is live = ap (given_among s (changes_of es)) live ∙ live_now s.zones.now s.floating.now s.filter.filter es k is

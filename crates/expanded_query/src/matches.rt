@@ -19,7 +19,6 @@ pub(crate) struct Matches {
 }
 
 /// What all live events give, in order of creation and then of recurrence ids.
-#[tactic(auto, using(crate::proofs::LiveLemmas::live_now))]
 pub(crate) fn expanded_matches(
     alloc: Global,
     store: &Store,
