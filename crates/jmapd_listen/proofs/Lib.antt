@@ -1,5 +1,0 @@
-pub mod FaultlessLemmas
-pub mod JobLemmas
-pub mod ListenLemmas
-pub mod Sending
-pub mod ServeLemmas
