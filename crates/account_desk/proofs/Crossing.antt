@@ -1,4 +1,4 @@
--- A gated account may go to another thread.
+-- An account may go to another thread, gated or not.
 use denote.Param.Send.{IsSend, sendable}
 use Rattle.std.proofs.Crossing.{crosses}
 use Rattle.model_json.proofs.tree.TreeList.TheLaws.TheKnot as tree
@@ -18,7 +18,7 @@ slot_sent = search (room_sent, crosses, sendable) depth 60 fits 20000
 rooms_sent : IsSend rooms.the_row
 rooms_sent = search (slot_sent, crosses, sendable) depth 60 fits 20000
 
-account_sent : IsSend account.the_row
+pub account_sent : IsSend account.the_row
 account_sent = search (rooms_sent, crosses, tree.crosses, sendable) depth 60 fits 20000
 
 pub gated_sent : IsSend gated.the_row

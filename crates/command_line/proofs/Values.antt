@@ -1,10 +1,10 @@
--- Both commands are simple, and the values that a parse finds are those of the definitions.
+-- The commands are simple, and the values that a parse finds are those of the definitions.
 use Rattle.std.proofs.Common.{◌≡◌, List, ℕ, Option, Some, None, true, refl, sym, ap, ap₂, ◌∙◌, cond, codes, option_map}
 use Rattle.clap.specs.Words.{App, HasMatchesOf, first_of, first_value, found_of, is_simple, is_simple_and_free, matches_of}
 use Rattle.clap.specs.declared.ArgMatches.{ArgMatches}
 use Rattle.clap.proofs.WalkLemmas.{first_value-rows}
 use Rattle.clap.proofs.OnLiterals.{clap_on_literals}
-use Rattle.command_line.specs.Commands.{batch, batch_app, batch_of, listen_app, listen_of, listen_with, stdio, stdio_app, stdio_of, accepts, value_of}
+use Rattle.command_line.specs.Commands.{batch, batch_app, batch_of, listen_app, listen_of, listen_with, stdio, stdio_app, stdio_of, workload_app, workload_of, workload_with, accepts, value_of}
 
 pub batch_is_simple : is_simple batch_app ≡ true
 unfolding batch_app clap_on_literals
@@ -48,6 +48,25 @@ pub stdio_found : (app : App) (words : List (List ℕ)) (m : ArgMatches) (config
 stdio_found app words m config is taken h c =
     ap (option_map stdio) (c ∙ value_found app stdio_app words m (codes "config") is stdio_is_simple h)
     ∙ sym (ap (λ b. cond b (option_map stdio (value_of stdio_app words (codes "config"))) None) (ap (λ (a : App). accepts a words) (sym is) ∙ taken))
+
+pub workload_is_simple : is_simple workload_app ≡ true
+unfolding workload_app clap_on_literals
+workload_is_simple = refl
+
+pub workload_is_free : is_simple_and_free workload_app ≡ true
+unfolding workload_app clap_on_literals
+workload_is_free = refl
+
+pub workload_found : (app : App) (words : List (List ℕ)) (m : ArgMatches) (number size : Option (List ℕ)) → app ≡ workload_app
+    → accepts app words ≡ true → HasMatchesOf app words m
+    → number ≡ first_value (found_of m) (codes "number") → size ≡ first_value (found_of m) (codes "size")
+    → workload_with number size ≡ workload_of words
+workload_found app words m number size is taken h n s =
+    let value = λ (name : List ℕ). value_of workload_app words name in
+    ap₂ workload_with
+    (n ∙ value_found app workload_app words m (codes "number") is workload_is_simple h)
+    (s ∙ value_found app workload_app words m (codes "size") is workload_is_simple h)
+    ∙ sym (ap (λ b. cond b (workload_with (value (codes "number")) (value (codes "size"))) None) (ap (λ (a : App). accepts a words) (sym is) ∙ taken))
 
 pub listen_is_simple : is_simple listen_app ≡ true
 unfolding listen_app clap_on_literals

@@ -8,11 +8,13 @@ use Rattle.clap.specs.Walk.{is_empty}
 use Rattle.clap.specs.declared.builder.action.ArgAction.TheVariants.{Set}
 use Rattle.model_json.specs.Number.{number_in}
 use Rattle.command_line.specs.declared.listen.TheConstants.{DEFAULT_CONNECTIONS, DEFAULT_WORKERS, MOST_CONNECTIONS, MOST_PORT, MOST_WORKERS}
+use Rattle.command_line.specs.declared.workload.TheConstants.{MOST_NUMBER, MOST_SIZE}
 
--- `batch` with a configuration and a user, each by its name where it is given, or `stdio` with a configuration
+-- `batch` with a configuration and a user, each by its name where it is given, `stdio` with a configuration, or `workload` with the number that its generator begins with and its size
 pub data Command : Type 0 where
   batch : Option (List ℕ) → Option (List ℕ) → Command
   stdio : List ℕ → Command
+  workload : ℕ → ℕ → Command
 
 -- `listen` with a configuration, a port, and so many workers, each for so many connections
 pub record Listen : Type 0 where
@@ -36,6 +38,10 @@ batch_app = with_rule (with_rule (without_flags (codes "batch")) (option_named (
 -- `stdio --config NAME`
 unfoldable pub stdio_app : App
 stdio_app = with_rule (without_flags (codes "stdio")) (option_named (codes "config") true)
+
+-- `workload --number N --size M`
+unfoldable pub workload_app : App
+workload_app = with_rule (with_rule (without_flags (codes "workload")) (option_named (codes "number") true)) (option_named (codes "size") true)
 
 -- `listen --config NAME --port P [--workers W] [--connections N]`
 unfoldable pub listen_app : App
@@ -62,14 +68,15 @@ batch_of words =
 abbrev pub stdio_of : List (List ℕ) → Option Command
 stdio_of words = if accepts stdio_app words then option_map stdio (value_of stdio_app words (codes "config")) else None
 
--- what the words of the command line ask for, where they are a command's
-abbrev pub command_of : List (List ℕ) → Option Command
-command_of [] = None
-command_of (word ∷ words) =
-    if bytes_eq word (codes "batch") then batch_of words
-    else (if bytes_eq word (codes "stdio") then stdio_of words else None)
+-- ---- numbers
 
--- ---- `listen`
+-- this number, where it is at most so great
+abbrev pub up_to : ℕ → ℕ → Option ℕ
+up_to most n = if nat_le n most then Some n else None
+
+-- the number up to the most that a text writes out
+abbrev pub number_up_to : ℕ → List ℕ → Option ℕ
+number_up_to most text = option_and_then (up_to most) (number_in text)
 
 -- this number, where it is from 1 to the most
 abbrev pub within : ℕ → ℕ → Option ℕ
@@ -78,6 +85,26 @@ within most n = if nat_lt 0 n && nat_le n most then Some n else None
 -- the number from 1 to the most that a text writes out
 abbrev pub count_in : ℕ → List ℕ → Option ℕ
 count_in most text = option_and_then (within most) (number_in text)
+
+-- ---- commands
+
+-- what the values of the options of `workload` ask for
+abbrev pub workload_with : Option (List ℕ) → Option (List ℕ) → Option Command
+workload_with number size = option_and_then (λ n. option_map (workload n) (option_and_then (count_in MOST_SIZE) size)) (option_and_then (number_up_to MOST_NUMBER) number)
+
+-- what the words behind `workload` ask for
+abbrev pub workload_of : List (List ℕ) → Option Command
+workload_of words = if accepts workload_app words then workload_with (value_of workload_app words (codes "number")) (value_of workload_app words (codes "size")) else None
+
+-- what the words of the command line ask for, where they are a command's
+abbrev pub command_of : List (List ℕ) → Option Command
+command_of [] = None
+command_of (word ∷ words) =
+    if bytes_eq word (codes "batch") then batch_of words
+    else (if bytes_eq word (codes "stdio") then stdio_of words
+    else (if bytes_eq word (codes "workload") then workload_of words else None))
+
+-- ---- `listen`
 
 -- the number of an option, or another one where it isn't given
 abbrev pub count_or : ℕ → ℕ → Option (List ℕ) → Option ℕ

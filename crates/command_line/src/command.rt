@@ -5,6 +5,7 @@ ghost use Rattle.command_line.specs.Commands.{batch_of, command_of, stdio_of};
 ghost use Rattle.command_line.specs.Shown.{command_shown};
 
 use crate::options::{batch_command, matches_in, stdio_command};
+use crate::workload::{Workload, read_workload};
 use std::alloc::{AllocError, Global};
 
 /// What the words of the command line ask for. The names are parts of the words.
@@ -19,6 +20,8 @@ pub enum Command<'a> {
     Stdio {
         config: &'a str,
     },
+    /// A workload.
+    Workload(Workload),
 }
 
 /// What the words after the program's name ask for, or `None` where they are no command's words.
@@ -35,6 +38,10 @@ pub fn read_command<'a>(
         [word, rest @ ..] => match word.as_str() {
             "batch" => read_batch(alloc, rest),
             "stdio" => read_stdio(alloc, rest),
+            "workload" => match read_workload(alloc, rest)? {
+                Some(workload) => Ok(Some(Command::Workload(workload))),
+                None => Ok(None),
+            },
             _ => Ok(None),
         },
     }

@@ -4,3 +4,4 @@
 pub mod command;
 pub mod listen;
 mod options;
+pub mod workload;

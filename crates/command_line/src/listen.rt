@@ -100,8 +100,8 @@ fn count_or(text: Option<&str>, most: u64, default: u64) -> Option<u64>
     }
 }
 
-// The number from 1 to `most` that a text writes out.
-fn count_in(text: &str, most: u64) -> Option<u64>
+/// The number from 1 to `most` that a text writes out. Takes no memory.
+pub(crate) fn count_in(text: &str, most: u64) -> Option<u64>
     ensures is { result ≡ count_in most text.now }
     ensures within { IfSome result (λ n. (1 ≤ n) × (n ≤ most)) }
 {

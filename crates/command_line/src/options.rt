@@ -2,7 +2,7 @@
 
 ghost use Rattle.std.specs.Prelude.{◌≡◌, IfNone, IfOk, IfSome, false, map, string_bytes, true};
 ghost use Rattle.clap.specs.Words.{HasMatchesOf, app_of, is_simple_and_free, rule_of};
-ghost use Rattle.command_line.specs.Commands.{without_flags, batch_app, listen_app, option_named, stdio_app, accepts};
+ghost use Rattle.command_line.specs.Commands.{without_flags, batch_app, listen_app, option_named, stdio_app, workload_app, accepts};
 
 use clap::error::ErrorKind;
 use clap::{Arg, ArgAction, ArgMatches, Command};
@@ -24,6 +24,16 @@ pub fn stdio_command<'a>(alloc: Global) -> Result<Command<'a>, AllocError>
 {
     let config = option_named(alloc, "config", true);
     let command = bare_command(alloc, "stdio").arg(config)?;
+    Ok(command)
+}
+
+/// `workload --number N --size M`. Takes memory for its options.
+pub fn workload_command<'a>(alloc: Global) -> Result<Command<'a>, AllocError>
+    ensures { IfOk result (λ command. app_of command ≡ workload_app) }
+{
+    let number = option_named(alloc, "number", true);
+    let size = option_named(alloc, "size", true);
+    let command = bare_command(alloc, "workload").arg(number)?.arg(size)?;
     Ok(command)
 }
 

@@ -2,3 +2,4 @@ pub mod TitleLemmas
 pub mod Searched
 pub mod Sorted
 pub mod RefusalLemmas
+pub mod PushLemmas

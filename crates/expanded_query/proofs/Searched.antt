@@ -1,12 +1,12 @@
 -- Occurrences in the order of their recurrence ids are those that a search over all recurrence ids finds.
-use Rattle.std.proofs.Common.{◌≡◌, ◌∙◌, ℕ, zero, suc, ℤ, pos, ◌+ℤ◌, ◌-ℤ◌, ◌^◌, ◌≤ℤ◌, ◌<ℤ◌, ◌⊎◌, inl, inr, Bool, true, false, ⊤, List, [], ◌∷◌, ◌++◌, Option, Some, None, flat_map, refl, sym, ap, subst, arith}
-use Rattle.std.specs.Prelude.{tt}
+use Rattle.std.proofs.Common.{◌≡◌, ◌∙◌, ℕ, zero, suc, ℤ, pos, ◌+ℤ◌, ◌≤ℤ◌, ◌<ℤ◌, ◌⊎◌, inl, inr, Bool, true, false, List, [], ◌∷◌, ◌++◌, Some, flat_map, refl, sym, ap, subst, arith}
+use Rattle.std.specs.Prelude.{⊤}
 use Rattle.std.specs.List.{AllByRecursion}
 use Rattle.std.specs.Option.{option_map_or}
 use Rattle.std.proofs.lemmas.Int.{by_lt_z}
 use Rattle.jiff_core.proofs.SignedLemmas.{signed_arith}
 use Rattle.model_json.specs.Parts.{some_of}
-use Rattle.model_queries.specs.Expanded.{passing_from, passing_seconds}
+use Rattle.model_queries.specs.Expanded.{passing_from}
 use Rattle.model_series.specs.declared.occurrence.Occurrence.{Occurrence}
 use Rattle.model_series.specs.declared.series.Series.{Series}
 use Rattle.model_window.specs.Meetings.{occurrence_with, passes_with}
@@ -15,11 +15,11 @@ use Rattle.occurrence_windows.proofs.Meeting.{some_holds}
 use Rattle.occurrence_windows.proofs.Passing.{with_is}
 
 -- each has a recurrence id that is no less than this one, and greater than that of the one before it
-pub rises : ℤ → List Occurrence → Type 0
+unfoldable pub rises : ℤ → List Occurrence → Type 0
 rises low [] = ⊤
 rises low (o ∷ os) = (low ≤ℤ o.rid) × rises (o.rid +ℤ pos 1) os
 
-pub is_one : Occurrence → List Occurrence → Type 0
+unfoldable pub is_one : Occurrence → List Occurrence → Type 0
 is_one o [] = ⊥
 is_one o (p ∷ ps) = (p ≡ o) ⊎ is_one o ps
 

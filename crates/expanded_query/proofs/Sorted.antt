@@ -1,12 +1,15 @@
 -- Occurrences that were put in the order of their recurrence ids.
-use Rattle.std.proofs.Common.{◌≡◌, ◌∙◌, ℕ, zero, suc, ◌+◌, ◌≤◌, ◌<◌, ℤ, pos, ◌+ℤ◌, ◌-ℤ◌, ◌^◌, ◌≤ℤ◌, ◌<ℤ◌, inl, inr, Bool, true, false, cond, ⊤, List, [], ◌∷◌, Option, Some, None, flat_map, length, slice_get, slice_index_or, refl, sym, ap, subst, arith}
-use Rattle.std.specs.Prelude.{All, tt}
-use Rattle.std.specs.List.{AllByRecursion, Contains, sum_by}
+use Rattle.std.proofs.Common.{◌≡◌, ◌∙◌, Bor, ℕ, zero, suc, ◌+◌, ◌≤◌, ◌<◌, ℤ, pos, negsuc, ◌+ℤ◌, ◌-ℤ◌, ◌^◌, ◌≤ℤ◌, inl, inr, Bool, true, false, cond, List, [], ◌∷◌, Some, length, slice_get, slice_index_or, refl, sym, ap, subst, arith}
+use Rattle.std.specs.Prelude.{All, ◌&&◌}
+use Rattle.std.specs.Fn.{Called, ComputesKey, Mut}
+use Rattle.std.specs.List.{AllByRecursion, list_all, sum_by}
 use Rattle.std.specs.List.Sorted.{IsPermutation, IsSortedByKey}
 use Rattle.std.specs.Ordering.{int_cmp, int_eq, is_lt}
 use Rattle.std.proofs.lemmas.Bool.Decides.{Decides-int_eq}
+use Rattle.std.proofs.lemmas.Fn.{always_returns_same}
 use Rattle.std.proofs.lemmas.Int.{by_lt_z}
 use Rattle.std.proofs.lemmas.List.Elements.{recursion_from_All}
+use Rattle.std.proofs.lemmas.List.Sums.{sum_by-cons}
 use Rattle.std.proofs.lemmas.List.Sorted.{All-permutation, Contains-permutation, sum_by-IsPermutation}
 use Rattle.std.proofs.lemmas.Option.{slice_get_within}
 use Rattle.expanded_query.proofs.Searched.{is_one, listed, rises}
@@ -14,8 +17,12 @@ use Rattle.jiff_core.proofs.SignedLemmas.{signed_arith}
 use Rattle.jiff_core.specs.Calendar.{IsWithin}
 use Rattle.jiff_tz.specs.PosixText.{TzText}
 use Rattle.model_queries.specs.Expanded.{occurrences_meeting, passing_seconds}
+use Rattle.model_event.specs.Values.{is_showing}
+use Rattle.model_series.specs.SeriesLimits.{is_span_in_years}
+use Rattle.model_series.specs.declared.exception.Exception.{Exception}
 use Rattle.model_series.specs.declared.occurrence.Occurrence.{Occurrence}
 use Rattle.model_series.specs.declared.series.Series.{Series}
+use Rattle.model_time.specs.Walls.{is_in_years}
 use Rattle.model_window.specs.Clocks.{instant_in}
 use Rattle.model_window.specs.Meetings.{occurrence_with}
 use Rattle.model_window.specs.Windows.{IsMeeting, meets_window}
@@ -23,9 +30,13 @@ use Rattle.model_window.specs.declared.window.Window.{Window}
 use Rattle.occurrence_windows.proofs.Listing.{by_bool}
 use Rattle.occurrence_windows.proofs.Meeting.{has_met}
 use Rattle.occurrence_windows.proofs.Passing.{is_with, rid_near, with_is}
+use Rattle.occurrence_windows.proofs.Series.{rid_of, showing_is}
 use Rattle.occurrence_windows.specs.Listing.{IsListOf}
+use Rattle.rule_expand.proofs.Places.{and_both, is_late}
+use Rattle.rule_expand.proofs.Sets.{is_int_le}
 use Rattle.rule_expand.proofs.Sooner.{sooner_cases}
 use Rattle.rule_expand.specs.Later.{is_sooner}
+use Rattle.zone_instants.proofs.Readings.{instant-none}
 
 -- How often a recurrence id stands in a list.
 
@@ -35,44 +46,53 @@ one_at r o = cond (int_eq o.rid r) 1 0
 abbrev count_at : ℤ → List Occurrence → ℕ
 count_at r os = sum_by (one_at r) os
 
+here : (r : ℤ) (o : Occurrence) (os : List Occurrence) → o.rid ≡ r → count_at r (o ∷ os) ≡ 1 + count_at r os
+here r o os e = let sum = sum_by-cons (one_at r) o os in let one : one_at r o ≡ 1 = rw ((Decides-int_eq o.rid r).1 e) refl in omega (arith, sum, one)
+
+elsewhere : (r : ℤ) (o : Occurrence) (os : List Occurrence) → int_eq o.rid r ≡ false → count_at r (o ∷ os) ≡ count_at r os
+elsewhere r o os e = let sum = sum_by-cons (one_at r) o os in let none : one_at r o ≡ 0 = rw e refl in omega (arith, sum, none)
+
 none_at : (r : ℤ) (os : List Occurrence) → ((k : ℕ) (o : Occurrence) → slice_get os k ≡ Some o → o.rid ≡ r → ⊥) → count_at r os ≡ 0
-none_at r [] no = refl
-none_at r (o ∷ os) no = by_bool (int_eq o.rid r)
-    (λ e. absurd (no 0 o refl ((Decides-int_eq o.rid r).0 e)))
-    (λ e. rw e (none_at r os (λ k q h. no (suc k) q h)))
+none_at r [] never = refl
+none_at r (o ∷ os) never = by_bool (int_eq o.rid r)
+    (λ e. absurd (never 0 o refl ((Decides-int_eq o.rid r).0 e)))
+    (λ e. elsewhere r o os e ∙ none_at r os (λ k q h. never (suc k) q h))
 
 at_most_one : (r : ℤ) (os : List Occurrence) → ((j k : ℕ) (a b : Occurrence) → j < k → slice_get os j ≡ Some a → slice_get os k ≡ Some b → a.rid ≡ b.rid → ⊥) → count_at r os ≤ 1
 at_most_one r [] unlike = omega arith
-at_most_one r (o ∷ os) unlike =
+at_most_one r (o ∷ os) unlike = by_bool (int_eq o.rid r)
+    (λ e.
+    let same = (Decides-int_eq o.rid r).0 e in
+    let none = none_at r os (λ k q h is. unlike 0 (suc k) o q (omega arith) refl h (same ∙ sym is)) in
+    let sum = here r o os same in
+    omega (arith, sum, none))
+    (λ e.
     let rest = at_most_one r os (λ j k a b lt h g. unlike (suc j) (suc k) a b (omega (arith, lt)) h g) in
-    by_bool (int_eq o.rid r)
-    (λ e. let same = (Decides-int_eq o.rid r).0 e in
-    let none = none_at r os (λ k q h is. unlike 0 (suc k) o q (omega arith) refl h (same ∙ sym is)) in rw (e, none) (omega arith))
-    (λ e. rw e rest)
-
-counted : (r : ℤ) (o : Occurrence) (os : List Occurrence) → o.rid ≡ r → count_at r (o ∷ os) ≡ 1 + count_at r os
-counted r o os e = rw ((Decides-int_eq o.rid r).1 e) refl
+    let sum = elsewhere r o os e in
+    omega (arith, sum, rest))
 
 fewer : (r : ℤ) (o : Occurrence) (os : List Occurrence) → count_at r (o ∷ os) ≤ 1 → count_at r os ≤ 1
-fewer r o os h = by_bool (int_eq o.rid r) (λ e. let less = rw e at h in omega (arith, less)) (λ e. rw e at h)
+fewer r o os h = let sum = sum_by-cons (one_at r) o os in omega (arith, sum, h)
 
 -- In order, and no recurrence id twice: then they rise.
 
-abbrev InOrder : List Occurrence → Type 0
+abbrev pub InOrder : List Occurrence → Type 0
 InOrder os = IsSortedByKey (λ (o : Occurrence). o.rid) int_cmp os
 
 not_less : (a b : ℤ) → is_lt (int_cmp a b) ≡ false → b ≤ℤ a
-not_less a b h = by_lt_z a b (λ lt. let no = h in cc) (λ ge. ge)
+not_less a b h = by_lt_z a b (λ lt. let less = rw (is_late a b lt) at h in cc) (λ ge. ge)
 
 later_order : (o : Occurrence) (os : List Occurrence) → InOrder (o ∷ os) → InOrder os
-later_order o os h k d low high = h (suc k) d (omega arith) (omega (arith, high))
+later_order o os h k d low high =
+    let next : suc k + 1 ≡ suc (k + 1) = omega arith in
+    subst (λ n. is_lt (int_cmp (slice_index_or (o ∷ os) n d).rid (slice_index_or os k d).rid) ≡ false) next (h (suc k) d (omega arith) (omega (arith, high)))
 
 risen : (low : ℤ) (o : Occurrence) (os : List Occurrence) → low ≤ℤ o.rid → InOrder (o ∷ os) → ((r : ℤ) → count_at r (o ∷ os) ≤ 1) → rises low (o ∷ os)
 unfolding rises
 risen low o [] first order once = (first, tt)
 risen low o (p ∷ ps) first order once =
     let next : o.rid ≤ℤ p.rid = not_less p.rid o.rid (order 0 o (omega arith) (omega arith)) in
-    let unlike : (p.rid ≡ o.rid) → ⊥ = λ e. let two = counted o.rid o (p ∷ ps) refl in let one = counted o.rid p ps e in let most = once o.rid in absurd (omega (arith, two, one, most)) in (
+    let unlike : (p.rid ≡ o.rid) → ⊥ = λ e. let two = here o.rid o (p ∷ ps) refl in let one = here o.rid p ps e in let most = once o.rid in absurd (omega (arith, two, one, most)) in (
       first,
       risen (o.rid +ℤ pos 1) p ps (by_lt_z o.rid p.rid (λ lt. omega (arith, signed_arith, lt)) (λ ge. absurd (unlike (omega (arith, signed_arith, ge, next)))))
           (later_order o (p ∷ ps) order) (λ r. fewer r o (p ∷ ps) (once r)),
@@ -82,6 +102,12 @@ all_risen : (low : ℤ) (os : List Occurrence) → AllByRecursion (λ o. low ≤
 unfolding rises
 all_risen low [] first order once = tt
 all_risen low (o ∷ os) first order once = risen low o os first.0 order once
+
+-- from what a sort by them ensures
+pub put_in_order : {F : Type 0} {g : Mut F (Bor Occurrence × Unit {0}) ℤ} {f : F} (xs : List Occurrence)
+    → ((key : Occurrence → ℤ) → ComputesKey g key f → IsSortedByKey key int_cmp xs)
+    → ((a : Bor Occurrence × Unit {0}) (r : ℤ) (f' : F) → Called g f a r f' → (r ≡ a.0.now.rid) × (f' ≡ f)) → InOrder xs
+put_in_order {g = g} {f = f} xs sorted h = sorted (λ o. o.rid) (always_returns_same g (λ a r. r ≡ a.0.now.rid) f h)
 
 -- Members.
 
@@ -105,16 +131,24 @@ each : {P Q : Occurrence → Type 0} → ((o : Occurrence) → P o → Q o) → 
 each f [] h = h
 each f (o ∷ os) h = (f o h.0, each f os h.1)
 
-member : {P : Occurrence → Type 0} (os : List Occurrence) (o : Occurrence) → AllByRecursion P os → is_one o os → P o
+member : (P : Occurrence → Type 0) (os : List Occurrence) (o : Occurrence) → AllByRecursion P os → is_one o os → P o
 unfolding is_one
-member [] o h m = absurd m
-member {P} (p ∷ ps) o h m = elim m [ inl e ↦ subst P e h.0 | inr n ↦ member ps o h.1 n ]
+member P [] o h m = absurd m
+member P (p ∷ ps) o h m = elim m [ inl e ↦ subst P e h.0 | inr n ↦ member P ps o h.1 n ]
 
-some_same : (x y : Occurrence) → Some x ≡ Some y → x ≡ y
+some_same : {A : Type 0} (x y : A) → Some x ≡ Some y → x ≡ y
 some_same x y h = cc
 
 sooner_self : (x : Occurrence) → is_sooner x x ≡ true → ⊥
 sooner_self x h = elim (sooner_cases x x h) [ inl lt ↦ omega (arith, signed_arith, lt) | inr e ↦ omega (arith, signed_arith, e.1) ]
+
+all_at : {A : Type 0} (p : A → Bool) (xs : List A) (k : ℕ) (x : A) → list_all p xs ≡ true → slice_get xs k ≡ Some x → p x ≡ true
+all_at p [] k x h e = absurd (cc e)
+all_at p (y ∷ ys) zero x h e = ap p (sym (some_same y x e)) ∙ (and_both (p y) (list_all p ys) h).0
+all_at p (y ∷ ys) (suc k) x h e = all_at p ys k x (and_both (p y) (list_all p ys) h).1 e
+
+shows_at : (tz : TzText) (v t : ℤ) → instant_in tz v ≡ Some t → is_showing v ≡ true
+shows_at tz v t e = by_bool (is_showing v) (λ h. h) (λ h. let none = instant-none tz v h in cc)
 
 module _ (s : Series) (rule : TzText) (w : Window) where
   abbrev Meets : Occurrence → Type 0
@@ -122,6 +156,19 @@ module _ (s : Series) (rule : TzText) (w : Window) where
 
   near : (o : Occurrence) → Meets o → IsWithin 400000000000 o.rid
   near o m = let met = has_met (instant_in rule) w o m.1 in rid_near s rule o met.period.from m.0 met.span.first
+
+  -- their recurrence ids lie in the years 0 to 9999
+  in_years : (o : Occurrence) → Meets o → is_in_years o.rid ≡ true
+  in_years o m = elim m.0 [
+    | inl own ↦
+        let met = has_met (instant_in rule) w o m.1 in
+        let shown = showing_is o.start (shows_at rule o.start met.period.from met.span.first) in
+        let same = own.start in
+        rw (is_int_le (negsuc 62167219199) o.rid (omega (arith, signed_arith, shown.0, same)), is_int_le o.rid (pos 253402300799) (omega (arith, signed_arith, shown.1, same))) refl
+    | inr put ↦
+        let years = and_both (is_in_years put.1.0.rid) (is_span_in_years put.1.0.replaced) (all_at (λ (x : Exception). is_in_years x.rid && is_span_in_years x.replaced) s.exceptions put.0 put.1.0 s.exceptions_in put.1.1.0) in
+        ap is_in_years (sym (rid_of put.1.0 o put.1.1.1)) ∙ years.0
+  ]
 
   -- two that meet the window differ in their recurrence ids
   no_two : (os : List Occurrence) → IsListOf Meets os → (j k : ℕ) (a b : Occurrence) → j < k → slice_get os j ≡ Some a → slice_get os k ≡ Some b → a.rid ≡ b.rid → ⊥
@@ -139,8 +186,11 @@ module _ (s : Series) (rule : TzText) (w : Window) where
       let low : ℤ = pos 0 -ℤ pos (2 ^ 57) in
       let least : AllByRecursion (λ o. low ≤ℤ o.rid) ys = each (λ o m. let n = near o m in omega (arith, signed_arith, n)) ys everyone in
       listed s (meets_window (instant_in rule) w) (2 ^ 58) low (low +ℤ pos (2 ^ 58)) ys refl (all_risen low ys least order once) (each (λ o m. (is_with s o m.0, m.1)) ys everyone)
-      (λ q m. let n = near q (member ys q everyone m) in omega (arith, signed_arith, n))
+      (λ q m. let n = near q (member Meets ys q everyone m) in omega (arith, signed_arith, n))
       (λ q f from to.
       let at = list.all q ((with_is s q.rid q f.0).0, f.1) in
-      let there = Contains-permutation xs ys q moved (at.0, (slice_get_within xs at.0 q at.1, at_place xs at.0 q at.1)) in
-      one_of ys q there.0 there.1.0 there.1.1)
+      let there = Contains-permutation xs ys q moved (at.0, slice_get_within xs at.0 q at.1, at_place xs at.0 q at.1) in
+      one_of ys q there.0 there.1 there.2)
+
+  pub sorted_in_years : (xs ys : List Occurrence) → IsListOf Meets xs → IsPermutation xs ys → All (λ o. is_in_years o.rid ≡ true) ys
+  sorted_in_years xs ys list moved = All-permutation (λ o. is_in_years o.rid ≡ true) xs ys moved (λ k d l. in_years (slice_index_or xs k d) (list.only k (slice_index_or xs k d) (got xs k d l)))

@@ -1,12 +1,12 @@
 -- Titles of occurrences that no override names.
-use Rattle.std.proofs.Common.{◌≡◌, ◌∙◌, ℕ, List, [], ◌∷◌, Bool, true, false, Option, Some, None, if◌then◌else◌, refl, sym, ap}
+use Rattle.std.proofs.Common.{◌≡◌, ◌∙◌, ℕ, List, [], ◌∷◌, Bool, true, false, Some, None, refl, sym, ap}
 use Rattle.std.specs.Prelude.{codes, unwrap_or, option_and_then}
 use Rattle.std.specs.Cmp.Lexicographic.{slice_cmp}
 use Rattle.std.specs.Ordering.{nat_cmp, is_lt}
 use Rattle.std.specs.Str.{bytes_eq}
 use Rattle.std.proofs.lemmas.Slice.Eq.{bytes_eq-Decides}
 use Rattle.model_json.proofs.EditLemmas.{lookup_without}
-use Rattle.model_json.specs.Data.{Data, Pair, null, truth, whole, text, list, object, Members, field, lookup, members_of, pairs_back, pairs_of}
+use Rattle.model_json.specs.Data.{Data, Pair, null, truth, whole, text, list, object, field, lookup, members_of, pairs_back, pairs_of}
 use Rattle.model_json.specs.Edit.{with_pair, without}
 use Rattle.model_json.specs.Parts.{as_text, members_in}
 use Rattle.model_queries.specs.Expanded.{title_at, title_in}
@@ -43,11 +43,17 @@ title_of_members (list ds) = refl
 title_of_members (object ms) = refl
 
 -- without an override it is that of the event
-pub own_title : (key : List ℕ) (d : Data) → override_at key d ≡ None → title_at key d ≡ text_or_empty (codes "title") d
+pub own_title : (key : List ℕ) (d : Data) → None ≡ override_at key d → text_or_empty (codes "title") d ≡ title_at key d
+unfolding title_at
 own_title key d h =
-    ap (λ o. title_in (occurrence_in (members_in d) key (unwrap_or o []))) h
-    ∙ ap (λ v. unwrap_or (option_and_then as_text v) []) (title_stays key (members_in d) ∙ title_of_members d)
+    ap (λ v. unwrap_or (option_and_then as_text v) []) (sym (title_of_members d) ∙ sym (title_stays key (members_in d)))
+    ∙ ap (λ o. title_in (occurrence_in (members_in d) key (unwrap_or o []))) h
+
+-- with one it is that of the object that its patch makes
+pub title_patched : (key : List ℕ) (d : Data) (patch : List Pair) → Some patch ≡ override_at key d → title_in (occurrence_in (members_in d) key patch) ≡ title_at key d
+unfolding title_at
+title_patched key d patch h = ap (λ o. title_in (occurrence_in (members_in d) key (unwrap_or o []))) h
 
 -- an event without overrides has none at any key
-pub no_override : (key : List ℕ) (d : Data) → field (codes "recurrenceOverrides") d ≡ None → override_at key d ≡ None
-no_override key d h = rw h refl
+pub no_overrides : (key : List ℕ) (d : Data) → None ≡ field (codes "recurrenceOverrides") d → text_or_empty (codes "title") d ≡ title_at key d
+no_overrides key d h = own_title key d (rw (sym h) refl)

@@ -23,7 +23,7 @@ use model_json::text::Text;
 use model_json::tree::{Tree, TreeList};
 use model_query::window::{Anchor, Cut};
 use query_methods::error::QueryError;
-use query_methods::found::{Part, cut_asked, window_tree, within};
+use query_methods::found::{Part, cut_asked, cut_out, window_tree};
 use query_methods::request::Paging;
 use query_order::order::Order;
 use query_order::result::result;
@@ -104,7 +104,7 @@ fn expanded_window(
     ensures { IfOk result (λ t. t ≡ expanded_window account.now (changes_of (entries store.now)) (paging_in paging.now) ids.now cut) }
 {
     let part = Part {
-        ids: text_list(alloc, within(cut, ids))?,
+        ids: text_list(alloc, cut_out(cut, ids))?,
         total: ids.len() as u64,
         cut,
     };

@@ -52,18 +52,28 @@ fn start_instant(rule: &TimeZone, start: Wall) -> i64
     }
 }
 
-// The title of the occurrence with a recurrence id. Its object is made only where an override names it.
-#[tactic(auto, using(crate::proofs::TitleLemmas::own_title, crate::proofs::TitleLemmas::no_overrides))]
+// The title of the occurrence with a recurrence id.
+#[tactic(auto, using(crate::proofs::TitleLemmas::no_overrides))]
 fn title_of(alloc: Global, event: &Tree, rid: Wall) -> Result<Text, AllocError>
     requires { is_in_years rid ≡ true }
     ensures { IfOk result (λ title. title ≡ title_at (local_text rid) (data_of event.now)) }
 {
-    if event.get("recurrenceOverrides").is_none() {
-        return text_or_empty(alloc, event, "title");
+    match event.get("recurrenceOverrides") {
+        Some(_) => {
+            let key = local_text(alloc, rid)?;
+            title_at(alloc, event, &key)
+        }
+        None => text_or_empty(alloc, event, "title"),
     }
-    let key = local_text(alloc, rid)?;
-    match override_at(event, &key) {
-        Some(patch) => patched_title(alloc, event, &key, patch),
+}
+
+// The same by the LocalDateTime of the recurrence id. The object of the occurrence is made only where an override names it.
+#[tactic(auto, using(crate::proofs::TitleLemmas::own_title, crate::proofs::TitleLemmas::title_patched))]
+fn title_at(alloc: Global, event: &Tree, key: &Text) -> Result<Text, AllocError>
+    ensures { IfOk result (λ title. title ≡ title_at key.now (data_of event.now)) }
+{
+    match override_at(event, key) {
+        Some(patch) => patched_title(alloc, event, key, patch),
         None => text_or_empty(alloc, event, "title"),
     }
 }

@@ -1,7 +1,6 @@
 //! What a query sees of events whose occurrences are results.
 ghost use Rattle.std.specs.Prelude.{◌≡◌, ◌++◌, All, IfOk, OnOk, Some, map, option_map, true, unwrap_or};
 ghost use Rattle.event_store.specs.StoredEvents.{HasItsSeries};
-ghost use Rattle.expanded_query.specs.Sights.{looks_for, gives};
 ghost use Rattle.jiff_tz.specs.PosixText.{tz_view};
 ghost use Rattle.model_filter.specs.Matches.{instants_asked};
 ghost use Rattle.model_json.specs.Parts.{members_in};
@@ -36,6 +35,8 @@ pub(crate) struct OccurrenceSight<'a> {
 }
 
 impl<'a> OccurrenceSight<'a> {
+    ghost use Rattle.expanded_query.specs.Sights.{gives, looks_for};
+
     /// What is seen by a filter whose zone has this rule. Takes memory for folded texts.
     pub(crate) fn new(
         alloc: Global,

@@ -15,14 +15,14 @@ use Rattle.model_site.specs.Configuration.{Site}
 use Rattle.io_edge.specs.Outside.{OpenerShown}
 use Rattle.jmapd_run.specs.declared.status.Status.{Status}
 use Rattle.jmapd_run.specs.declared.status.Status.TheVariants.{Config, Cut, Done, NoMemory, OpenFault, ReadFault, Refused, Usage, WriteFault}
-use Rattle.command_line.specs.Commands.{Command, batch, command_of, stdio}
+use Rattle.command_line.specs.Commands.{Command, batch, command_of, stdio, workload}
 use Rattle.jmapd_run.proofs.Connecting.{few_calls, same_desk}
 use Rattle.jmapd_run.proofs.Reading.{all_read}
 use Rattle.jmapd_run.proofs.StartLemmas.{batch_start, site_of, some_same, start_is, start_of_command, stdio_start, user_is}
 use Rattle.jmapd_run.specs.Completes.{FaultlessRunsWork, GivesStatus, HasUser, IsAccepted, NothingFailed, connection_status}
 use Rattle.jmapd_run.specs.Headline.{AnswersInput, Surroundings}
-use Rattle.jmapd_run.specs.Runs.{BatchEnds, RunsFrom, RunsStdio, status_of, with_desk}
-use Rattle.jmapd_run.specs.Starts.{HasConfiguration, Start, batch_for, configuration_named, configuration_of, stdio_of}
+use Rattle.jmapd_run.specs.Runs.{BatchEnds, RunsFrom, RunsStdio, WorkloadEnds, status_of, with_desk}
+use Rattle.jmapd_run.specs.Starts.{HasConfiguration, Start, batch_for, configuration_named, configuration_of, stdio_of, workload_by}
 
 -- ---- batch
 
@@ -48,6 +48,20 @@ module _ {x x' : Surroundings} {o o' : OpenerShown} (fine : NothingFailed x x' o
   batch_works site user config who Usage h = absurd h
   batch_works site user config who (Config f i) h = absurd h
   batch_works site user config who OpenFault h = absurd h
+
+-- ---- workload
+
+module _ {x x' : Surroundings} {o o' : OpenerShown} (fine : NothingFailed x x' o o') where
+  pub workload_works : (number size : ℕ) (status : Status) → WorkloadEnds x.output x'.output number size status → (status ≡ NoMemory) ⊎ (status ≡ Done)
+  workload_works number size Done h = inr refl
+  workload_works number size NoMemory h = inl refl
+  workload_works number size WriteFault h = absurd (fine.wrote h.0)
+  workload_works number size Refused h = absurd h
+  workload_works number size ReadFault h = absurd h
+  workload_works number size Cut h = absurd h
+  workload_works number size Usage h = absurd h
+  workload_works number size (Config f i) h = absurd h
+  workload_works number size OpenFault h = absurd h
 
 -- ---- stdio
 
@@ -105,6 +119,9 @@ module _ (x x' : Surroundings) (o o' : OpenerShown) (fine : NothingFailed x x' o
   works (stdio config) accepted has is =
       let comes : start ≡ stdio_of site = sym is ∙ ap stdio_start accepted in
       stdio_works fine (runs_from (stdio_of site) comes) config
+  works (workload number size) accepted has is =
+      let comes : start ≡ workload_by number size = sym is in
+      workload_works fine number size status (runs_from (workload_by number size) comes).how
 
 pub faultless_runs_work : FaultlessRunsWork
 faultless_runs_work x x' o o' words status (inr h) fine command site is accepted has = inl h.0

@@ -5,3 +5,4 @@ pub mod Completing
 pub mod StartLemmas
 pub mod Reading
 pub mod OutputLemmas
+pub mod AccountPages

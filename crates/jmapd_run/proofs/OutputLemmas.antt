@@ -9,12 +9,15 @@ use Rattle.model_batch.specs.Reply.{asked_in}
 use Rattle.model_core.specs.declared.limits.TheConstants.{MAX_SIZE_REQUEST}
 use Rattle.model_json.specs.Data.{Data}
 use Rattle.account_desk.specs.FreshDesk.{IsSole, fresh_desk}
-use Rattle.jmapd_run.specs.Headline.{AnswersInput, IsAnswer, Surroundings}
+use Rattle.account_desk.specs.SoleDesk.{fresh_account}
+use Rattle.cal_model.specs.Answer.{added, answer}
+use Rattle.jmapd_run.specs.Headline.{AnswersInput, IsAnswer, IsWorkText, Surroundings}
 use Rattle.model_connection.specs.Serving.{refusal_text}
 use Rattle.model_connection.specs.Exchanges.{Ticked, all_bytes, all_moments, messages_of}
 use Rattle.model_json.specs.Json.{text_of}
 use Rattle.io_edge.specs.Outside.{Grows, OpenerShown, Rose, Ticks}
-use Rattle.model_site.specs.Configuration.{Site, user_at}
+use Rattle.model_site.specs.Configuration.{Site, built_in, user_at}
+use Rattle.workload.proofs.Outputs.{one_output}
 use Rattle.model_connection.specs.declared.served.ConnEnd.{ConnEnd}
 use Rattle.model_connection.specs.declared.served.ConnEnd.TheVariants as end
 use Rattle.model_connection.specs.declared.served.TheConstants.{MOST_MESSAGES}
@@ -23,14 +26,14 @@ use Rattle.jmapd_run.specs.declared.status.Status.{Status}
 use Rattle.jmapd_run.specs.declared.status.Status.TheVariants.{Config, Cut, Done, NoMemory, OpenFault, ReadFault, Refused, Usage, WriteFault}
 use Rattle.conn_serve.proofs.Completeness.{How, faultless_determined, never_spent}
 use Rattle.conn_serve.specs.Complete.{IsFaultless, IsUnharmed}
-use Rattle.jmapd_run.proofs.Completing.{unharmed, wants_memory}
+use Rattle.jmapd_run.proofs.Completing.{unharmed, wants_memory, workload_works}
 use Rattle.jmapd_run.proofs.Connecting.{same_desk}
 use Rattle.jmapd_run.proofs.Reading.{all_read, first_told}
 use Rattle.jmapd_run.proofs.StartLemmas.{some_same, start_is}
 use Rattle.jmapd_run.specs.Completes.{NothingFailed}
 use Rattle.jmapd_run.specs.Determined.{IsFinished, OutputsAreDetermined}
-use Rattle.jmapd_run.specs.Runs.{BatchEnds, Runs, RunsFrom, RunsStdio, status_of, with_desk}
-use Rattle.jmapd_run.specs.Starts.{Start, batch_for, misconfigured, not_opened, stdio_of, usage}
+use Rattle.jmapd_run.specs.Runs.{BatchEnds, Runs, RunsFrom, RunsStdio, WorkloadEnds, status_of, with_desk}
+use Rattle.jmapd_run.specs.Starts.{Start, batch_for, misconfigured, not_opened, stdio_of, usage, workload_by}
 
 -- a sink that was empty and tells this text got just that
 wrote_all : (held held' : Option (List ℕ)) (text piece : List ℕ) → held ≡ Some [] → held' ≡ Some text → Grows held held' piece → text ≡ piece
@@ -170,6 +173,30 @@ module _ (site : Site) (input : List ℕ) (clock : ℕ → ℤ) where
         text_is site input clock k fine a m ∙ ((λ i. bytes i ++ closing (same.1 i)) ∙ sym (text_is site input clock l well b n)),
       )
 
+-- ---- workload
+
+module _ (number size : ℕ) where
+  work_text : {x x' : Surroundings} {o o' : OpenerShown} {input : List ℕ} {clock : ℕ → ℤ} {text : List ℕ} → Known x x' input clock text → NothingFailed x x' o o' → (status : Status) → status ≡ Done → WorkloadEnds x.output x'.output number size status → IsWorkText number size text
+  work_text {x} {x'} {text = text} k fine status is h =
+      let done : WorkloadEnds x.output x'.output number size Done = subst (WorkloadEnds x.output x'.output number size) is h in
+      subst (IsWorkText number size) (sym (wrote_all x.output.holds x'.output.holds text done.0 k.empty k.written done.2)) done.1
+
+  done_by : {x x' : Surroundings} {o o' : OpenerShown} → NothingFailed x x' o o' → (status : Status) → WorkloadEnds x.output x'.output number size status → status ≢ NoMemory → status ≡ Done
+  done_by fine status h m = either_way (workload_works fine number size status h)
+    where
+      either_way : (status ≡ NoMemory) ⊎ (status ≡ Done) → status ≡ Done
+      either_way (inl e) = absurd (m e)
+      either_way (inr e) = e
+
+  same_workloads : {x x' y y' : Surroundings} {o o' p p' : OpenerShown} {input : List ℕ} {clock : ℕ → ℤ} {text other : List ℕ} {s t : Status} → Known x x' input clock text → Known y y' input clock other → NothingFailed x x' o o' → NothingFailed y y' p p'
+      → WorkloadEnds x.output x'.output number size s → WorkloadEnds y.output y'.output number size t → s ≢ NoMemory → t ≢ NoMemory → (s ≡ t) × (text ≡ other)
+  same_workloads {text = text} {other = other} {s = s} {t = t} k l fine well a b m n =
+      let one = done_by fine s a m in
+      let two = done_by well t b n in (
+        one ∙ sym two,
+        one_output answer added (fresh_account built_in 0).0 (fresh_account built_in 0).1 number size text other (work_text k fine s one a) (work_text l well t two b),
+      )
+
 -- ---- the whole
 
 module _ (x x' : Surroundings) where
@@ -224,6 +251,7 @@ module _ {words : List (List ℕ)} {configuration : Option (List ℕ)} {input : 
   same_from (batch_for site user) h g = same_batches site user input clock s t text other
       (batch_end site user input clock a.before a.after a.opener a.opener' s text (known a) a.nothing_failed h.how a.had_memory) (batch_end site user input clock b.before b.after b.opener b.opener' t other (known b) b.nothing_failed g.how b.had_memory)
   same_from (stdio_of site) h g = same_connections site input clock (known a) (known b) a.nothing_failed b.nothing_failed h g a.had_memory b.had_memory
+  same_from (workload_by number size) h g = same_workloads number size (known a) (known b) a.nothing_failed b.nothing_failed h.how g.how a.had_memory b.had_memory
 
   pub outputs_same : (s ≡ t) × (text ≡ other)
   outputs_same = by_runs a.runs b.runs

@@ -8,8 +8,8 @@ use Rattle.model_json.specs.Json.{reading}
 use Rattle.model_site.specs.Configuration.{Fault, Site, built_in, configured, site_read, user_named}
 use Rattle.model_site.specs.declared.field.Field.TheVariants.{Json}
 use Rattle.model_site.specs.declared.limits.TheConstants.{MAX_CONFIGURATION_BYTES}
-use Rattle.command_line.specs.Commands.{Command, batch, command_of, stdio}
-use Rattle.jmapd_run.specs.Starts.{HasConfiguration, IsLoaded, IsNotOpened, IsSite, IsStart, IsUser, Start, batch_for, configuration_named, configuration_of, misconfigured, not_opened, stdio_of, usage}
+use Rattle.command_line.specs.Commands.{Command, batch, command_of, stdio, workload}
+use Rattle.jmapd_run.specs.Starts.{HasConfiguration, IsLoaded, IsNotOpened, IsSite, IsStart, IsUser, Start, batch_for, configuration_named, configuration_of, misconfigured, not_opened, stdio_of, usage, workload_by}
 
 pub some_same : {X : Type 0} (x y : X) → Some x ≡ Some y → x ≡ y
 some_same x y e = ap (λ o. unwrap_or o x) e
@@ -69,6 +69,7 @@ abbrev pub start_of_command : Option (List ℕ) → Option Command → Start
 start_of_command bytes None = usage
 start_of_command bytes (Some (batch config who)) = batch_start (site_of config bytes) who
 start_of_command bytes (Some (stdio config)) = stdio_start (loaded bytes)
+start_of_command bytes (Some (workload number size)) = workload_by number size
 
 pub user_is : (site : Site) (who : Option (List ℕ)) (user : ℕ) → IsUser site who user → batch_start (Some (Ok site)) who ≡ batch_for site user
 user_is site None user u = ap (batch_for site) (sym u)
@@ -108,6 +109,7 @@ module _ (words : List (List ℕ)) (o o' : OpenerShown) (bytes : Option (List �
       → ((who : Option (List ℕ)) → batch_start r who ≡ start) → stdio_start r ≡ start → start_of_command bytes (command_of words) ≡ start
   by_configuration (batch config who) name r start e f l b s = of_command _ e ∙ (ap (λ (x : Option (List ℕ)). batch_start (site_of x bytes) who) f ∙ (ap (λ x. batch_start x who) l ∙ b who))
   by_configuration (stdio config) name r start e f l b s = of_command _ e ∙ (ap stdio_start l ∙ s)
+  by_configuration (workload number size) name r start e f l b s = cc
 
   no_file : (c : Command) (name : List ℕ) → command_of words ≡ Some c → configuration_of c ≡ Some name → IsNotOpened o o' name → start_of_command bytes (command_of words) ≡ not_opened
   no_file c name e f (inl missing) = by_configuration c name None not_opened e f (missing_is o name bytes (has_name c name e f) missing) (λ who. refl) refl
@@ -121,3 +123,4 @@ module _ (words : List (List ℕ)) (o o' : OpenerShown) (bytes : Option (List �
       by_configuration h.0 h.1 (Some (Err (record { field = field; index = index }))) (misconfigured field index) h.2 h.3 (loaded_is o o' h.1 bytes _ (has_name h.0 h.1 h.2 h.3) h.4) (λ who. refl) refl
   start_is (batch_for site user) h = of_command _ h.2 ∙ (ap (λ x. batch_start x h.1) (site_is o o' h.0 bytes site (has_named _ h.2) h.3) ∙ user_is site h.1 user h.4)
   start_is (stdio_of site) h = of_command _ h.1 ∙ ap stdio_start (loaded_is o o' h.0 bytes (Ok site) (has_named _ h.1) h.2)
+  start_is (workload_by number size) h = of_command _ h.0

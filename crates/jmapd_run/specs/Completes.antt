@@ -11,7 +11,7 @@ use Rattle.model_http.specs.Pipeline.{Ending, undecided, bad_head, close_asked, 
 use Rattle.model_site.specs.Configuration.{Site, built_in, configured}
 use Rattle.jmapd_run.specs.declared.status.Status.{Status}
 use Rattle.jmapd_run.specs.declared.status.Status.TheVariants.{Cut, Done, NoMemory, Refused}
-use Rattle.command_line.specs.Commands.{Command, batch, command_of, stdio}
+use Rattle.command_line.specs.Commands.{Command, batch, command_of, stdio, workload}
 use Rattle.jmapd_run.specs.Headline.{Surroundings}
 use Rattle.jmapd_run.specs.Runs.{Runs}
 use Rattle.jmapd_run.specs.Starts.{HasConfiguration, IsUser, configuration_of}
@@ -30,11 +30,12 @@ connection_status (bad_head status) left = Cut
 connection_status close_asked left = Done
 connection_status quota_spent left = Cut
 
--- The bytes are those of the input, or its first ones where a request has no more, if the input tells them; and this is the status that they give.
+-- The bytes are those of the input, or its first ones where a request has no more, if the input tells them; and this is the status that they give. A workload has no part in them.
 abbrev pub GivesStatus : Command → Option (List ℕ) → Status → Type 0
 GivesStatus (batch config who) input status = (bytes : List ℕ) × IfSome input (λ told. bytes ≡ take (MAX_SIZE_REQUEST + 1) told) × (status ≡ request_status bytes)
 GivesStatus (stdio config) input status =
     (bytes : List ℕ) × IfSome input (λ told. bytes ≡ told) × (ms : List Message) × (left : List ℕ) × (ending : Ending) × Holds MOST_MESSAGES bytes ms left ending × (status ≡ connection_status ending left)
+GivesStatus (workload number size) input status = status ≡ Done
 
 -- ---- runs
 
@@ -47,6 +48,7 @@ IsAccepted (Some name) o site = (bytes : List ℕ) × HasConfiguration (Some nam
 abbrev pub HasUser : Site → Command → Type 0
 HasUser site (batch config who) = (user : ℕ) × IsUser site who user
 HasUser site (stdio config) = ⊤
+HasUser site (workload number size) = ⊤
 
 -- neither opener nor input nor output failed
 pub record NothingFailed (x x' : Surroundings) (o o' : OpenerShown) : Type 0 where

@@ -1,7 +1,9 @@
--- What answering one request does, whatever bytes come.
+-- What answering one request does, whatever bytes come, and what a workload writes.
 use Rattle.std.specs.Prelude.{◌≡◌, ◌≤◌, ◌+◌, ℕ, ℤ, List, [], ◌∷◌, ◌++◌, Bool, Option, length}
 use Rattle.std.specs.Io.KnownBytes.{Consumes, IsAtEnd}
 use Rattle.account_desk.specs.FreshDesk.{IsSole, fresh_desk}
+use Rattle.account_desk.specs.SoleDesk.{fresh_account}
+use Rattle.cal_model.specs.Answer.{added, answer}
 use Rattle.model_batch.specs.Asked.{is_refused}
 use Rattle.model_batch.specs.Reply.{Replies, asked_in}
 use Rattle.model_time.specs.Moments.{clamped}
@@ -10,7 +12,8 @@ use Rattle.model_batch.specs.Chain.{Made, Chain, Shown}
 use Rattle.model_json.specs.Data.{Data}
 use Rattle.model_json.specs.Json.{text_of}
 use Rattle.io_edge.specs.Outside.{SinkShown, SourceShown, Ticks}
-use Rattle.model_site.specs.Configuration.{Site, user_at}
+use Rattle.model_site.specs.Configuration.{Site, built_in, user_at}
+use Rattle.workload.specs.Work.{IsOutput}
 
 -- what is shown of all that a command touches besides the files
 pub record Surroundings : Type 0 where
@@ -40,3 +43,7 @@ pub record AnswersInput (site : Site) (user : ℕ) (x x' : Surroundings) (is_ref
   pub moment : ℤ
   pub ticked : Ticks x.clock x'.clock moment
   pub answer : IsAnswer site user (clamped moment) bytes is_refusal text
+
+-- This is the text of a workload, on the account of the site without a configuration, before any call.
+abbrev pub IsWorkText : ℕ → ℕ → List ℕ → Type 0
+IsWorkText number size text = IsOutput answer added (fresh_account built_in 0).0 (fresh_account built_in 0).1 number size text

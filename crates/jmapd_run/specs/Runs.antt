@@ -3,9 +3,9 @@ use Rattle.std.specs.Prelude.{◌≡◌, ◌⊎◌, ◌+◌, ◌≤◌, ℕ, ℤ
 use Rattle.model_core.specs.declared.limits.TheConstants.{MAX_SIZE_REQUEST}
 use Rattle.model_batch.specs.Chain.{Shown}
 use Rattle.account_desk.specs.FreshDesk.{IsSole, fresh_desk}
-use Rattle.jmapd_run.specs.Headline.{AnswersInput, Surroundings}
+use Rattle.jmapd_run.specs.Headline.{AnswersInput, IsWorkText, Surroundings}
 use Rattle.model_connection.specs.Serving.{Serves, Setting}
-use Rattle.io_edge.specs.Outside.{ConsumesAtMost, Grows, GrowsByPrefix, OpenerShown, Rose, Ticks}
+use Rattle.io_edge.specs.Outside.{ConsumesAtMost, Grows, GrowsByPrefix, OpenerShown, Rose, SinkShown, Ticks}
 use Rattle.model_site.specs.Configuration.{Site}
 use Rattle.model_connection.specs.declared.served.ConnEnd.{ConnEnd}
 use Rattle.model_connection.specs.declared.served.ConnEnd.TheVariants as end
@@ -13,7 +13,7 @@ use Rattle.model_connection.specs.declared.served.Served.{Served}
 use Rattle.model_connection.specs.declared.served.TheConstants.{MOST_MESSAGES}
 use Rattle.jmapd_run.specs.declared.status.Status.{Status}
 use Rattle.jmapd_run.specs.declared.status.Status.TheVariants.{Config, Cut, Done, NoMemory, OpenFault, ReadFault, Refused, Usage, WriteFault}
-use Rattle.jmapd_run.specs.Starts.{IsStart, Start, batch_for, misconfigured, not_opened, stdio_of, usage}
+use Rattle.jmapd_run.specs.Starts.{IsStart, Start, batch_for, misconfigured, not_opened, stdio_of, usage, workload_by}
 
 -- how `stdio` ends, by how its connection ended; its desk never has made as many calls as it may
 abbrev pub status_of : ConnEnd → Option Status
@@ -29,6 +29,15 @@ status_of end.PassSpent = None
 
 abbrev pub with_desk : Surroundings → Shown → Setting
 with_desk x desk = record { source = x.input; sink = x.output; clock = x.clock; desk = desk }
+
+-- what is shown of the output before and after
+module _ (k k' : SinkShown) where
+  -- At `Done` the output grew by the four lines of a workload, at `WriteFault` by a prefix of them, and else it is untouched.
+  abbrev pub WorkloadEnds : ℕ → ℕ → Status → Type 0
+  WorkloadEnds number size Done = (text : List ℕ) × IsWorkText number size text × Grows k.holds k'.holds text
+  WorkloadEnds number size WriteFault = Rose k.faults k'.faults × (text : List ℕ) × IsWorkText number size text × GrowsByPrefix k.holds k'.holds text
+  WorkloadEnds number size NoMemory = k' ≡ k
+  WorkloadEnds number size _ = ⊥
 
 module _ (x x' : Surroundings) where
   -- At `Done` and `Refused` the output grew by the whole text of the answer, at `WriteFault` by a prefix of it, and else it is untouched. The clock isn't read before the input.
@@ -55,6 +64,13 @@ module _ (x x' : Surroundings) where
     pub sole : IsSole desk
     pub ended : status_of served.end ≡ Some status
 
+  -- A workload was done. Neither the input nor the clock was touched.
+  pub record RunsWorkload (number size : ℕ) (status : Status) : Type 0 where
+    pub input : x'.input ≡ x.input
+    pub clock : x'.clock ≡ x.clock
+    pub output_later : x.output.faults ≤ x'.output.faults
+    pub how : WorkloadEnds x.output x'.output number size status
+
   -- what comes of a start, and with which status
   abbrev pub RunsFrom : Start → Status → Type 0
   RunsFrom usage Usage = x' ≡ x
@@ -62,6 +78,7 @@ module _ (x x' : Surroundings) where
   RunsFrom (misconfigured field index) (Config f i) = (f ≡ field) × (i ≡ index) × (x' ≡ x)
   RunsFrom (batch_for site user) status = RunsBatch site user status
   RunsFrom (stdio_of site) status = RunsStdio site status
+  RunsFrom (workload_by number size) status = RunsWorkload number size status
   RunsFrom _ _ = ⊥
 
   -- The words and the opener come to a start, and from there the run goes on; or memory was wanted before anything else was touched.

@@ -7,16 +7,18 @@ use Rattle.jmapd_run.specs.declared.status.Status.TheVariants.{Config, NoMemory,
 use Rattle.jmapd_run.specs.Starts as starts
 use Rattle.jmapd_run.specs.Starts.{IsLoaded, IsNotOpened, IsSite, IsStart, IsUser}
 use Rattle.jmapd_run.specs.declared.start.Start.{Start}
-use Rattle.jmapd_run.specs.declared.start.Start.TheVariants.{Batch, Stdio}
+use Rattle.jmapd_run.specs.declared.start.Start.TheVariants.{Batch, Stdio, Workload}
 
 abbrev pub start_shown : Start → starts.Start
 start_shown (Batch site user) = starts.batch_for site user
 start_shown (Stdio site) = starts.stdio_of site
+start_shown (Workload work) = starts.workload_by work.number work.size
 
--- its user is one of its site
+-- its user, where it has one, is one of its site
 abbrev pub HasItsUser : Start → Type 0
 HasItsUser (Batch site user) = user < length site.users
 HasItsUser (Stdio site) = ⊤
+HasItsUser (Workload work) = ⊤
 
 -- what bytes come to as a configuration
 abbrev pub ReadHow : Result Site Fault → Result Site Status → Type 0

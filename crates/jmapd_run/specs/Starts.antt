@@ -4,7 +4,7 @@ use Rattle.io_edge.specs.Outside.{IsMissing, Loads, OpenerShown, Rose, file_name
 use Rattle.model_site.specs.Configuration.{Fault, Site, built_in, configured, user_named}
 use Rattle.model_site.specs.declared.field.Field.{Field}
 use Rattle.model_site.specs.declared.limits.TheConstants.{MAX_CONFIGURATION_BYTES}
-use Rattle.command_line.specs.Commands.{Command, batch, command_of, stdio}
+use Rattle.command_line.specs.Commands.{Command, batch, command_of, stdio, workload}
 
 pub data Start : Type 0 where
   -- the words are no command's, or name a user that there isn't
@@ -17,10 +17,13 @@ pub data Start : Type 0 where
   batch_for : Site → ℕ → Start
   -- one connection, for the users of a site
   stdio_of : Site → Start
+  -- a workload, with the number that its generator begins with and its size
+  workload_by : ℕ → ℕ → Start
 
 abbrev pub configuration_of : Command → Option (List ℕ)
 configuration_of (batch config user) = config
 configuration_of (stdio config) = Some config
+configuration_of (workload number size) = None
 
 -- the name of the configuration that the words name, if they name one
 abbrev pub configuration_named : List (List ℕ) → Option (List ℕ)
@@ -57,3 +60,4 @@ module _ (o o' : OpenerShown) where
   IsStart words (misconfigured field index) = (c : Command) × (name : List ℕ) × (command_of words ≡ Some c) × (configuration_of c ≡ Some name) × IsLoaded name (Err (record { field = field; index = index }))
   IsStart words (batch_for site user) = (config : Option (List ℕ)) × (who : Option (List ℕ)) × (command_of words ≡ Some (batch config who)) × IsSite config site × IsUser site who user
   IsStart words (stdio_of site) = (config : List ℕ) × (command_of words ≡ Some (stdio config)) × IsLoaded config (Ok site)
+  IsStart words (workload_by number size) = (command_of words ≡ Some (workload number size)) × (o' ≡ o)

@@ -7,3 +7,4 @@ pub mod run;
 pub mod start;
 pub mod status;
 mod stdio;
+mod work;

@@ -6,6 +6,7 @@ use crate::batch::run_batch;
 use crate::start::{Start, start_from};
 use crate::status::Status;
 use crate::stdio::run_stdio;
+use crate::work::run_workload;
 use io_edge::clock::Clock;
 use io_edge::opener::Opener;
 use io_edge::sink::Sink;
@@ -15,7 +16,8 @@ use std::alloc::Global;
 /// Runs the command that `words` name, which are the program's words without its own name.
 ///
 /// `batch` reads one request, answers it on fresh accounts, and writes the response or the problem with a line feed (RFC 8620
-/// section 3). `stdio` serves one HTTP connection over fresh accounts. Every other first word is `Usage`. The words are looked at first, then the
+/// section 3). `stdio` serves one HTTP connection over fresh accounts. `workload` makes the requests that a generator gives on a fresh account, and writes what came of
+/// them. Every other first word is `Usage`. The words are looked at first, then the
 /// configuration, which is loaded once at most, then the name of the user; the input and the output aren't touched before.
 pub fn run<O: Opener, S: Source, K: Sink, C: Clock>(
     alloc: Global,
@@ -34,6 +36,7 @@ pub fn run<O: Opener, S: Source, K: Sink, C: Clock>(
     match start_from(alloc, words, opener) {
         Ok(Start::Batch(site, user)) => run_batch(alloc, &site, user, input, output, clock),
         Ok(Start::Stdio(site)) => run_stdio(alloc, &site, input, output, clock),
+        Ok(Start::Workload(work)) => run_workload(alloc, work, output),
         Err(status) => status,
     }
 }

@@ -5,6 +5,7 @@ ghost use Rattle.jmapd_run.specs.Shown.{BatchHow, HasItsUser, LoadHow, NamedHow,
 
 use crate::status::Status;
 use command_line::command::{Command, read_command};
+use command_line::workload::Workload;
 use io_edge::opener::{LoadError, Opener};
 use model_site::limits::MAX_CONFIGURATION_BYTES;
 use session_doc::{ConfigurationError, Site};
@@ -17,6 +18,8 @@ pub(crate) enum Start {
     Batch(Site, u32),
     /// One connection.
     Stdio(Site),
+    /// A workload.
+    Workload(Workload),
 }
 
 /// What the words ask for, under the configuration that they name.
@@ -36,6 +39,7 @@ pub(crate) fn start_from<O: Opener>(
     match read_command(alloc, words) {
         Ok(Some(Command::Batch { config, user })) => start_batch(alloc, opener, config, user),
         Ok(Some(Command::Stdio { config })) => Ok(Start::Stdio(load_site(alloc, opener, config)?)),
+        Ok(Some(Command::Workload(work))) => Ok(Start::Workload(work)),
         Ok(None) => Err(Status::Usage),
         Err(_) => Err(Status::NoMemory),
     }

@@ -35,5 +35,5 @@ pub trait Listener: Drop + 'static {
     ghost balanced: { (l : Self) → IsBalanced (shown l) };
 }
 
-/// A listener that may move to another thread.
-pub trait ThreadListener: Listener + Send {}
+/// A listener that may move to another thread, with the connections that it hands out.
+pub trait ThreadListener: Listener<In: Send, Out: Send> + Send {}

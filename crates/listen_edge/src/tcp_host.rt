@@ -47,6 +47,7 @@ impl<R: Net> TcpHost<R> {
 impl<R: Net + Wait + Clock + Copy + Send + Drop + 'static> Host for TcpHost<R>
 where
     R::Listener: Send + 'static,
+    <R::Listener as OpenListener>::Stream: Send,
 {
     type L = TcpConnections<R, R::Listener>;
 

@@ -107,7 +107,7 @@ impl<
     L: OpenListener + Send + Drop + 'static,
 > ThreadListener for TcpConnections<R, L>
 where
-    L::Stream: Read + Write + OpenStream + Drop,
+    L::Stream: Read + Write + OpenStream + Send + Drop,
 {}
 
 fn pause(clock: &impl Clock) {

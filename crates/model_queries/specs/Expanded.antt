@@ -15,7 +15,7 @@ use Rattle.model_json.specs.Parts.{members_in, some_of}
 use Rattle.model_json.specs.TreeData.{data_of}
 use Rattle.model_json.specs.declared.tree.Tree.{Tree}
 use Rattle.model_queries.specs.Criteria.{Criteria, filter_or_all, order_of}
-use Rattle.model_queries.specs.Found.{Paging, at_place, cut_asked, missing_anchor, no_window, within, window_response}
+use Rattle.model_queries.specs.Found.{Paging, at_place, cut_asked, missing_anchor, no_window, cut_out, window_response}
 use Rattle.model_queries.specs.Items.{text_or_empty, utc_moment}
 use Rattle.model_query.specs.Results.{places}
 use Rattle.model_query.specs.declared.comparator.Comparator.{Comparator}
@@ -60,7 +60,7 @@ title_in (Ok d) = text_or_empty (codes "title") d
 title_in (Err pointer) = []
 
 -- that of the object of an occurrence, the LocalDateTime of whose recurrence id is the key
-abbrev pub title_at : List ℕ → Data → List ℕ
+unfoldable pub title_at : List ℕ → Data → List ℕ
 title_at key event = title_in (occurrence_in (members_in event) key (unwrap_or (override_at key event) []))
 
 -- what comparators see of an occurrence by its clock: its own start and title, and the rest of its event
@@ -122,7 +122,7 @@ cut_among p ids = cut_asked p (length ids) (anchor_among ids p.anchor)
 
 -- the arguments of the reply that tells this window of a result
 abbrev pub expanded_window : List ℕ → List Change → Paging → List (List ℕ) → Cut → Tree
-expanded_window account cs p ids cut = window_response account cs p true (list (items_of (map text (within cut ids)))) (length ids) cut
+expanded_window account cs p ids cut = window_response account cs p true (list (items_of (map text (cut_out cut ids)))) (length ids) cut
 
 -- ids by the order of their items; equal ones stay as they stand
 abbrev pub ids_in_order : List Comparator → List (List ℕ × Item) → List (List ℕ)

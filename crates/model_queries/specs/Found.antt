@@ -59,8 +59,9 @@ cut_asked p total anchor = window_of total p.position anchor p.anchor_offset (mo
 abbrev pub missing_anchor : Option Cut → Option MethodError
 missing_anchor cut = option_map_or (λ c. None) cut (Some AnchorNotFound)
 
-abbrev pub within : {X : Type 0} → Cut → List X → List X
-within cut ids = take (cut.to - cut.from) (drop cut.from ids)
+-- what stands at the places of a cut
+abbrev pub cut_out : {X : Type 0} → Cut → List X → List X
+cut_out cut ids = take (cut.to - cut.from) (drop cut.from ids)
 
 -- where no window is asked for, as when a query is refused
 abbrev pub no_window : Cut
@@ -75,7 +76,7 @@ window_response account cs p expand ids total cut = Object (
 
 -- the same of the numbers of events
 abbrev pub numbers_window : List ℕ → List Change → Paging → List ℕ → Cut → Tree
-numbers_window account cs p ids cut = window_response account cs p false (id_list Event (within cut ids)) (length ids) cut
+numbers_window account cs p ids cut = window_response account cs p false (id_list Event (cut_out cut ids)) (length ids) cut
 
 abbrev pub cut_of_numbers : Paging → List ℕ → Option Cut
 cut_of_numbers p ids = cut_asked p (length ids) (anchor_in ids p.anchor)

@@ -6,7 +6,7 @@ ghost use Rattle.model_history.specs.History.{changes_of};
 ghost use Rattle.model_history.specs.ObjectId.{object_number};
 ghost use Rattle.model_history.specs.declared.entry.Kind.TheVariants.{Event};
 ghost use Rattle.model_json.specs.TreeData.{data_of};
-ghost use Rattle.model_queries.specs.Found.{anchor_in, anchor_refusal, cut_asked, found_response, is_own_limit, most_ids, numbers_window, window_response, within};
+ghost use Rattle.model_queries.specs.Found.{anchor_in, anchor_refusal, cut_asked, found_response, is_own_limit, most_ids, numbers_window, window_response, cut_out};
 ghost use Rattle.model_queries.specs.Queries.{is_paging};
 ghost use Rattle.model_query.specs.Windows.{IsInMemory};
 ghost use Rattle.query_methods.specs.Reports.{Reports};
@@ -113,8 +113,8 @@ fn is_own_limit(limit: Option<Num>) -> bool
 }
 
 /// The ids of a window of a result. Takes no memory.
-pub fn within<T>(cut: Cut, ids: &[T]) -> &[T]
-    ensures { result.now ≡ within cut ids.now }
+pub fn cut_out<T>(cut: Cut, ids: &[T]) -> &[T]
+    ensures { result.now ≡ cut_out cut ids.now }
 {
     let from = min(cut.from, ids.len() as u64) as usize;
     let count = min(cut.to.saturating_sub(cut.from), (ids.len() - from) as u64) as usize;
@@ -133,7 +133,7 @@ fn numbers_window(
     ensures { IfOk result (λ t. t ≡ numbers_window account.now (changes_of (entries store.now)) (paging_in paging.now) ids.now cut) }
 {
     let part = Part {
-        ids: id_list(alloc, Kind::Event, within(cut, ids))?,
+        ids: id_list(alloc, Kind::Event, cut_out(cut, ids))?,
         total: ids.len() as u64,
         cut,
     };

@@ -1,0 +1,61 @@
+-- The calls of a workload, by the numbers of a generator.
+use Rattle.std.specs.Prelude.{ℕ, zero, suc, ◌+◌, ◌*◌, ◌%◌, ℤ, pos, List, [], ◌∷◌, Some, None, true, codes, decimal}
+use Rattle.model_call.specs.declared.call.Asks.{Asks}
+use Rattle.model_call.specs.declared.call.Asks.TheVariants.{Changes, Set}
+use Rattle.model_call.specs.declared.call.Call.{Call}
+use Rattle.model_history.specs.declared.entry.Kind.{Kind}
+use Rattle.model_history.specs.declared.entry.Kind.TheVariants.{Calendar, Event}
+use Rattle.model_json.specs.Data.{Data, Pair, items_of, list, members_of, object, text, truth, whole}
+use Rattle.model_time.specs.LocalTimes.{local_text}
+use Rattle.model_time.specs.Walls.{wall_at}
+
+-- ---- the generator
+
+-- what a draw makes of the number before it
+abbrev pub drawn : ℕ → ℕ
+drawn x = (75 * x + 74) % 65537
+
+-- ---- the calls
+
+abbrev pub call_of : Asks → Call
+call_of asks = record { created = []; asks = asks }
+
+-- the creation id of what a call creates
+abbrev pub creation_id : List ℕ
+creation_id = codes "new"
+
+-- a set that creates one object (RFC 8620 section 5.3)
+abbrev pub create_call : Kind → List Pair → Call
+create_call kind members = call_of (Set kind None (Some ((creation_id, object (members_of members)) ∷ [])) None None None)
+
+-- the calendar of a room with the clock of UTC
+abbrev pub room_call : Call
+room_call = create_call Calendar ((codes "name", text (codes "room")) ∷ (codes "resourceZone", text (codes "Etc/UTC")) ∷ [])
+
+-- a weekly rule
+abbrev pub weekly : ℕ → Data
+weekly interval = object (members_of ((codes "frequency", text (codes "weekly")) ∷ (codes "interval", whole (pos interval)) ∷ []))
+
+-- an event of one hour in that calendar, from a wall second on and again each so many weeks
+abbrev pub event : ℕ → ℤ → ℕ → List Pair
+event request start interval =
+    (codes "calendarIds", object (members_of ((codes "C1", truth true) ∷ [])))
+    ∷ (codes "duration", text (codes "PT1H"))
+    ∷ (codes "recurrenceRules", list (items_of (weekly interval ∷ [])))
+    ∷ (codes "start", text (local_text start))
+    ∷ (codes "timeZone", text (codes "Etc/UTC"))
+    ∷ (codes "uid", text (119 ∷ decimal request)) ∷ []
+
+-- the request of a number, by its three draws
+abbrev pub request_call : ℕ → ℕ → ℕ → ℕ → Call
+request_call request a b c = create_call Event (event request (wall_at (pos (19723 + a % 700)) (3600 * (8 + b % 10))) (1 + c % 4))
+
+-- so many requests from this one on, where the generator has this number before them
+abbrev pub request_calls : ℕ → ℕ → ℕ → List Call
+request_calls request x zero = []
+request_calls request x (suc count) =
+    request_call request (drawn x) (drawn (drawn x)) (drawn (drawn (drawn x))) ∷ request_calls (suc request) (drawn (drawn (drawn x))) count
+
+-- a call for the changes of events since a state, at most 500 (RFC 8620 section 5.2)
+abbrev pub page_call : List ℕ → Call
+page_call since = call_of (Changes Event since (Some (pos 500)))

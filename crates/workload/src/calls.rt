@@ -1,0 +1,146 @@
+//! The calls of a workload.
+ghost use Rattle.std.specs.Prelude.{◌≡◌, ◌<◌, ◌+◌, ◌*◌, ◌∷◌, [], IfOk, None, Some, pos, true};
+ghost use Rattle.model_call.specs.declared.call.Asks.TheVariants.{Set};
+ghost use Rattle.model_json.specs.TreeData.{data_of};
+ghost use Rattle.model_time.specs.Walls.{is_in_years, wall_at};
+ghost use Rattle.workload.specs.Generated.{call_of, creation_id, drawn, event, page_call, request_call, room_call, weekly};
+
+use model_call::call::{Asks, Call};
+use model_history::entry::Kind;
+use model_json::lists::Pairs;
+use model_json::num::Num;
+use model_json::text::Text;
+use model_json::tree::{Member, Tree, TreeList, TreeObject};
+use model_time::wall::Wall;
+use std::alloc::{AllocError, Global};
+use time_text::local_text;
+
+/// The creation id of what a call creates.
+pub(crate) const CREATION_ID: &str = "new";
+/// The number of 2024-01-01.
+const FIRST_DAY: i64 = 19723;
+/// The most ids that a page of changes may have.
+const MOST_IDS: i128 = 500;
+
+/// What a draw makes of the number before it.
+pub(crate) fn drawn(number: u32) -> u32
+    ensures { result ≡ drawn number }
+{
+    ((75 * u64::from(number) + 74) % 65537) as u32
+}
+
+/// The call that creates the calendar of the room.
+pub(crate) fn room_call(alloc: Global) -> Result<Call, AllocError>
+    ensures { IfOk result (λ call. call ≡ room_call) }
+{
+    let members = vec![in alloc;
+        ("name", text(alloc, "room")?),
+        ("resourceZone", text(alloc, "Etc/UTC")?),
+    ]?;
+    create_call(alloc, Kind::Calendar, Tree::object(alloc, members)?)
+}
+
+/// The call of a request of this number, by its three draws.
+pub(crate) fn request_call(
+    alloc: Global,
+    request: u32,
+    a: u32,
+    b: u32,
+    c: u32,
+) -> Result<Call, AllocError>
+    ensures { IfOk result (λ call. call ≡ request_call request a b c) }
+{
+    let start = start(a % 700, 8 + b % 10);
+    let event = event(alloc, request, start, 1 + c % 4)?;
+    create_call(alloc, Kind::Event, event)
+}
+
+// The wall second of an hour, so many days behind the first.
+fn start(days: u32, hour: u32) -> Wall
+    requires { (days < 700) × (hour < 24) }
+    ensures start { result ≡ wall_at (pos (19723 + days)) (3600 * hour) }
+    ensures years { is_in_years result ≡ true }
+{
+    Wall::new((FIRST_DAY + i64::from(days)) * 86400 + i64::from(hour) * 3600)
+}
+
+// An event of one hour in the room, from a wall second on and again each so many weeks.
+fn event(alloc: Global, request: u32, start: Wall, interval: u32) -> Result<Tree, AllocError>
+    requires { is_in_years start ≡ true }
+    ensures { IfOk result (λ tree. tree ≡ Tree.Object (event request start interval)) }
+{
+    let calendars = vec![in alloc; ("C1", Tree::Truth(true))]?;
+    let rules = vec![in alloc; weekly(alloc, interval)?]?;
+    let uid = Text::from_string(format!(in alloc; "w{request}")?);
+    let members = vec![in alloc;
+        ("calendarIds", Tree::object(alloc, calendars)?),
+        ("duration", text(alloc, "PT1H")?),
+        ("recurrenceRules", Tree::List(TreeList::new(rules))),
+        ("start", Tree::Text(local_text(alloc, start)?)),
+        ("timeZone", text(alloc, "Etc/UTC")?),
+        ("uid", Tree::Text(uid)),
+    ]?;
+    Tree::object(alloc, members)
+}
+
+// A weekly rule.
+fn weekly(alloc: Global, interval: u32) -> Result<Tree, AllocError>
+    ensures { IfOk result (λ tree. data_of tree ≡ weekly interval) }
+{
+    let members = vec![in alloc;
+        ("frequency", text(alloc, "weekly")?),
+        ("interval", Tree::Whole(Num::new(i128::from(interval)))),
+    ]?;
+    Tree::object(alloc, members)
+}
+
+// A set that creates one object.
+fn create_call(alloc: Global, kind: Kind, object: Tree) -> Result<Call, AllocError>
+    ensures { IfOk result (λ call. call ≡ call_of (Set kind None (Some ((creation_id, data_of object) ∷ [])) None None None)) }
+{
+    let created = Member {
+        key: Text::from_str(alloc, CREATION_ID)?,
+        value: object,
+    };
+    let create = TreeObject::new(vec![in alloc; created]?);
+    Ok(call_of(
+        alloc,
+        Asks::Set {
+            kind,
+            if_in_state: None,
+            create: Some(create),
+            update: None,
+            destroy: None,
+            remove_events: None,
+        },
+    ))
+}
+
+/// A call for the changes of events since a state.
+pub(crate) fn page_call(alloc: Global, since: Text) -> Call
+    ensures { result ≡ page_call since }
+{
+    call_of(
+        alloc,
+        Asks::Changes {
+            kind: Kind::Event,
+            since,
+            max: Some(Num::new(MOST_IDS)),
+        },
+    )
+}
+
+fn call_of(alloc: Global, asks: Asks) -> Call
+    ensures { result ≡ call_of asks }
+{
+    Call {
+        created: Pairs::new(Vec::new(alloc)),
+        asks,
+    }
+}
+
+fn text(alloc: Global, text: &str) -> Result<Tree, AllocError>
+    ensures { IfOk result (λ tree. tree ≡ Tree.Text text.now) }
+{
+    Ok(Tree::Text(Text::from_str(alloc, text)?))
+}
