@@ -26,20 +26,14 @@ pub struct Workload {
 /// What the words behind `workload` ask for, or `None` where they aren't its words.
 ///
 /// Takes memory for what `clap` keeps until the words are read.
-pub(crate) fn read_workload(
-    alloc: Global,
-    words: &[String],
-) -> Result<Option<Workload>, AllocError>
+pub(crate) fn read_workload(alloc: Global, words: &[String]) -> Result<Option<Workload>, AllocError>
     ensures { IfOk result (λ workload. option_map workload_shown workload ≡ workload_of (map string_bytes words.entry.now)) }
 {
     let command = workload_command(alloc)?;
     let Some(matches) = matches_in(command, words)? else {
         return Ok(None);
     };
-    Ok(workload_with(
-        matches.get_str("number"),
-        matches.get_str("size"),
-    ))
+    Ok(workload_with(matches.get_str("number"), matches.get_str("size")))
 }
 
 // What the values of the options ask for.

@@ -19,7 +19,7 @@ returns-in-Some c =
     let response = availability_response lent (changes_of (entries events.store.now)) q.utc_start.now q.utc_end.now q.time_zone.now in
     let found = subst (λ r. MatchOption r (refusal ≡ Some InvalidArguments) (λ t. (refusal ≡ None) × (t ≡ response))) c.in-Some.is c.in_ok-arguments.ensures in
     let told = subst₂ (λ zs s. (availability_refusal (record { account_id = l.id; zones = zs }) q.id.now q.utc_start.now q.utc_end.now q.time_zone.now ≡ None)
-        × (c.in-Some.arguments ≡ availability_response (record { account_id = l.id; zones = zs }) (changes_of (entries s)) q.utc_start.now q.utc_end.now q.time_zone.now))
-        c.events.ensures.zones c.events.ensures.store found in
+    × (c.in-Some.arguments ≡ availability_response (record { account_id = l.id; zones = zs }) (changes_of (entries s)) q.utc_start.now q.utc_end.now q.time_zone.now))
+    c.events.ensures.zones c.events.ensures.store found in
     c.reply.ensures ∙ ap (answered h c.in-Some.arguments) (c.new-in-Some.ensures ∙ c.new.ensures.items) ∙ ap (λ t. answered h t []) told.1
     ∙ ap (λ e. unless_error h e (answered h (availability_response (base l) (changes_of h) q.utc_start.now q.utc_end.now q.time_zone.now) [])) (sym told.0)
