@@ -6,7 +6,7 @@ ghost use Rattle.model_history.specs.History.{changes_of};
 ghost use Rattle.model_history.specs.ObjectId.{object_number};
 ghost use Rattle.model_history.specs.declared.entry.Kind.TheVariants.{Event};
 ghost use Rattle.model_json.specs.TreeData.{data_of};
-ghost use Rattle.model_queries.specs.Found.{anchor_in, anchor_refusal, cut_asked, found_response, is_own_limit, most_ids, numbers_window, window_response, cut_out};
+ghost use Rattle.model_queries.specs.Found.{anchor_in, anchor_refusal, cut_asked, found_response, numbers_window, window_response, cut_out};
 ghost use Rattle.model_queries.specs.Queries.{is_paging};
 ghost use Rattle.model_query.specs.Windows.{IsInMemory};
 ghost use Rattle.query_methods.specs.Reports.{Reports};
@@ -21,10 +21,9 @@ use account_store::Store;
 use event_store::StoredEvents;
 use model_call::call::MethodError;
 use model_history::entry::Kind;
-use model_json::num::Num;
 use model_json::text::Text;
 use model_json::tree::Tree;
-use model_queries::limits::MAX_IDS_IN_QUERY;
+use model_queries::limits::{MAX_IDS_IN_QUERY, is_own_limit, most_ids};
 use model_query::window::{Anchor, Cut};
 use query_order::order::Order;
 use query_order::window::window;
@@ -92,24 +91,6 @@ fn place_of_number(ids: &[u64], number: u64) -> Option<usize>
     ensures { result ≡ position (λ id. id == number) ids.now }
 {
     ids.iter().position(|id| *id == number)
-}
-
-fn most_ids(limit: Option<Num>) -> u64
-    ensures { result ≡ most_ids limit }
-{
-    match limit {
-        Some(limit) => min(limit.get().unsigned_abs(), MAX_IDS_IN_QUERY as u128) as u64,
-        None => MAX_IDS_IN_QUERY as u64,
-    }
-}
-
-fn is_own_limit(limit: Option<Num>) -> bool
-    ensures { result ≡ is_own_limit limit }
-{
-    match limit {
-        Some(limit) => limit.get().unsigned_abs() <= MAX_IDS_IN_QUERY as u128,
-        None => false,
-    }
 }
 
 /// The ids of a window of a result. Takes no memory.
