@@ -2,7 +2,7 @@
 use Rattle.std.proofs.Common.{◌≡◌, ℕ, suc, List, [], ◌∷◌, ◌++◌, flat_map, map, refl, sym, ap, ◌∙◌, subst, arith}
 use Rattle.std.proofs.lemmas.List.{map-append}
 use Rattle.std.specs.Prelude.{◌≢◌}
-use Rattle.conn_worker.specs.Chained.{AllAnswered, CallsAreAChain}
+use Rattle.conn_worker.specs.Chained.{NoneIsCutShort, CallsAreAChain}
 use Rattle.conn_worker.specs.Working.{ServesEach, Tools, Visit}
 use Rattle.model_batch.proofs.Chains.{join}
 use Rattle.model_batch.specs.Chain.{Chain, Made, Shown, front_of}
@@ -23,7 +23,7 @@ rests_there end.WriteFault u v r memory calls = r
 rests_there end.PassSpent u v r memory calls = absurd (calls refl)
 rests_there end.NoMemory u v r memory calls = absurd (memory refl)
 
-each_chain : (site : Site) (t u : Tools) (vs : List Visit) → ServesEach site t u vs → AllAnswered vs → (made : List Made) × Chain t.desk u.desk made × (map front_of made ≡ flat_map (λ (v : Visit). v.back.served.fronts.items) vs)
+each_chain : (site : Site) (t u : Tools) (vs : List Visit) → ServesEach site t u vs → NoneIsCutShort vs → (made : List Made) × Chain t.desk u.desk made × (map front_of made ≡ flat_map (λ (v : Visit). v.back.served.fronts.items) vs)
 each_chain site t u [] e answered = ([], ap (λ (y : Tools). y.desk) e, refl)
 each_chain site t u (v ∷ vs) e answered =
     let s = e.1 in

@@ -29,7 +29,7 @@ use Rattle.state_log.proofs.EndLemmas.{greatest-ge}
 use Rattle.state_log.proofs.LawLemmas.{gets_on, length-mentions, page_ends, page_fits}
 use Rattle.time_text.proofs.NumberLemmas.{decimal_back}
 use Rattle.time_text.specs.State.{state_in, up_to_unsigned}
-use Rattle.workload.specs.Counts.{count_in, count_of_ids, has_more, lines, new_state, next_state, state_number}
+use Rattle.workload.specs.Counts.{count_listed, count_of_ids, has_more, lines, new_state, next_page_state, state_number}
 use Rattle.workload.specs.Work.{IsWork, PagesLead}
 use Rattle.workload.specs.declared.numbers.Numbers.{Numbers}
 
@@ -97,9 +97,9 @@ module _ (account : List ℕ) (h : List Entry) (since : List ℕ) where
   page_is_few : count_of_ids page ≤ 500
   page_is_few =
       let small : size_of_page ms from until ≤ 500 = le_of (size_of_page ms from until) 500 (page_fits ms from (Some 500)) in
-      let one : count_in (codes "created") page ≡ length (created ms from until) = counted (created ms from until) in
-      let two : count_in (codes "updated") page ≡ length (updated ms from until) = counted (updated ms from until) in
-      let three : count_in (codes "destroyed") page ≡ length (destroyed ms from until) = counted (destroyed ms from until) in
+      let one : count_listed (codes "created") page ≡ length (created ms from until) = counted (created ms from until) in
+      let two : count_listed (codes "updated") page ≡ length (updated ms from until) = counted (updated ms from until) in
+      let three : count_listed (codes "destroyed") page ≡ length (destroyed ms from until) = counted (destroyed ms from until) in
       omega (arith, small, one, two, three)
 
   pub few_of : (e : Option MethodError) → count_of_ids (unless_error h e page) ≤ 500
@@ -124,7 +124,7 @@ module _ (account : List ℕ) (h : List Entry) (since : List ℕ) where
       let next : state_number (new_state page) ≡ until = ap (λ o. unwrap_or o 0) (decimal_back until (omega (arith, inside, all, few))) in
       (omega (arith, number, begins, on, next), omega (arith, next, inside, all))
 
-  pub leads_of : (e : Option MethodError) → changes_refusal Event cs since (Some (pos 500)) ≡ e → (state : List ℕ) → length h ≤ 2 ^ 40 → next_state (unless_error h e page) ≡ Some state → Leads state
+  pub leads_of : (e : Option MethodError) → changes_refusal Event cs since (Some (pos 500)) ≡ e → (state : List ℕ) → length h ≤ 2 ^ 40 → next_page_state (unless_error h e page) ≡ Some state → Leads state
   leads_of None is state few more =
       let next = taken (has_more page) (new_state page) state more in
       subst Leads next.1 (page_leads (known_state (is_known_state Event cs since) is) few next.0)

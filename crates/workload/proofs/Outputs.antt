@@ -6,7 +6,7 @@ use Rattle.model_call.specs.declared.call.Reply.{Reply}
 use Rattle.model_history.specs.Base.{Base}
 use Rattle.model_history.specs.declared.entry.Entry.{Entry}
 use Rattle.model_history.specs.declared.stamp.Stamp.{Stamp}
-use Rattle.workload.specs.Counts.{count_of_ids, line, next_state}
+use Rattle.workload.specs.Counts.{count_of_ids, line, next_page_state}
 use Rattle.workload.specs.Work.{ArePages, IsOutput}
 
 module _ (answer : Base → List Entry → Call → ℤ → Reply) (added : Base → List Entry → Call → Stamp → List Entry) (base : Base) where
@@ -14,7 +14,7 @@ module _ (answer : Base → List Entry → Call → ℤ → Reply) (added : Base
   some_same x y e = ap (λ o. unwrap_or o x) e
 
   abbrev Goes : List Entry → Reply → List Reply → Type 0
-  Goes h r rs = ((state : List ℕ) × (next_state r ≡ Some state) × ArePages answer added base h state rs) ⊎ ((next_state r ≡ None) × (rs ≡ []))
+  Goes h r rs = ((state : List ℕ) × (next_page_state r ≡ Some state) × ArePages answer added base h state rs) ⊎ ((next_page_state r ≡ None) × (rs ≡ []))
 
   same_rest : (h : List Entry) (ps qs : List Reply) (r : Reply) → ((since : List ℕ) → ArePages answer added base h since ps → ArePages answer added base h since qs → ps ≡ qs) → Goes h r ps → Goes h r qs → ps ≡ qs
   same_rest h ps qs r same (inl a) (inl b) = same a.0 a.2 (subst (λ (state : List ℕ). ArePages answer added base h state qs) (some_same b.0 a.0 (sym b.1 ∙ a.1)) b.2)

@@ -7,7 +7,7 @@ use Rattle.model_call.specs.declared.call.Reply.{Reply}
 use Rattle.model_history.specs.Base.{Base}
 use Rattle.model_history.specs.declared.entry.Entry.{Entry}
 use Rattle.model_history.specs.declared.stamp.Stamp.{Stamp}
-use Rattle.workload.specs.Counts.{count_of_ids, next_state, state_number}
+use Rattle.workload.specs.Counts.{count_of_ids, next_page_state, state_number}
 use Rattle.workload.specs.Generated.{page_call}
 use Rattle.workload.specs.Work.{ArePages, PagesLead}
 
@@ -20,7 +20,7 @@ module _ (answer : Base → List Entry → Call → ℤ → Reply) (added : Base
     abbrev reply : Reply
     reply = answer base h (page_call since) (pos 0)
 
-    pub falls : (state : List ℕ) → length h ≤ 2 ^ 40 → next_state reply ≡ Some state → h' ≡ h → length h' - state_number state < length h - state_number since
+    pub falls : (state : List ℕ) → length h ≤ 2 ^ 40 → next_page_state reply ≡ Some state → h' ≡ h → length h' - state_number state < length h - state_number since
     falls state few more same =
         let on = lead.gets_on base h since state few more in
         let low = on.0 in
@@ -28,7 +28,7 @@ module _ (answer : Base → List Entry → Call → ℤ → Reply) (added : Base
         let count : length h' ≡ length h = ap length same in
         omega (arith, low, high, count)
 
-    pub few_more : (state : List ℕ) → length h ≤ 2 ^ 40 → next_state reply ≡ Some state → h' ≡ h → (ids rest : ℕ) → ids ≡ count_of_ids reply → rest ≤ 500 * (length h' - state_number state + 1)
+    pub few_more : (state : List ℕ) → length h ≤ 2 ^ 40 → next_page_state reply ≡ Some state → h' ≡ h → (ids rest : ℕ) → ids ≡ count_of_ids reply → rest ≤ 500 * (length h' - state_number state + 1)
         → ids + rest ≤ 500 * (length h - state_number since + 1)
     few_more state few more same ids rest ids_are small =
         let on = lead.gets_on base h since state few more in
@@ -41,10 +41,10 @@ module _ (answer : Base → List Entry → Call → ℤ → Reply) (added : Base
     pub few_last : (ids : ℕ) → ids ≡ count_of_ids reply → ids ≤ 500 * (length h - state_number since + 1)
     few_last ids ids_are = let most = lead.few base h since in omega (arith, most, ids_are)
 
-    pub last_page : next_state reply ≡ None → (ids : ℕ) → ids ≡ count_of_ids reply → Counts base h since ids
+    pub last_page : next_page_state reply ≡ None → (ids : ℕ) → ids ≡ count_of_ids reply → Counts base h since ids
     last_page none ids ids_are = (reply ∷ [], (refl, inr (none, refl)), ids_are ∙ sym (sum_by-cons (λ (n : ℕ). n) (count_of_ids reply) [] ∙ omega arith))
 
-    pub more_pages : (state : List ℕ) → next_state reply ≡ Some state → (base' : Base) → base' ≡ base → h' ≡ h → (ids rest : ℕ) → ids ≡ count_of_ids reply → Counts base' h' state rest → Counts base h since (ids + rest)
+    pub more_pages : (state : List ℕ) → next_page_state reply ≡ Some state → (base' : Base) → base' ≡ base → h' ≡ h → (ids rest : ℕ) → ids ≡ count_of_ids reply → Counts base' h' state rest → Counts base h since (ids + rest)
     more_pages state more base' same_base same ids rest ids_are c =
         let here : ArePages answer added base h state c.0 = subst (λ (y : Base × List Entry). ArePages answer added y.0 y.1 state c.0) (λ i. (same_base i, same i)) c.1 in
         (reply ∷ c.0, (refl, inl (state, more, here)), (λ i. ids_are i + c.2 i) ∙ sym (sum_by-cons (λ (n : ℕ). n) (count_of_ids reply) (map count_of_ids c.0)))

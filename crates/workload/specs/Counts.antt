@@ -13,8 +13,8 @@ use Rattle.workload.specs.declared.numbers.Numbers.{Numbers}
 -- ---- the reply to a create (RFC 8620 section 5.3)
 
 -- the object was created
-abbrev pub is_created : Reply → Bool
-is_created r = is_some (object_at (codes "created") (data_of r.arguments))
+abbrev pub has_created : Reply → Bool
+has_created r = is_some (object_at (codes "created") (data_of r.arguments))
 
 -- the SetError of the object that wasn't created
 abbrev pub create_error : Reply → Option Data
@@ -24,8 +24,8 @@ abbrev pub is_clash_error : Data → Bool
 is_clash_error error = bytes_eq (unwrap_or (text_at (codes "type") error) []) (codes "clash")
 
 -- the object was refused as a clash
-abbrev pub is_clash : Reply → Bool
-is_clash r = option_map_or is_clash_error (create_error r) false
+abbrev pub is_refused_as_clash : Reply → Bool
+is_refused_as_clash r = option_map_or is_clash_error (create_error r) false
 
 -- ---- a page of changes (RFC 8620 section 5.2)
 
@@ -36,15 +36,15 @@ abbrev pub new_state : Reply → List ℕ
 new_state r = unwrap_or (text_at (codes "newState") (data_of r.arguments)) []
 
 -- the state that the next page begins at, where there are more changes
-abbrev pub next_state : Reply → Option (List ℕ)
-next_state r = if has_more r then Some (new_state r) else None
+abbrev pub next_page_state : Reply → Option (List ℕ)
+next_page_state r = if has_more r then Some (new_state r) else None
 
 -- how many ids one of its lists has
-abbrev pub count_in : List ℕ → Reply → ℕ
-count_in key r = length (unwrap_or (list_at key (data_of r.arguments)) [])
+abbrev pub count_listed : List ℕ → Reply → ℕ
+count_listed key r = length (unwrap_or (list_at key (data_of r.arguments)) [])
 
 abbrev pub count_of_ids : Reply → ℕ
-count_of_ids r = count_in (codes "created") r + count_in (codes "updated") r + count_in (codes "destroyed") r
+count_of_ids r = count_listed (codes "created") r + count_listed (codes "updated") r + count_listed (codes "destroyed") r
 
 -- the number of changes that a state stands for
 abbrev pub state_number : List ℕ → ℕ

@@ -6,7 +6,7 @@ use Rattle.model_call.specs.declared.call.Call.{Call}
 use Rattle.model_history.specs.declared.entry.Kind.{Kind}
 use Rattle.model_history.specs.declared.entry.Kind.TheVariants.{Calendar, Event}
 use Rattle.model_json.specs.Data.{Data, Pair, items_of, list, members_of, object, text, truth, whole}
-use Rattle.model_time.specs.LocalTimes.{local_text}
+use Rattle.model_time.specs.LocalTimes.{local_text, seconds_of_clock}
 use Rattle.model_time.specs.Walls.{wall_at}
 
 -- ---- the generator
@@ -17,8 +17,8 @@ drawn x = (75 * x + 74) % 65537
 
 -- ---- the calls
 
-abbrev pub call_of : Asks → Call
-call_of asks = record { created = []; asks = asks }
+abbrev pub call_asking : Asks → Call
+call_asking asks = record { created = []; asks = asks }
 
 -- the creation id of what a call creates
 abbrev pub creation_id : List ℕ
@@ -26,7 +26,7 @@ creation_id = codes "new"
 
 -- a set that creates one object (RFC 8620 section 5.3)
 abbrev pub create_call : Kind → List Pair → Call
-create_call kind members = call_of (Set kind None (Some ((creation_id, object (members_of members)) ∷ [])) None None None)
+create_call kind members = call_asking (Set kind None (Some ((creation_id, object (members_of members)) ∷ [])) None None None)
 
 -- the calendar of a room with the clock of UTC
 abbrev pub room_call : Call
@@ -48,7 +48,7 @@ event request start interval =
 
 -- the request of a number, by its three draws
 abbrev pub request_call : ℕ → ℕ → ℕ → ℕ → Call
-request_call request a b c = create_call Event (event request (wall_at (pos (19723 + a % 700)) (3600 * (8 + b % 10))) (1 + c % 4))
+request_call request a b c = create_call Event (event request (wall_at (pos (19723 + a % 700)) (seconds_of_clock (8 + b % 10) 0 0)) (1 + c % 4))
 
 -- so many requests from this one on, where the generator has this number before them
 abbrev pub request_calls : ℕ → ℕ → ℕ → List Call
@@ -58,4 +58,4 @@ request_calls request x (suc count) =
 
 -- a call for the changes of events since a state, at most 500 (RFC 8620 section 5.2)
 abbrev pub page_call : List ℕ → Call
-page_call since = call_of (Changes Event since (Some (pos 500)))
+page_call since = call_asking (Changes Event since (Some (pos 500)))

@@ -5,7 +5,7 @@ use Rattle.model_call.specs.declared.call.Reply.{Reply}
 use Rattle.model_history.specs.Base.{Base}
 use Rattle.model_history.specs.declared.entry.Entry.{Entry}
 use Rattle.model_history.specs.declared.stamp.Stamp.{Stamp}
-use Rattle.workload.specs.Counts.{count_of_ids, is_clash, is_created, lines, next_state, state_number}
+use Rattle.workload.specs.Counts.{count_of_ids, is_refused_as_clash, has_created, lines, next_page_state, state_number}
 use Rattle.workload.specs.Generated.{page_call, request_calls, room_call}
 use Rattle.workload.specs.declared.numbers.Numbers.{Numbers}
 
@@ -15,33 +15,33 @@ module _ (answer : Base → List Entry → Call → ℤ → Reply) (added : Base
   stamp turn = record { author = 0; turn = turn; moment = pos 0 }
 
   -- the history behind a call of this turn
-  abbrev pub behind : ℕ → List Entry → Call → List Entry
-  behind turn h call = h ++ added base h call (stamp turn)
+  abbrev pub with_call : ℕ → List Entry → Call → List Entry
+  with_call turn h call = h ++ added base h call (stamp turn)
 
   -- the history behind calls one after the other, the first of this turn
-  abbrev pub history : ℕ → List Entry → List Call → List Entry
-  history turn h [] = h
-  history turn h (c ∷ cs) = history (suc turn) (behind turn h c) cs
+  abbrev pub with_calls : ℕ → List Entry → List Call → List Entry
+  with_calls turn h [] = h
+  with_calls turn h (c ∷ cs) = with_calls (suc turn) (with_call turn h c) cs
 
   -- the replies to them
   abbrev pub replies : ℕ → List Entry → List Call → List Reply
   replies turn h [] = []
-  replies turn h (c ∷ cs) = answer base h c (pos 0) ∷ replies (suc turn) (behind turn h c) cs
+  replies turn h (c ∷ cs) = answer base h c (pos 0) ∷ replies (suc turn) (with_call turn h c) cs
 
   -- These are the pages of changes from a state on: each since the state that the one before it gives, until one has no more changes.
   abbrev pub ArePages : List Entry → List ℕ → List Reply → Type 0
   ArePages h since [] = ⊥
   ArePages h since (r ∷ rs) =
-      (r ≡ answer base h (page_call since) (pos 0)) × (((state : List ℕ) × (next_state r ≡ Some state) × ArePages h state rs) ⊎ ((next_state r ≡ None) × (rs ≡ [])))
+      (r ≡ answer base h (page_call since) (pos 0)) × (((state : List ℕ) × (next_page_state r ≡ Some state) × ArePages h state rs) ⊎ ((next_page_state r ≡ None) × (rs ≡ [])))
 
   -- The room is created and the requests are made; these are the numbers of what came of it: of events created and refused as a clash, of the account's entries,
   -- and of the ids in all pages.
   pub record IsWork (h : List Entry) (number size : ℕ) (n : Numbers) : Type 0 where
-    pub bookings : n.bookings ≡ count_by is_created (replies 2 (behind 1 h room_call) (request_calls 1 number size))
-    pub clashes : n.clashes ≡ count_by is_clash (replies 2 (behind 1 h room_call) (request_calls 1 number size))
-    pub entries : n.entries ≡ length (history 1 h (room_call ∷ request_calls 1 number size))
+    pub bookings : n.bookings ≡ count_by has_created (replies 2 (with_call 1 h room_call) (request_calls 1 number size))
+    pub clashes : n.clashes ≡ count_by is_refused_as_clash (replies 2 (with_call 1 h room_call) (request_calls 1 number size))
+    pub entries : n.entries ≡ length (with_calls 1 h (room_call ∷ request_calls 1 number size))
     pub pages : List Reply
-    pub are_pages : ArePages (history 1 h (room_call ∷ request_calls 1 number size)) (codes "0") pages
+    pub are_pages : ArePages (with_calls 1 h (room_call ∷ request_calls 1 number size)) (codes "0") pages
     pub changed : n.changed ≡ sum (map count_of_ids pages)
 
   -- these are the four lines
@@ -52,5 +52,5 @@ module _ (answer : Base → List Entry → Call → ℤ → Reply) (added : Base
 pub record PagesLead (answer : Base → List Entry → Call → ℤ → Reply) (added : Base → List Entry → Call → Stamp → List Entry) : Type 0 where
   pub adds_nothing : (base : Base) (h : List Entry) (since : List ℕ) (s : Stamp) → added base h (page_call since) s ≡ []
   pub few : (base : Base) (h : List Entry) (since : List ℕ) → count_of_ids (answer base h (page_call since) (pos 0)) ≤ 500
-  pub gets_on : (base : Base) (h : List Entry) (since state : List ℕ) → length h ≤ 2 ^ 40 → next_state (answer base h (page_call since) (pos 0)) ≡ Some state
+  pub gets_on : (base : Base) (h : List Entry) (since state : List ℕ) → length h ≤ 2 ^ 40 → next_page_state (answer base h (page_call since) (pos 0)) ≡ Some state
       → (state_number since < state_number state) × (state_number state ≤ length h)

@@ -2,8 +2,9 @@
 ghost use Rattle.std.specs.Prelude.{◌≡◌, ◌<◌, ◌+◌, ◌*◌, ◌∷◌, [], IfOk, None, Some, pos, true};
 ghost use Rattle.model_call.specs.declared.call.Asks.TheVariants.{Set};
 ghost use Rattle.model_json.specs.TreeData.{data_of};
+ghost use Rattle.model_time.specs.LocalTimes.{seconds_of_clock};
 ghost use Rattle.model_time.specs.Walls.{is_in_years, wall_at};
-ghost use Rattle.workload.specs.Generated.{call_of, creation_id, drawn, event, page_call, request_call, room_call, weekly};
+ghost use Rattle.workload.specs.Generated.{call_asking, creation_id, drawn, event, page_call, request_call, room_call, weekly};
 
 use model_call::call::{Asks, Call};
 use model_history::entry::Kind;
@@ -58,7 +59,7 @@ pub(crate) fn request_call(
 // The wall second of an hour, so many days behind the first.
 fn start(days: u32, hour: u32) -> Wall
     requires { (days < 700) × (hour < 24) }
-    ensures start { result ≡ wall_at (pos (19723 + days)) (3600 * hour) }
+    ensures start { result ≡ wall_at (pos (19723 + days)) (seconds_of_clock hour 0 0) }
     ensures years { is_in_years result ≡ true }
 {
     Wall::new((FIRST_DAY + i64::from(days)) * 86400 + i64::from(hour) * 3600)
@@ -96,14 +97,14 @@ fn weekly(alloc: Global, interval: u32) -> Result<Tree, AllocError>
 
 // A set that creates one object.
 fn create_call(alloc: Global, kind: Kind, object: Tree) -> Result<Call, AllocError>
-    ensures { IfOk result (λ call. call ≡ call_of (Set kind None (Some ((creation_id, data_of object) ∷ [])) None None None)) }
+    ensures { IfOk result (λ call. call ≡ call_asking (Set kind None (Some ((creation_id, data_of object) ∷ [])) None None None)) }
 {
     let created = Member {
         key: Text::from_str(alloc, CREATION_ID)?,
         value: object,
     };
     let create = TreeObject::new(vec![in alloc; created]?);
-    Ok(call_of(
+    Ok(call_asking(
         alloc,
         Asks::Set {
             kind,
@@ -120,7 +121,7 @@ fn create_call(alloc: Global, kind: Kind, object: Tree) -> Result<Call, AllocErr
 pub(crate) fn page_call(alloc: Global, since: Text) -> Call
     ensures { result ≡ page_call since }
 {
-    call_of(
+    call_asking(
         alloc,
         Asks::Changes {
             kind: Kind::Event,
@@ -130,8 +131,8 @@ pub(crate) fn page_call(alloc: Global, since: Text) -> Call
     )
 }
 
-fn call_of(alloc: Global, asks: Asks) -> Call
-    ensures { result ≡ call_of asks }
+fn call_asking(alloc: Global, asks: Asks) -> Call
+    ensures { result ≡ call_asking asks }
 {
     Call {
         created: Pairs::new(Vec::new(alloc)),

@@ -1,7 +1,7 @@
 //! What is counted of replies.
 ghost use Rattle.std.specs.Prelude.{◌≡◌, ◌≤◌, IfOk, option_map};
 ghost use Rattle.model_json.specs.TreeData.{data_of};
-ghost use Rattle.workload.specs.Counts.{count_in, count_of_ids, create_error, has_more, is_clash, is_clash_error, is_created, new_state, next_state};
+ghost use Rattle.workload.specs.Counts.{count_listed, count_of_ids, create_error, has_more, is_refused_as_clash, is_clash_error, has_created, new_state, next_page_state};
 
 use crate::calls::CREATION_ID;
 use model_call::call::Reply;
@@ -19,23 +19,23 @@ pub(crate) struct Outcome {
 
 /// What a reply says of the create. Takes no memory.
 pub(crate) fn outcome_of(reply: Reply) -> Outcome
-    ensures created { result.is_created ≡ is_created reply }
-    ensures clash { result.is_clash ≡ is_clash reply }
+    ensures created { result.is_created ≡ has_created reply }
+    ensures clash { result.is_clash ≡ is_refused_as_clash reply }
 {
     Outcome {
-        is_created: is_created(&reply),
-        is_clash: is_clash(&reply),
+        is_created: has_created(&reply),
+        is_clash: is_refused_as_clash(&reply),
     }
 }
 
-fn is_created(reply: &Reply) -> bool
-    ensures { result ≡ is_created reply.now }
+fn has_created(reply: &Reply) -> bool
+    ensures { result ≡ has_created reply.now }
 {
     matches!(reply.arguments.get("created"), Some(Tree::Object(_)))
 }
 
-fn is_clash(reply: &Reply) -> bool
-    ensures { result ≡ is_clash reply.now }
+fn is_refused_as_clash(reply: &Reply) -> bool
+    ensures { result ≡ is_refused_as_clash reply.now }
 {
     match create_error(reply) {
         Some(error) => is_clash_error(error),
@@ -75,18 +75,18 @@ pub(crate) struct Page {
 pub(crate) fn page_of(alloc: Global, reply: Reply) -> Result<Page, AllocError>
     requires { count_of_ids reply ≤ 500 }
     ensures ids { IfOk result (λ page. page.ids ≡ count_of_ids reply) }
-    ensures next { IfOk result (λ page. page.next ≡ next_state reply) }
+    ensures next { IfOk result (λ page. page.next ≡ next_page_state reply) }
 {
-    let ids = count_in(&reply, "created")
-        + count_in(&reply, "updated")
-        + count_in(&reply, "destroyed");
-    let next = next_state(alloc, &reply)?;
+    let ids = count_listed(&reply, "created")
+        + count_listed(&reply, "updated")
+        + count_listed(&reply, "destroyed");
+    let next = next_page_state(alloc, &reply)?;
     Ok(Page { ids, next })
 }
 
 // How many ids a list of a page has.
-fn count_in(reply: &Reply, key: &str) -> u64
-    ensures { result ≡ count_in key.now reply.now }
+fn count_listed(reply: &Reply, key: &str) -> u64
+    ensures { result ≡ count_listed key.now reply.now }
 {
     match reply.arguments.list_at(key) {
         Some(ids) => ids.len() as u64,
@@ -94,8 +94,8 @@ fn count_in(reply: &Reply, key: &str) -> u64
     }
 }
 
-fn next_state(alloc: Global, reply: &Reply) -> Result<Option<Text>, AllocError>
-    ensures { IfOk result (λ state. state ≡ next_state reply.now) }
+fn next_page_state(alloc: Global, reply: &Reply) -> Result<Option<Text>, AllocError>
+    ensures { IfOk result (λ state. state ≡ next_page_state reply.now) }
 {
     if has_more(reply) {
         Ok(Some(Text::from_str(alloc, new_state(reply))?))

@@ -1,9 +1,9 @@
 //! A workload on an account.
 ghost use Rattle.std.specs.Prelude.{◌≡◌, ◌≤◌, ◌+◌, ◌-◌, ◌*◌, ◌^◌, IfOk, List, OnOk, pos, count_by, length, map, sum};
-ghost use Rattle.workload.specs.Counts.{count_of_ids, is_clash, is_created, next_state, state_number};
+ghost use Rattle.workload.specs.Counts.{count_of_ids, is_refused_as_clash, has_created, next_page_state, state_number};
 ghost use Rattle.model_call.specs.declared.call.Reply.{Reply};
 ghost use Rattle.workload.specs.Generated.{page_call, request_calls};
-ghost use Rattle.workload.specs.Work.{ArePages, IsWork, PagesLead, behind, history, replies};
+ghost use Rattle.workload.specs.Work.{ArePages, IsWork, PagesLead, with_call, with_calls, replies};
 
 use crate::calls::{drawn, page_call, request_call, room_call};
 use crate::counts::{Page, outcome_of, page_of};
@@ -49,9 +49,9 @@ fn make_requests<B: Book<Call = Call, Reply = Reply>>(
     size: u32,
 ) -> Result<(u64, u64), AllocError>
     ensures base { B.base account.new ≡ B.base account.old }
-    ensures bookings { IfOk result (λ n. n.0 ≡ count_by is_created (replies B.answer B.added (B.base account.old) 2 (B.entries account.old) (request_calls 1 number size))) }
-    ensures clashes { IfOk result (λ n. n.1 ≡ count_by is_clash (replies B.answer B.added (B.base account.old) 2 (B.entries account.old) (request_calls 1 number size))) }
-    ensures history { IfOk result (λ n. B.entries account.new ≡ history B.answer B.added (B.base account.old) 2 (B.entries account.old) (request_calls 1 number size)) }
+    ensures bookings { IfOk result (λ n. n.0 ≡ count_by has_created (replies B.answer B.added (B.base account.old) 2 (B.entries account.old) (request_calls 1 number size))) }
+    ensures clashes { IfOk result (λ n. n.1 ≡ count_by is_refused_as_clash (replies B.answer B.added (B.base account.old) 2 (B.entries account.old) (request_calls 1 number size))) }
+    ensures history { IfOk result (λ n. B.entries account.new ≡ with_calls B.answer B.added (B.base account.old) 2 (B.entries account.old) (request_calls 1 number size)) }
 {
     let mut last = number;
     let mut bookings = 0;
@@ -98,7 +98,7 @@ fn ask_page<B: Book<Call = Call, Reply = Reply>>(
     ensures base { B.base account.new ≡ B.base account.old }
     ensures entries { OnOk result (B.entries account.new ≡ B.entries account.old) }
     ensures ids { IfOk result (λ page. page.ids ≡ count_of_ids (B.answer (B.base account.old) (B.entries account.old) (page_call since) (pos 0))) }
-    ensures next { IfOk result (λ page. page.next ≡ next_state (B.answer (B.base account.old) (B.entries account.old) (page_call since) (pos 0))) }
+    ensures next { IfOk result (λ page. page.next ≡ next_page_state (B.answer (B.base account.old) (B.entries account.old) (page_call since) (pos 0))) }
 {
     // The call adds nothing, so its turn has no part in anything.
     let reply = ask(account, 0, page_call(alloc, since))?;
@@ -113,7 +113,7 @@ fn ask<B: Book<Call = Call, Reply = Reply>>(
 ) -> Result<Reply, AllocError>
     ensures base { B.base account.new ≡ B.base account.old }
     ensures reply { IfOk result (λ r. r ≡ B.answer (B.base account.old) (B.entries account.old) call (pos 0)) }
-    ensures grown { OnOk result (B.entries account.new ≡ behind B.answer B.added (B.base account.old) turn (B.entries account.old) call) }
+    ensures grown { OnOk result (B.entries account.new ≡ with_call B.answer B.added (B.base account.old) turn (B.entries account.old) call) }
 {
     account.act(AUTHOR, turn, &call, Moment::new(0))
 }
