@@ -71,12 +71,12 @@ stdio_of words = if accepts stdio_app words then option_map stdio (value_of stdi
 -- ---- numbers
 
 -- this number, where it is at most so great
-abbrev pub up_to : ℕ → ℕ → Option ℕ
-up_to most n = if nat_le n most then Some n else None
+abbrev pub no_more_than : ℕ → ℕ → Option ℕ
+no_more_than most n = if nat_le n most then Some n else None
 
 -- the number up to the most that a text writes out
 abbrev pub number_up_to : ℕ → List ℕ → Option ℕ
-number_up_to most text = option_and_then (up_to most) (number_in text)
+number_up_to most text = option_and_then (no_more_than most) (number_in text)
 
 -- this number, where it is from 1 to the most
 abbrev pub within : ℕ → ℕ → Option ℕ
