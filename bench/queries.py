@@ -23,6 +23,11 @@ def meeting(number, events):
     return made | ({"recurrenceRules": WEEKLY} if number % 3 == 0 else {})
 
 
+def team_meeting(number, events):
+    """The same, of which each thirtieth is weekly without end."""
+    return meeting(number, events) | {"recurrenceRules": WEEKLY if number % 30 == 0 else None}
+
+
 def described(number, events):
     """The same with three participants and a description, about 900 bytes as they are stored."""
     return meeting(number, events) | {"participants": TEAM, "description": "What we talk about, and who prepares what of it. " * 6}
@@ -32,26 +37,28 @@ def month(year):
     return {"after": f"{year}-05-01T00:00:00", "before": f"{year}-06-01T00:00:00"}
 
 
-def ask(connection, name, arguments):
-    """The arguments of the answer to a call."""
-    body = compact({"using": USING, "methodCalls": [[name, {"accountId": "A1"} | arguments, "c"]]})
+def ask(connection, *calls):
+    """The arguments of the answers to the calls of one request, each a name with its arguments; the identifier of each is its name."""
+    made = [[name, {"accountId": "A1"} | arguments, name] for name, arguments in calls]
+    body = compact({"using": USING, "methodCalls": made})
     head = f"POST /jmap HTTP/1.1\r\nHost: localhost\r\nAuthorization: Bearer {TOKEN}\r\nContent-Length: {len(body)}\r\n\r\n"
     connection.write(head.encode() + body, 1)
-    answer = json.loads(next_body(connection.program.stdout))["methodResponses"][0]
-    if answer[0] == "error":
-        raise ValueError(json.dumps(answer))
-    return answer[1]
+    answers = json.loads(next_body(connection.program.stdout))["methodResponses"]
+    for answer in answers:
+        if answer[0] == "error":
+            raise ValueError(json.dumps(answer))
+    return [answer[1] for answer in answers]
 
 
-def timed(connection, name, arguments):
-    """The milliseconds of processor that a call takes, and the arguments of its answer."""
+def timed(connection, *calls):
+    """The milliseconds of processor that a request takes, and the arguments of its last answer."""
     before = connection.milliseconds()
-    told = ask(connection, name, arguments)
+    told = ask(connection, *calls)[-1]
     return connection.milliseconds() - before, told
 
 
 def found(connection, condition):
-    taken, told = timed(connection, "CalendarEvent/query", {"filter": condition, "timeZone": "Etc/UTC", "calculateTotal": True})
+    taken, told = timed(connection, ("CalendarEvent/query", {"filter": condition, "timeZone": "Etc/UTC", "calculateTotal": True}))
     return taken, told["total"]
 
 
@@ -70,14 +77,35 @@ def with_text(connection, _number):
 def changed(connection, number):
     """What changed of the events of a month when one was set anew."""
     update = {"E1": {"title": f"Planning {number}"}}
-    since = ask(connection, "CalendarEvent/set", {"update": update})["oldState"]
+    since = ask(connection, ("CalendarEvent/set", {"update": update}))[0]["oldState"]
     asked = {"filter": month(2024), "timeZone": "Etc/UTC", "sinceQueryState": since}
-    taken, told = timed(connection, "CalendarEvent/queryChanges", asked)
+    taken, told = timed(connection, ("CalendarEvent/queryChanges", asked))
     return taken, len(told["removed"]) + len(told["added"])
+
+
+def agenda(connection, year):
+    """The occurrences of a week in order of their starts, with their objects."""
+    week = {"after": f"{year}-05-03T00:00:00", "before": f"{year}-05-10T00:00:00"}
+    asked = {"filter": week, "sort": [{"property": "start"}], "expandRecurrences": True, "timeZone": "Etc/UTC"}
+    got = {"#ids": {"resultOf": "CalendarEvent/query", "name": "CalendarEvent/query", "path": "/ids"}}
+    taken, told = timed(connection, ("CalendarEvent/query", asked), ("CalendarEvent/get", got))
+    return taken, len(told["list"])
+
+
+def week_of_2024(connection, _number):
+    return agenda(connection, 2024)
+
+
+def week_of_2500(connection, _number):
+    return agenda(connection, 2500)
 
 
 def weekly_ones(events):
     return (events + 2) // 3
+
+
+def weekly_meetings(events):
+    return (events + 29) // 30
 
 
 def named_77(events):
@@ -91,6 +119,8 @@ CALLS = {
     "text search": (meeting, with_text, 3.0, named_77),
     "text search, 900 bytes an event": (described, with_text, 3.0, named_77),
     "changes after one update": (meeting, changed, 2.0, lambda _events: 2),
+    "agenda of a week in 2024": (team_meeting, week_of_2024, 3.0, None),
+    "agenda of a week in 2500": (team_meeting, week_of_2500, 3.0, weekly_meetings),
 }
 
 
@@ -114,8 +144,8 @@ def main():
     print("call                              events  milliseconds a call  at most")
     for name, (event, call, most, expected) in CALLS.items():
         figures = []
-        # 45,000 events of 900 bytes are more than an account may hold
-        for events in ACCOUNTS[: 1 if event == described else 2]:
+        # 45,000 events of 900 bytes are more than an account may hold, and a week of theirs has more occurrences than a get may name
+        for events in ACCOUNTS[: 1 if event in (described, team_meeting) else 2]:
             goal = most if events == ACCOUNTS[0] else MOST_GROWTH * most
             figures.append(min(milliseconds_of(chosen.binary, event, call, events, expected) for _ in range(chosen.rounds)))
             print(f"{name:32} {events:7} {figures[-1]:20.3f}  {goal:7}", flush=True)

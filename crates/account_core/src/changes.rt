@@ -1,7 +1,6 @@
 //! What changed since a state (RFC 8620 section 5.2).
 ghost use Rattle.std.specs.Prelude.{◌≡◌, IfOk, option_map, true, unsigned_abs};
 ghost use Rattle.account_core.specs.Ledger.{base, ledger_entries};
-ghost use Rattle.account_store.specs.Store.{entries};
 ghost use Rattle.account_core.specs.PageObject.{page_object};
 ghost use Rattle.cal_model.specs.Answer.{changes_answer};
 ghost use Rattle.model_queries.specs.States.{id_list, is_maximum};

@@ -1,5 +1,5 @@
 //! What a get finds (RFC 8620 section 5.1).
-ghost use Rattle.std.specs.Prelude.{◌≡◌, [], Some, IfOk, filter, flat_map, is_some, map, not, option_and_then, option_map};
+ghost use Rattle.std.specs.Prelude.{◌≡◌, [], Some, IfOk, filter, flat_map, is_some, map, not, option_map};
 ghost use Rattle.account_store.specs.Store.{entries};
 ghost use Rattle.cal_model.specs.CreatedIds.{object_with_id};
 ghost use Rattle.cal_model.specs.Occurrences.{occurrence_named};

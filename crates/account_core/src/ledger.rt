@@ -61,7 +61,6 @@ pub struct Ledger {
 
 impl Ledger {
     ghost use Rattle.account_core.specs.Ledger.{base, history, ledger_entries, staged};
-    ghost use Rattle.model_history.specs.Base.{Base};
 
     /// A ledger of an account of this id, with these zones and no entries. Takes no memory.
     pub fn new(alloc: Global, id: Text, zones: Arc<Zones>) -> Ledger

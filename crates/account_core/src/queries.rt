@@ -2,7 +2,6 @@
 ghost use Rattle.std.specs.Prelude.{◌≡◌, ℕ, ℤ, List, [], IfErr, IfOk, None, OnOk, Option, false, true};
 ghost use Rattle.account_core.specs.Ledger.{base, ledger_entries};
 ghost use Rattle.account_core.specs.Searches.{is_availability, is_query, is_query_changes};
-ghost use Rattle.account_store.specs.Store.{entries};
 ghost use Rattle.cal_model.specs.Answer.{answer_to, answered, availability_answer, query_answer, query_changes_answer, unless_error};
 ghost use Rattle.model_call.specs.declared.call.MethodError.{MethodError as AnyError};
 ghost use Rattle.model_json.specs.declared.tree.Tree.{Tree as AnyTree};

@@ -1,5 +1,5 @@
 //! The laws of availability, the contracts of functions that do nothing.
-ghost use Rattle.std.specs.Prelude.{◌≡◌, ◌&&◌, ◌↔◌, ℤ, pos, ◌-ℤ◌, ◌≤ℤ◌, Bool, List, true};
+ghost use Rattle.std.specs.Prelude.{◌≡◌, ◌&&◌, ◌↔◌, ℤ, pos, ◌-ℤ◌, ◌≤ℤ◌, Bool, true};
 ghost use Rattle.jiff_tz.specs.PosixText.{TzText};
 ghost use Rattle.model_availability.specs.BusyInstants.{is_occupied};
 ghost use Rattle.model_availability.specs.Runs.{runs_in};

@@ -1,6 +1,5 @@
 //! The window that a call asks for.
 ghost use Rattle.std.specs.Prelude.{◌≡◌, ◌<ℤ◌, IfSome, true};
-ghost use Rattle.jiff_core.specs.Calendar.{IsWithin};
 ghost use Rattle.model_availability.specs.Availability.{showing_instant, window_in};
 ghost use Rattle.model_event.specs.Values.{is_showing};
 

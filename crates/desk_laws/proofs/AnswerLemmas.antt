@@ -1,7 +1,7 @@
 -- Answers look at the changes of a history and at nothing else of it.
 use Rattle.std.proofs.Common.{◌≡◌, ℕ, ℤ, suc, List, [], ◌∷◌, Bool, Option, Some, None, length, map, unwrap_or, refl, sym, ap, ◌∙◌}
 use Rattle.std.proofs.lemmas.List.{length-map}
-use Rattle.cal_model.specs.Answer.{answer, answer_to, answered, added, availability_answer, changes_answer, changes_by, entries_from, get_answer, ground, query_answer, query_changes_answer, refused, set_added, set_answer, unless_error, unless_refused}
+use Rattle.cal_model.specs.Answer.{answer, answer_to, added, availability_answer, changes_answer, changes_by, entries_from, get_answer, ground, query_answer, query_changes_answer, refused, set_answer, unless_error, unless_refused}
 use Rattle.cal_model.specs.Changes.{changes_response, changes_refusal}
 use Rattle.cal_model.specs.Gets.{get_response, get_error, ids_not_found, objects_asked, selected}
 use Rattle.cal_model.specs.SetReply.{set_arguments}

@@ -1,5 +1,5 @@
 -- What was read, answered and put together is an answer.
-use Rattle.std.proofs.Common.{◌≡◌, ◌≤◌, ◌+◌, ◌++◌, ◌∷◌, [], ℕ, ℤ, List, Option, Bool, true, false, Result, Ok, Err, IfOk, inl, inr, length, ap, arith, subst, sym, ◌∙◌}
+use Rattle.std.proofs.Common.{◌≡◌, ◌≤◌, ◌+◌, ◌++◌, ◌∷◌, [], ℕ, ℤ, List, Bool, true, false, Result, Ok, Err, IfOk, inl, inr, length, ap, arith, subst, sym, ◌∙◌}
 use Rattle.std.specs.Io.KnownBytes.{Consumes, IsAtEnd}
 use Rattle.std.specs.Prelude.{if◌then◌else◌}
 use Rattle.model_batch.proofs.Chains.{spent_stop, turns_counted}

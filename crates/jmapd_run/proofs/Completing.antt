@@ -15,7 +15,7 @@ use Rattle.model_site.specs.Configuration.{Site}
 use Rattle.io_edge.specs.Outside.{OpenerShown}
 use Rattle.jmapd_run.specs.declared.status.Status.{Status}
 use Rattle.jmapd_run.specs.declared.status.Status.TheVariants.{Config, Cut, Done, NoMemory, OpenFault, ReadFault, Refused, Usage, WriteFault}
-use Rattle.command_line.specs.Commands.{Command, batch, command_of, stdio, workload}
+use Rattle.command_line.specs.Commands.{Command, batch, stdio, workload}
 use Rattle.jmapd_run.proofs.Connecting.{few_calls, same_desk}
 use Rattle.jmapd_run.proofs.Reading.{all_read}
 use Rattle.jmapd_run.proofs.StartLemmas.{batch_start, site_of, some_same, start_is, start_of_command, stdio_start, user_is}

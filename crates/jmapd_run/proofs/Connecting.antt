@@ -1,10 +1,10 @@
 -- What a connection over fresh accounts comes to.
-use Rattle.std.proofs.Common.{◌≡◌, ◌≢◌, ◌+◌, ◌*◌, ◌≤◌, ◌++◌, ℕ, List, Option, Some, inl, inr, length, length-append, refl, ap, arith, subst}
+use Rattle.std.proofs.Common.{◌≡◌, ◌≢◌, ◌+◌, ◌≤◌, ◌++◌, Some, inl, inr, length, length-append, refl, ap, arith, subst}
 use Rattle.std.specs.Prelude.{◌⊎◌}
 use Rattle.model_batch.proofs.Chains.{turns_counted}
 use Rattle.model_batch.specs.Chain.{Shown}
 use Rattle.account_desk.specs.FreshDesk.{IsSole, fresh_desk}
-use Rattle.model_connection.specs.Serving.{EndHow, Rests, Serves, Setting}
+use Rattle.model_connection.specs.Serving.{Rests, Serves, Setting}
 use Rattle.model_connection.specs.Exchanges.{all_made}
 use Rattle.conn_serve.proofs.Completeness.{How, spent_behind}
 use Rattle.model_site.specs.Configuration.{Site}

@@ -1,5 +1,5 @@
 -- Runs that are given the same write the same.
-use Rattle.std.proofs.Common.{◌≡◌, ◌≢◌, ◌+◌, ◌<◌, ◌≤◌, ◌++◌, ◌∷◌, [], ℕ, ℤ, List, Option, Some, None, Bool, true, false, inl, inr, length, take, refl, sym, ap, ◌∙◌, subst, arith}
+use Rattle.std.proofs.Common.{◌≡◌, ◌≢◌, ◌+◌, ◌++◌, ◌∷◌, [], ℕ, ℤ, List, Option, Some, Bool, true, false, inl, inr, take, refl, sym, ap, ◌∙◌, subst}
 use Rattle.std.specs.Io.KnownBytes.{Consumes}
 use Rattle.std.specs.Prelude.{◌⊎◌, if◌then◌else◌}
 use Rattle.desk_laws.proofs.FreshLaws.{fresh_connections_determined, fresh_replies_determined}
@@ -15,7 +15,7 @@ use Rattle.jmapd_run.specs.Headline.{AnswersInput, IsAnswer, IsWorkText, Surroun
 use Rattle.model_connection.specs.Serving.{refusal_text}
 use Rattle.model_connection.specs.Exchanges.{Ticked, all_bytes, all_moments, messages_of}
 use Rattle.model_json.specs.Json.{text_of}
-use Rattle.io_edge.specs.Outside.{Grows, OpenerShown, Rose, Ticks}
+use Rattle.io_edge.specs.Outside.{Grows, OpenerShown, Ticks}
 use Rattle.model_site.specs.Configuration.{Site, built_in, user_at}
 use Rattle.workload.proofs.Outputs.{one_output}
 use Rattle.model_connection.specs.declared.served.ConnEnd.{ConnEnd}

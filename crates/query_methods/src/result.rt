@@ -1,5 +1,5 @@
 //! Results of queries at the states of an account's history.
-ghost use Rattle.std.specs.Prelude.{◌≡◌, ◌≤◌, IfOk, filter, length, map};
+ghost use Rattle.std.specs.Prelude.{◌≡◌, IfOk, filter, length, map};
 ghost use Rattle.account_store.specs.Earlier.{changes_up_to};
 ghost use Rattle.account_store.specs.Store.{entries};
 ghost use Rattle.model_history.specs.History.{changes_of, live_object};

@@ -4,7 +4,7 @@ use Rattle.std.proofs.Common.{eqb-true, eq-eqb}
 use Rattle.std.proofs.lemmas.List.Edits.{insert-append_left, insert_end}
 use Rattle.model_query.specs.declared.delta.Place.{Place}
 use Rattle.model_history.specs.Pages.{is_in}
-use Rattle.model_query.specs.QueryChanges.{indexed, delta_of, with_places, spliced}
+use Rattle.model_query.specs.QueryChanges.{indexed, with_places}
 use Rattle.model_query.specs.QueryChangesLead.{Lead, StandAlike}
 
 -- what goes in before all that is left

@@ -1,4 +1,4 @@
-use Rattle.std.proofs.Common.{All, List, subst, sym}
+use Rattle.std.proofs.Common.{All, subst, sym}
 use Rattle.account_store.specs.Store.{entries}
 use Rattle.event_store.proofs.LiveLemmas.{all_more, objects_more}
 use Rattle.event_store.specs.StoredEvents.{HasItsSeries}
