@@ -1,4 +1,6 @@
+pub mod AsciiLemmas
 pub mod ConditionLemmas
 pub mod ClockLemmas
+pub mod KeptLemmas
 pub mod TextLemmas
 pub mod TimeLemmas

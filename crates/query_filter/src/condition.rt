@@ -7,6 +7,7 @@ ghost use Rattle.model_json.specs.TreeData.{data_of};
 ghost use Rattle.model_window.specs.Clocks.{instant_in};
 ghost use Rattle.occurrence_windows.specs.Bounds.{AreNear};
 ghost use Rattle.query_filter.specs.EventTests.{event_meets};
+ghost use Rattle.query_filter.specs.KeptTimes.{has_ids, others_meet, texts_meet};
 
 use crate::clock::Clock;
 use crate::needles::Needles;
@@ -39,12 +40,35 @@ impl<'a> EventTest<'a> {
     pub(crate) fn meets(&self, condition: &TreeObject) -> Result<bool, AllocError>
         ensures { IfOk result (λ b. b ≡ event_meets self.now condition.now) }
     {
-        if !self.meets_calendar(condition)
-            || !self.meets_uid(condition)
-            || !self.meets_times(condition)
-        {
+        if !self.has_ids(condition) {
             return Ok(false);
         }
+        if !self.meets_times(condition) {
+            return Ok(false);
+        }
+        self.meets_texts(condition)
+    }
+
+    /// Whether all holds that a condition asks for but times. Takes memory for folded texts.
+    pub(crate) fn meets_others(&self, condition: &TreeObject) -> Result<bool, AllocError>
+        ensures { IfOk result (λ b. b ≡ others_meet (data_of self.now.event.now) condition.now) }
+    {
+        if self.has_ids(condition) {
+            self.meets_texts(condition)
+        } else {
+            Ok(false)
+        }
+    }
+
+    fn has_ids(&self, condition: &TreeObject) -> bool
+        ensures { result ≡ has_ids (data_of self.now.event.now) condition.now }
+    {
+        self.meets_calendar(condition) && self.meets_uid(condition)
+    }
+
+    fn meets_texts(&self, condition: &TreeObject) -> Result<bool, AllocError>
+        ensures { IfOk result (λ b. b ≡ texts_meet (data_of self.now.event.now) condition.now) }
+    {
         if !self.meets_title(condition)? {
             return Ok(false);
         }
@@ -105,7 +129,8 @@ impl<'a> EventTest<'a> {
         }
     }
 
-    fn meets_window(&self, window: Window) -> bool
+    /// Whether one occurrence of the event ends after the one limit and starts before the other. Takes no memory.
+    pub(crate) fn meets_window(&self, window: Window) -> bool
         requires { AreNear window }
         ensures { result ≡ meets_by (option_map (λ s. s.now) self.now.series) (option_map (λ r. tz_view r.now) self.now.rule) window }
     {

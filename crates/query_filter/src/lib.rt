@@ -1,6 +1,7 @@
 //! Filters of events (RFC 8620 section 5.5, draft JMAP for Calendars).
 #![tactic(auto)]
 
+mod ascii;
 mod clock;
 mod condition;
 mod conditions;
@@ -9,6 +10,7 @@ mod members;
 mod needles;
 mod sought;
 mod texts;
+mod times;
 mod zoned;
 
 pub use filter::{Filter, FilterError};

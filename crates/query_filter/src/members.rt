@@ -26,6 +26,9 @@ pub(crate) const CONDITION_NAMES: [&str; 8] = [
     "participationStatus",
 ];
 
+/// Those that ask when an event is.
+pub(crate) const TIME_NAMES: [&str; 2] = ["after", "before"];
+
 /// The members of an operator.
 pub(crate) const OPERATOR_NAMES: [&str; 2] = ["operator", "conditions"];
 

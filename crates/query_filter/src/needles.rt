@@ -2,6 +2,7 @@
 ghost use Rattle.std.specs.Prelude.{◌≡◌, IfOk, IfSome};
 ghost use Rattle.folded_text.specs.Contains.{contains, folded};
 
+use crate::ascii::stands_in;
 use folded_text::FoldedText;
 use model_json::text::Text;
 use std::alloc::{AllocError, Global};
@@ -64,6 +65,9 @@ impl Needles {
     ) -> Result<bool, AllocError>
         ensures { IfOk result (λ b. b ≡ contains text.now needle.now) }
     {
+        if text.is_ascii() && needle.as_str().is_ascii() {
+            return Ok(stands_in(text.as_bytes(), needle.as_str().as_bytes()));
+        }
         match self.find(needle) {
             Some(in_fold) => in_fold.is_in(alloc, text),
             None => FoldedText::new(alloc, needle.as_str())?.is_in(alloc, text),

@@ -15,6 +15,7 @@ use crate::conditions::conditions_of;
 use crate::filter::Filter;
 use crate::members::given;
 use crate::needles::Needles;
+use crate::times::{Times, times_of};
 use jiff_tz::posix::TimeZone;
 use model_json::text::Text;
 use model_json::tree::{Tree, TreeObject};
@@ -29,18 +30,25 @@ pub struct ZonedFilter {
     filter: Filter,
     clock: Clock,
     needles: Needles,
+    // of a filter that is one condition which asks when an event is
+    times: Option<Times>,
 }
 
 impl Model for ZonedFilter {
+    ghost use Rattle.std.specs.Prelude.{◌≡◌, IfSome};
     ghost use Rattle.std.specs.Coded.{codes};
     ghost use Rattle.model_json.specs.DataCode.{data_code};
+    ghost use Rattle.occurrence_windows.specs.Bounds.{AreNear};
     ghost use Rattle.query_filter.specs.InZone.{FilterInZone};
+    ghost use Rattle.query_filter.specs.KeptTimes.{times_of};
 
     ghost Value = { FilterInZone };
 
     ghost coded = { Prim.hlevel (codes, data_code) };
 
     ghost view = { λ a. record { filter = a.filter; clock = a.clock } };
+
+    ghost invariant = { λ a. (a.times ≡ times_of a.clock a.filter) × IfSome a.times (λ t. AreNear t.window) };
 }
 
 impl Filter {
@@ -48,13 +56,16 @@ impl Filter {
     pub fn in_zone(self, alloc: Global, rule: TimeZone) -> Result<ZonedFilter, AllocError>
         ensures { IfOk result (λ f. f ≡ record { filter = self; clock = tz_view rule }) }
     {
-        let mut zoned = ZonedFilter {
+        let mut clock = Clock::new(alloc, rule);
+        let mut needles = Needles::new(alloc);
+        keep_all(alloc, &self.tree, &mut clock, &mut needles)?;
+        let times = times_of(&clock, &self.tree);
+        Ok(ZonedFilter {
             filter: self,
-            clock: Clock::new(alloc, rule),
-            needles: Needles::new(alloc),
-        };
-        zoned.prepare(alloc)?;
-        Ok(zoned)
+            clock,
+            needles,
+            times,
+        })
     }
 }
 
@@ -78,7 +89,10 @@ impl ZonedFilter {
             series,
             rule,
         };
-        test.holds(&self.filter.tree)
+        match self.times {
+            Some(times) => test.holds_by(times, &self.filter.tree),
+            None => test.holds(&self.filter.tree),
+        }
     }
 
     /// The window between the instants of `after` and `before`, where the filter is one condition. Takes no memory.
@@ -86,14 +100,10 @@ impl ZonedFilter {
         ensures value { result ≡ instants_asked self.now.clock (members_in self.now.filter) }
         ensures near { AreNear result }
     {
-        window_asked(&self.clock, &self.filter.tree)
-    }
-
-    // Folds the texts and reads the times of the filter, as far as there is room for them.
-    fn prepare(&mut self, alloc: Global) -> Result<(), AllocError>
-        ensures { self.new ≡ self.old }
-    {
-        keep_all(alloc, &self.filter.tree, &mut self.clock, &mut self.needles)
+        match self.times {
+            Some(times) => times.window,
+            None => window_asked(&self.clock, &self.filter.tree),
+        }
     }
 }
 
