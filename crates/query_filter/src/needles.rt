@@ -10,6 +10,9 @@ use std::alloc::{AllocError, Global};
 /// The most texts that are kept. Others are folded for each event.
 const MOST_KEPT: usize = 16;
 
+/// The longest text, in bytes, that is searched for without folding, which may take as many steps as the product of both lengths.
+const LONGEST_UNFOLDED: usize = 64;
+
 /// A text with itself folded.
 #[derive(Drop)]
 struct Needle {
@@ -65,12 +68,13 @@ impl Needles {
     ) -> Result<bool, AllocError>
         ensures { IfOk result (λ b. b ≡ contains text.now needle.now) }
     {
-        if text.is_ascii() && needle.as_str().is_ascii() {
-            return Ok(stands_in(text.as_bytes(), needle.as_str().as_bytes()));
+        let sought = needle.as_str();
+        if sought.len() <= LONGEST_UNFOLDED && sought.is_ascii() && text.is_ascii() {
+            return Ok(stands_in(text.as_bytes(), sought.as_bytes()));
         }
         match self.find(needle) {
             Some(in_fold) => in_fold.is_in(alloc, text),
-            None => FoldedText::new(alloc, needle.as_str())?.is_in(alloc, text),
+            None => FoldedText::new(alloc, sought)?.is_in(alloc, text),
         }
     }
 }
