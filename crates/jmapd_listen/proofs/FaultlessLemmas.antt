@@ -12,7 +12,7 @@ use Rattle.jmapd_run.specs.declared.status.Status.TheVariants.{Config, Cut, Done
 use Rattle.listen_edge.specs.Listening.{HostShown}
 use Rattle.model_site.specs.Configuration.{Fault, Site, configured}
 use Rattle.model_site.specs.declared.limits.TheConstants.{MAX_CONFIGURATION_BYTES}
-use Rattle.jmapd_listen.specs.Faultless.{FaultlessListensServe, NothingFailed}
+use Rattle.jmapd_listen.specs.Faultless.{FaultlessListensServe, NoneFailed}
 use Rattle.jmapd_listen.specs.Listens.{ListensHow, ServesSite, SpawnerShown}
 
 never : (fault : Fault) (site : Site) (what : Result Site Fault) → what ≡ Err fault → what ≡ Ok site → ⊥
@@ -39,7 +39,7 @@ module _ (o o' : OpenerShown) (name : List ℕ) (site : Site) (accepted : IsAcce
       let none : file_named files_of name ≡ None = subst (λ f. IfSome f (λ t. file_named t name ≡ None)) told missing in
       absurd (let bad : Some accepted.0 ≡ None = sym accepted.1.2 ∙ none in cc)
 
-module _ (o o' : OpenerShown) (h h' : HostShown) (s s' : SpawnerShown) (fine : NothingFailed o o' h h' s s') (l : Listen) (site : Site) (accepted : IsAccepted (Some l.config) o site) where
+module _ (o o' : OpenerShown) (h h' : HostShown) (s s' : SpawnerShown) (fine : NoneFailed o o' h h' s s') (l : Listen) (site : Site) (accepted : IsAccepted (Some l.config) o site) where
   opens : IsNotOpened o o' l.config → ⊥
   opens (inl missing) = is_there o o' l.config site accepted missing
   opens (inr rose) = fine.opened rose

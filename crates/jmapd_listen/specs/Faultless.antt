@@ -10,11 +10,11 @@ use Rattle.model_site.specs.Configuration.{Site}
 use Rattle.jmapd_listen.specs.Listens.{ListensHow, ServesSite, SpawnerShown}
 
 -- neither opener, host nor spawner failed
-pub record NothingFailed (o o' : OpenerShown) (h h' : HostShown) (s s' : SpawnerShown) : Type 0 where
+pub record NoneFailed (o o' : OpenerShown) (h h' : HostShown) (s s' : SpawnerShown) : Type 0 where
   pub opened : Rose o.faults o'.faults → ⊥
   pub made : Rose h.faults h'.faults → ⊥
   pub joined : Rose s.faults s'.faults → ⊥
 
 abbrev pub FaultlessListensServe : Type 0
-FaultlessListensServe = (o o' : OpenerShown) (h h' : HostShown) (s s' : SpawnerShown) (words : List (List ℕ)) (status : Status) → ListensHow o o' h h' s s' words status → NothingFailed o o' h h' s s'
+FaultlessListensServe = (o o' : OpenerShown) (h h' : HostShown) (s s' : SpawnerShown) (words : List (List ℕ)) (status : Status) → ListensHow o o' h h' s s' words status → NoneFailed o o' h h' s s'
     → (l : Listen) (site : Site) → listen_command_of words ≡ Some l → IsAccepted (Some l.config) o site → (status ≡ NoMemory) ⊎ ((status ≡ Done) × ServesSite l h h' s s' Done)
