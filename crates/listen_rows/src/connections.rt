@@ -1,0 +1,51 @@
+//! Connections in memory.
+use io_edge::memory_sink::MemSink;
+use io_edge::memory_source::MemSource;
+use json_edge::write::tree_text;
+use listen_edge::memory_listener::MemConnection;
+use model_json::tree::Tree;
+use std::alloc::{AllocError, Global};
+use std::fmt::Write;
+
+/// The bytes of a text, or of the compact text of another value.
+pub fn bytes_of(alloc: Global, value: &Tree) -> Result<Vec<u8>, AllocError> {
+    match value {
+        Tree::Text(text) => text.as_str().as_bytes().to_vec(alloc),
+        value => tree_text(alloc, value),
+    }
+}
+
+/// A connection for each item, whose peer sends its bytes and ends.
+pub fn connections_of(alloc: Global, items: &[Tree]) -> Result<Vec<MemConnection>, AllocError> {
+    let mut connections = Vec::new(alloc);
+    for item in items {
+        connections.push(MemConnection {
+            input: MemSource::new(bytes_of(alloc, item)?, usize::MAX, Vec::new(alloc)),
+            output: MemSink::new(alloc, Vec::new(alloc)),
+        })?;
+    }
+    Ok(connections)
+}
+
+/// The numbers of the calls that are to fail, which may be absent.
+pub fn failing(alloc: Global, asked: &Tree) -> Result<Vec<u64>, AllocError> {
+    let mut numbers = Vec::new(alloc);
+    for item in asked.list_at("failing").unwrap_or(&[]) {
+        if let Tree::Whole(number) = item {
+            numbers.push(u64::try_from(number.get()).unwrap_or(u64::MAX))?;
+        }
+    }
+    Ok(numbers)
+}
+
+/// Tells what was written of a connection.
+pub fn tell_output(
+    alloc: Global,
+    told: &mut String,
+    number: u32,
+    output: &MemSink,
+) -> Result<(), AllocError> {
+    let written = String::from_utf8_lossy(alloc, output.bytes().unwrap_or_default())?;
+    write!(told, " | {number}: {written:?}")?;
+    Ok(())
+}

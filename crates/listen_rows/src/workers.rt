@@ -1,0 +1,58 @@
+//! One worker over a listener in memory.
+ghost use Rattle.std.specs.Prelude.{◌≡◌};
+
+use crate::connections::{bytes_of, connections_of, failing, tell_output};
+use account_desk::gate::Gate;
+use account_desk::shared_desk::SharedDesk;
+use conn_worker::worker::worker;
+use io_edge::memory_clock::StillClock;
+use listen_edge::memory_listener::MemListener;
+use model_json::tree::Tree;
+use session_doc::Site;
+use shared_accounts::accounts::{Office, open_office};
+use std::alloc::{AllocError, Global};
+use std::sync::Wait;
+
+/// How a worker for so many `connections` ended, for the site of the configuration `site`, how many it served, and what was written of each.
+///
+/// `input` has the connections, and `failing` the calls of `accept` that fail.
+pub fn told<R: Wait + Copy + Drop>(
+    rt: R,
+    alloc: Global,
+    asked: &Tree,
+) -> Result<Option<String>, AllocError> {
+    let (Some(configuration), Some(connections)) = (
+        asked.get("site"),
+        asked.number_at("connections"),
+    ) else {
+        return Ok(None);
+    };
+    let Ok(site) = Site::read(alloc, &bytes_of(alloc, configuration)?) else {
+        return Ok(None);
+    };
+    let waiting = connections_of(alloc, asked.list_at("input").unwrap_or(&[]))?;
+    let mut listener = MemListener::new(alloc, waiting, failing(alloc, asked)?)?;
+    let Office {
+        site,
+        accounts,
+        mut hands,
+    } = open_office(alloc, site, &Gate::Open, 1)?;
+    let mut desk = SharedDesk::new(rt, accounts, hands.remove(0));
+    let mut clock = StillClock { moment: 0 };
+    let connections = u64::try_from(connections.get()).unwrap_or(0);
+    let done = worker(
+        alloc,
+        &site,
+        &mut listener,
+        &mut desk,
+        &mut clock,
+        connections,
+    );
+    let end = done.end;
+    let served = done.served;
+    let mut told = format!(in alloc; "{end:?}, {served} served")?;
+    for (number, back) in listener.back().iter().enumerate() {
+        tell_output(alloc, &mut told, number as u32, &back.output)?;
+    }
+    Ok(Some(told))
+}
