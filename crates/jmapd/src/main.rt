@@ -5,14 +5,23 @@ ghost use Rattle.std.specs.Prelude.{◌≡◌, ◌≢◌};
 ghost use Rattle.std.specs.Process.{exit_status as ends_with};
 ghost use Rattle.jmapd_run.specs.Statuses.{exit_status};
 
+use account_desk::gate::Gate;
 use io_edge::streams::{ReaderSource, WriterSink};
 use io_edge::system_clock::SystemClock;
 use io_edge::system_files::SystemFiles;
+use jmapd_listen::listen::listen;
 use jmapd_run::run::run;
 use jmapd_run::status::Status;
+use listen_edge::real_threads::RealThreads;
+use listen_edge::tcp_host::TcpHost;
 use std::alloc::Global;
+use std::fs::Files;
 use std::io::ErrorKind;
+use std::net::{Net, OpenListener};
 use std::process::ExitCode;
+use std::sync::Wait;
+use std::thread::Threads;
+use std::time::Clock;
 use std::{env, io};
 
 /// What the process ends with.
@@ -37,7 +46,7 @@ fn message(alloc: Global, status: Status) -> io::Result<String> {
     let line = match status {
         Status::Done => "",
         Status::Refused => "jmapd: request refused",
-        Status::Usage => "usage: jmapd batch|stdio|workload [options]",
+        Status::Usage => "usage: jmapd batch|stdio|listen|workload [options]",
         Status::Config { field, index } => {
             let field = field.name();
             return Ok(format!(in alloc; "jmapd: configuration: {field} {index}")?);
@@ -77,8 +86,30 @@ fn words(rt: &HostRuntime) -> Result<Vec<String>, Status> {
     Ok(words)
 }
 
-/// Runs the command that the words name.
-fn run_words(rt: &HostRuntime, words: &[String]) -> Status {
+/// Runs `listen` over the system's files, sockets, threads and clock.
+fn run_listen<R: Files + Net + Threads + Wait + Clock + Copy + Send + Drop + 'static>(
+    alloc: Global,
+    rt: R,
+    words: &[String],
+) -> Status
+where
+    R::Listener: Send + 'static,
+    <R::Listener as OpenListener>::Stream: Send,
+{
+    listen(
+        alloc,
+        rt,
+        words,
+        &mut SystemFiles::new(alloc, rt),
+        &mut TcpHost::new(rt),
+        &mut RealThreads::new(rt),
+        SystemClock::new(rt),
+        &Gate::Open,
+    )
+}
+
+/// Runs a command over the standard streams.
+fn run_streams(rt: &HostRuntime, words: &[String]) -> Status {
     let mut opener = SystemFiles::new(rt.alloc(), rt);
     let mut input = ReaderSource::new(rt.reader());
     let mut output = WriterSink::new(io::writer(rt));
@@ -93,20 +124,29 @@ fn run_words(rt: &HostRuntime, words: &[String]) -> Status {
     )
 }
 
-/// Runs the program's command, and tells on standard error how it ended.
-fn run_here(rt: &HostRuntime) -> Status {
-    let status = match words(rt) {
-        Ok(words) => run_words(rt, &words),
-        Err(status) => status,
-    };
+/// Tells on standard error how the program ended.
+fn tell(rt: &HostRuntime, status: Status) {
     if status != Status::Done
         && let Ok(line) = message(rt.alloc(), status)
     {
         let _ = rt.eprintln(line.as_str());
     }
-    status
+}
+
+/// Whether the words are those of `listen`.
+fn is_listen(words: &[String]) -> bool {
+    match words.first() {
+        Some(word) => word.as_str() == "listen",
+        None => false,
+    }
 }
 
 fn main(rt: HostRuntime) -> ExitCode {
-    exit_code(run_here(&rt))
+    let status = match words(&rt) {
+        Ok(words) if is_listen(&words) => run_listen(rt.alloc(), rt, &words),
+        Ok(words) => run_streams(&rt, &words),
+        Err(status) => status,
+    };
+    tell(&rt, status);
+    exit_code(status)
 }
