@@ -1,0 +1,50 @@
+#!/usr/bin/env bash
+# Puts nginx before `jmapd listen`, with examples/nginx.conf and a certificate of its own, and has curl send the requests of examples/over_http.sh over TLS. The answers are compared with
+# examples/over_http.answers. Skipped with a line where nginx, openssl or curl isn't there.
+#
+#     examples/behind_nginx.sh [PATH_OF_THE_PROGRAM]
+set -u
+cd "$(dirname "$0")/.." || exit 1
+program=${1:-crates/jmapd/out/jmapd}
+me=examples/behind_nginx.sh
+
+for tool in nginx openssl curl; do
+    if ! command -v "$tool" >/dev/null; then
+        echo "$me: skipped, since $tool isn't here"
+        exit 0
+    fi
+done
+if ! [ -x "$program" ]; then
+    (cd crates/jmapd && rt run -- batch <../../examples/first.json >/dev/null) || exit 1
+fi
+
+folder=$(mktemp -d) || exit 1
+jmapd_port=$((20000 + RANDOM % 10000))
+tls_port=$((30000 + RANDOM % 10000))
+trap 'kill "${server:-}" "${proxy:-}" 2>/dev/null; wait 2>/dev/null; rm -rf "$folder"' EXIT
+openssl req -x509 -newkey ec -pkeyopt ec_paramgen_curve:prime256v1 -nodes -subj /CN=localhost -days 1 \
+    -keyout "$folder/key.pem" -out "$folder/certificate.pem" 2>/dev/null || exit 1
+sed -e "s|FOLDER|$folder|g" -e "s|JMAPD_PORT|$jmapd_port|" -e "s|TLS_PORT|$tls_port|" examples/nginx.conf >"$folder/nginx.conf"
+
+"$program" listen --config examples/site.json --port "$jmapd_port" --workers 2 &
+server=$!
+nginx -p "$folder" -c "$folder/nginx.conf" 2>"$folder/errors" &
+proxy=$!
+
+shown='%{stderr}%{http_code} %{content_type}\n%{stdout}\n'
+common=(--silent --show-error --cacert "$folder/certificate.pem" --max-time 20 --retry 20 --retry-connrefused --retry-all-errors --retry-delay 1 -H 'Authorization: Bearer t-ann' -w "$shown")
+sent=("${common[@]}" "https://localhost:$tls_port/.well-known/jmap")
+for request in set get rename changes destroy event move sync weekly weeks week agenda search list room free; do
+    sent+=(--next "${common[@]}" --data-binary "@examples/$request.json" "https://localhost:$tls_port/jmap")
+done
+if ! answers=$(curl "${sent[@]}"); then
+    cat "$folder/errors"
+    exit 1
+fi
+without_moments=$(sed -E 's/"(created|updated)":"[0-9T:-]+Z"/"\1":"NOW"/g' <<<"$answers")
+if diff <(printf '%s\n' "$without_moments") examples/over_http.answers; then
+    echo "$me: the answers are those of examples/over_http.answers"
+else
+    echo "$me: other answers than those of examples/over_http.answers"
+    exit 1
+fi
