@@ -51,8 +51,8 @@ pub fn told<R: Wait + Copy + Drop>(
     let end = done.end;
     let served = done.served;
     let mut told = format!(in alloc; "{end:?}, {served} served")?;
-    for (number, back) in listener.back().iter().enumerate() {
-        tell_output(alloc, &mut told, number as u32, &back.output)?;
+    for (back, number) in listener.back().iter().zip(0..) {
+        tell_output(alloc, &mut told, number, &back.output)?;
     }
     Ok(Some(told))
 }
