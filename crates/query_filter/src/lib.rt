@@ -1,6 +1,7 @@
 //! Filters of events (RFC 8620 section 5.5, draft JMAP for Calendars).
 #![tactic(auto)]
 
+mod alone;
 mod ascii;
 mod clock;
 mod condition;

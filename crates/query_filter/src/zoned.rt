@@ -1,5 +1,5 @@
 //! Filters whose times are those of a zone.
-ghost use Rattle.std.specs.Prelude.{◌≡◌, [], IfOk, map, option_map, unwrap_or};
+ghost use Rattle.std.specs.Prelude.{◌≡◌, [], IfOk, false, map, option_map, unwrap_or};
 ghost use Rattle.jiff_tz.specs.PosixText.{tz_view};
 ghost use Rattle.model_filter.specs.Filters.{all_true, holds, operator_holds, some_true};
 ghost use Rattle.model_filter.specs.Matches.{instants_asked, matches_by};
@@ -8,7 +8,9 @@ ghost use Rattle.model_json.specs.Parts.{as_text, members_in};
 ghost use Rattle.model_json.specs.TreeData.{data_of};
 ghost use Rattle.occurrence_windows.specs.Bounds.{AreNear};
 ghost use Rattle.query_filter.specs.EventTests.{event_meets};
+ghost use Rattle.query_filter.specs.Refusals.{IsForNoneOf, may_match};
 
+use crate::alone::may_meet;
 use crate::clock::Clock;
 use crate::condition::{EventTest, instants_asked};
 use crate::conditions::conditions_of;
@@ -92,6 +94,19 @@ impl ZonedFilter {
         match self.times {
             Some(times) => test.holds_by(times, &self.filter.tree),
             None => test.holds(&self.filter.tree),
+        }
+    }
+
+    /// Whether the filter may hold of an event with this series, as far as that can be told without the rule of its zone. Takes no
+    /// memory.
+    #[tactic(auto, using(crate::proofs::RefusalLemmas::refused))]
+    pub fn may_match(&self, series: Option<&Series>) -> bool
+        ensures value { result ≡ may_match self.now (option_map (λ s. s.now) series.entry) }
+        ensures none { result ≡ false → IsForNoneOf self.now (option_map (λ s. s.now) series.entry) }
+    {
+        match self.times {
+            Some(times) => may_meet(series, times.window),
+            None => true,
         }
     }
 

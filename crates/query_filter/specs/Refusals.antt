@@ -1,0 +1,34 @@
+-- Events that are refused before the rule of their zone is known.
+use Rattle.std.specs.Prelude.{◌≡◌, ◌==◌, ◌&&◌, ◌||◌, ◌+ℤ◌, ◌-ℤ◌, ℕ, ℤ, pos, List, length, Bool, true, false, not, Option, Some, None}
+use Rattle.std.specs.Option.{option_map_or}
+use Rattle.model_filter.specs.Matches.{matches_by}
+use Rattle.model_json.specs.Data.{Data}
+use Rattle.model_series.specs.SeriesLimits.{wall_seconds}
+use Rattle.model_series.specs.declared.series.Series.{Series}
+use Rattle.model_site.specs.TimeZones.{ZoneText}
+use Rattle.model_window.specs.Windows.{keeps_limits}
+use Rattle.model_window.specs.ZoneRules.{rule_of_event}
+use Rattle.model_window.specs.declared.period.Period.{Period}
+use Rattle.model_window.specs.declared.window.Window.{Window}
+use Rattle.query_filter.specs.InZone.{FilterInZone}
+use Rattle.query_filter.specs.KeptTimes.{times_of}
+
+-- the filter holds of no event with this series, whatever the zones and whichever of them is the event's
+abbrev pub IsForNoneOf : FilterInZone → Option Series → Type 0
+IsForNoneOf f series = (zones : List ZoneText) (floating : List ℕ) (event : Data) → matches_by f.clock series (rule_of_event zones floating event) f.filter event ≡ false
+
+-- without rules and exceptions a series has the one occurrence at its start
+abbrev pub is_alone : Series → Bool
+is_alone s = (length s.rules == 0) && (length s.exceptions == 0)
+
+-- an instant lies at most 93,599 seconds from its wall second, so an occurrence of so many wall seconds takes up no more than this
+abbrev pub widest : ℤ → ℕ → Period
+widest start seconds = record { from = start -ℤ pos 93599; to = start +ℤ pos seconds +ℤ pos 93599 }
+
+abbrev pub may_meet : Option Series → Window → Bool
+may_meet None w = false
+may_meet (Some s) w = not (is_alone s) || keeps_limits w (widest s.start (wall_seconds s.length))
+
+-- an event with this series may meet the times that are kept of a filter
+abbrev pub may_match : FilterInZone → Option Series → Bool
+may_match f series = option_map_or (λ t. may_meet series t.window) (times_of f.clock f.filter) true

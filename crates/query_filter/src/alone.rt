@@ -1,0 +1,46 @@
+//! Series whose occurrence can't meet a window, whatever the rule of the zone.
+ghost use Rattle.std.specs.Prelude.{◌≡◌, ◌≤◌, option_map, true};
+ghost use Rattle.model_series.specs.SeriesLimits.{wall_seconds};
+ghost use Rattle.model_time.specs.Walls.{is_in_years};
+ghost use Rattle.query_filter.specs.Refusals.{is_alone, may_meet, widest};
+
+use model_series::series::Series;
+use model_time::length::Length;
+use model_time::wall::Wall;
+use model_window::period::Period;
+use model_window::window::Window;
+
+/// The most seconds between a wall second and its instant.
+const FARTHEST: i64 = 93_599;
+
+/// Whether an event with this series may meet the window, as far as that can be told without the rule of its zone. Takes no memory.
+pub(crate) fn may_meet(series: Option<&Series>, window: Window) -> bool
+    ensures { result ≡ may_meet (option_map (λ s. s.now) series.entry) window }
+{
+    match series {
+        Some(series) => {
+            !is_alone(series) || window.is_met_by(widest(series.start, series.length))
+        }
+        None => false,
+    }
+}
+
+fn is_alone(series: &Series) -> bool
+    ensures { result ≡ is_alone series.now }
+{
+    series.rules.items().is_empty() && series.exceptions.items().is_empty()
+}
+
+// What an occurrence takes up by any rule is a part of this.
+fn widest(start: Wall, length: Length) -> Period
+    requires start { is_in_years start ≡ true }
+    requires length { wall_seconds length ≤ 31622400 }
+    ensures { result ≡ widest start (wall_seconds length) }
+{
+    let start = start.seconds();
+    let length = 86_400 * length.days + length.seconds;
+    Period {
+        from: start - FARTHEST,
+        to: start + length as i64 + FARTHEST,
+    }
+}
