@@ -1,3 +1,4 @@
 pub mod TouchedLemmas
 pub mod ResultLemmas
 pub mod RefusalLemmas
+pub mod SightLemmas

@@ -56,13 +56,17 @@ impl<'a> FilterSight<'a> {
         })
     }
 
-    // Whether the filter holds of an event. The rule of its zone is looked up only where the filter asks when the event is.
+    // Whether the filter holds of an event. The rule of its zone is looked up only where the filter asks when the event is, and its
+    // series doesn't tell already that it is at another time.
     fn meets(&self, alloc: Global, event: &StoredEvent<'_>) -> Result<bool, AllocError>
         requires { HasItsSeries self.now.zones.now event.now }
         ensures { IfOk result (λ b. b ≡ event_matches self.now.zones.now self.now.floating.now self.now.filter.filter (data_of event.now.object.now)) }
     {
         if !self.has_time {
             return self.filter.matches(alloc, event.object, None, None);
+        }
+        if !self.filter.may_match(event.series) {
+            return Ok(false);
         }
         let rule = rule_of_event(self.zones, self.floating, event.object);
         self.filter
