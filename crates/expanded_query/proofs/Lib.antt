@@ -3,3 +3,4 @@ pub mod Searched
 pub mod Sorted
 pub mod RefusalLemmas
 pub mod PushLemmas
+pub mod SightLemmas

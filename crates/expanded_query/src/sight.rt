@@ -70,6 +70,9 @@ impl<'a> OccurrenceSight<'a> {
     {
         let object = event.object;
         let series = event.series;
+        if !self.filter.may_match(series) {
+            return Ok(());
+        }
         let rule = rule_of_event(self.zones, self.floating, object);
         if self.filter.matches(alloc, object, series, rule.as_ref())? {
             self.add_meeting(alloc, number, object, series, rule.as_ref(), matches)
