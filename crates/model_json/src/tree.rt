@@ -9,11 +9,14 @@ mod merge;
 mod place;
 mod read;
 
-use self::place::place_of;
+use self::place::{first_value, place_of};
 use crate::num::Num;
 use crate::text::Text;
 use std::alloc::AllocError;
 use std::marker::Model;
+
+/// Among so many members a key is found sooner by comparing one behind the other than by a binary search.
+const FEW_MEMBERS: usize = 16;
 
 /// A JSON value whose numbers are whole (RFC 8259 section 3). Contracts see the pure data of its parts.
 #[cycle(tree)]
@@ -216,6 +219,9 @@ impl TreeObject {
     pub fn get(&self, key: &str) -> Option<&Tree>
         ensures { option_map (λ t. data_of t.now) result ≡ lookup key.now self.now }
     {
+        if self.members.len() <= FEW_MEMBERS {
+            return first_value(&self.members, key);
+        }
         match place_of(&self.members, key) {
             Ok(i) => Some(&self.members[i].value),
             Err(_) => None,
