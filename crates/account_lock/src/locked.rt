@@ -1,5 +1,5 @@
 //! The lock, and the calls of its passes.
-ghost use Rattle.std.specs.Prelude.{◌≡◌, ◌↔◌, ℕ, ◌+◌, ◌<◌, ◌≤◌, [], ◌∷◌, ◌++◌, Err, Some, IfOk, OnOk, OnErr, IfErr, vec_len, vec_capacity, slice_get};
+ghost use Rattle.std.specs.Prelude.{◌≡◌, ◌↔◌, ℕ, ◌+◌, ◌<◌, ◌≤◌, [], Err, Some, IfOk, OnOk, OnErr, IfErr, vec_len, vec_capacity, slice_get};
 ghost use Rattle.model_history.specs.MostTurns.{most_turns};
 ghost use Rattle.account_lock.specs.LockSteps.{having_read, having_added, new_pass};
 ghost use Rattle.account_lock.specs.declared.lock.Phase.TheVariants.{Idle, Turn};

@@ -1,16 +1,13 @@
 //! The rooms of an account.
-ghost use Rattle.std.specs.Prelude.{◌≡◌, ◌≤◌, [], Some, IfNone, IfOk, OnOk, false, length, map, option_map, take, true};
+ghost use Rattle.std.specs.Prelude.{◌≡◌, ◌≤◌, [], Some, IfNone, IfOk, OnOk, length, map, option_map, take, true};
 ghost use Rattle.account_rooms.specs.RoomChanges.{MayChange, booked_again, rooms_after, with_room, without_room};
 ghost use Rattle.account_rooms.specs.Rooms.{bookings_in, has_room};
-ghost use Rattle.account_rooms.specs.Slots.{room_now, rooms_kept, rooms_now};
-ghost use Rattle.model_json.specs.TreeData.{data_of};
+ghost use Rattle.account_rooms.specs.Slots.{rooms_kept, rooms_now};
 ghost use Rattle.model_history.specs.declared.entry.Kind.TheVariants.{Event as event_kind};
-ghost use Rattle.model_resource.specs.Resources.{zone_of_resource};
 ghost use Rattle.model_room.specs.Bookings.{without_booking};
 ghost use Rattle.model_room.specs.Clashes.{IsClash, IsClear, first_clash, second_of};
 ghost use Rattle.model_series.specs.Lengths.{IsWeekLong};
 ghost use Rattle.rule_expand.specs.Least.{IsLeastOf};
-ghost use Rattle.std.specs.List.{list_any};
 
 use crate::slot::{
     Slot, book_in_all, calendars_of, close, drop_closed, is_in_any, keep_all, retire_in_all,

@@ -1,5 +1,5 @@
 //! The store of an account.
-ghost use Rattle.std.specs.Prelude.{◌≡◌, ◌<◌, ◌≤◌, ◌+◌, ◌++◌, ◌∷◌, ◌↔◌, [], false, filter, is_some, length, map, None, option_and_then, option_copied, take, IfOk, IsErrOf, OnOk, if◌then◌else◌};
+ghost use Rattle.std.specs.Prelude.{◌≡◌, ◌<◌, ◌≤◌, ◌+◌, ◌++◌, ◌∷◌, ◌↔◌, [], false, is_some, length, map, None, option_and_then, option_copied, IfOk, IsErrOf, OnOk, if◌then◌else◌};
 ghost use Rattle.std.specs.Coded.{codes};
 ghost use Rattle.model_json.specs.DataCode.{data_code};
 ghost use Rattle.model_history.specs.History.{changes_of, ids_at, is_kind, live_at, live_object, state_at};

@@ -6,7 +6,7 @@ use Rattle.model_call.specs.declared.call.Call.{Call}
 use Rattle.model_call.specs.declared.call.Reply.{Reply}
 use Rattle.model_batch.specs.declared.desk.DeskError.{DeskError}
 use Rattle.model_batch.specs.declared.desk.Front.{Front}
-use Rattle.batch_exec.specs.Stepping.{IsDeskReply, HasNoAnswer, Makes}
+use Rattle.batch_exec.specs.Stepping.{IsDeskReply, Makes}
 
 pub asking_ok : {fronts fronts' : List Front} {s t : Shown} {account : ℕ} {call : Call} {reply : Reply} (moment : ℤ) → Called s t account call moment (Ok reply)
     → fronts' ≡ fronts ++ record { account = account; place = reply.place } ∷ [] → IsDeskReply fronts fronts' s t account call moment (Ok reply)

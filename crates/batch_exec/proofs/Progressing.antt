@@ -3,7 +3,7 @@ use Rattle.std.proofs.Common.{◌≡◌, ℕ, ℤ, inl, inr, List, [], ◌∷◌
 use Rattle.std.proofs.lemmas.Grind.{flat_map-append}
 use Rattle.std.proofs.lemmas.List.{map-append}
 use Rattle.model_batch.proofs.Chains.{join, still, stop_of}
-use Rattle.model_batch.specs.Batch.{Step, Fit, FollowsFrom, Progress, NextMeans, created_after, created_by, given_ids, made_in, meaning_after, responses_in}
+use Rattle.model_batch.specs.Batch.{Step, Fit, FollowsFrom, Progress, NextMeans, created_by, given_ids, made_in, meaning_after}
 use Rattle.model_batch.specs.Meaning.{Meaning, calls, meaning_of_method}
 use Rattle.model_call.specs.Methods.{method_used}
 use Rattle.model_json.specs.Parts.{some_of}
@@ -16,7 +16,7 @@ use Rattle.model_batch.specs.declared.request.Request.{Request}
 use Rattle.model_batch.specs.declared.method_response.MethodResponse.{MethodResponse}
 use Rattle.model_core.specs.declared.user.User.{User}
 use Rattle.batch_exec.specs.Answering.{Going, HasStopped, HasAnswered}
-use Rattle.batch_exec.specs.Stepping.{IsResponse, HasNoStep, Makes, Takes, meant}
+use Rattle.batch_exec.specs.Stepping.{IsResponse, HasNoStep, Takes, meant}
 
 module _ (user : User) (request : Request) (moment : ℤ) where
   abbrev follows_after : List Step → Step → Type 0

@@ -1,6 +1,6 @@
 //! The response to a request, as JSON.
 ghost use Rattle.std.specs.Prelude.{◌≡◌, [], IfOk, map};
-ghost use Rattle.model_batch.specs.Batch.{created_object, id_member, response_data, response_with_ids};
+ghost use Rattle.model_batch.specs.Batch.{id_member, response_data, response_with_ids};
 ghost use Rattle.model_json.specs.Edit.{put_all};
 ghost use Rattle.model_json.specs.TreeData.{data_of};
 ghost use Rattle.model_json.specs.declared.tree.Tree.TheVariants.{Object};

@@ -1,5 +1,5 @@
 -- What follows where nothing stands against the bookings of an event.
-use Rattle.std.proofs.Common.{◌≡◌, ◌+◌, ◌==◌, ◌&&◌, ◌||◌, ◌<◌, ◌≤◌, ℕ, List, [], ◌∷◌, All, Bool, true, false, not, Option, Some, None, drop, filter, get_or, length, option_map, nat_le, option_and_then, if◌then◌else◌, arith, refl, sym, ap, ◌∙◌, subst}
+use Rattle.std.proofs.Common.{◌≡◌, ◌+◌, ◌==◌, ◌&&◌, ◌||◌, ◌<◌, ◌≤◌, ℕ, List, [], ◌∷◌, All, Bool, true, false, not, Option, Some, None, drop, get_or, length, option_map, nat_le, option_and_then, arith, refl, sym, ap, ◌∙◌, subst}
 use Rattle.std.proofs.lemmas.Bool.{false≢true}
 use Rattle.std.proofs.lemmas.Bool.Decides.{nat_tests}
 use Rattle.std.proofs.lemmas.List.Elements.{All-cons, All-filter, All-head, All-nil, All-tail, filter_passes}

@@ -1,5 +1,5 @@
 //! The table of a calendar's properties.
-ghost use Rattle.std.specs.Prelude.{◌≡◌, Some, IfOk};
+ghost use Rattle.std.specs.Prelude.{◌≡◌, Some};
 ghost use Rattle.cal_model.specs.Calendar.{calendar_table, is_calendar_id};
 ghost use Rattle.model_json.specs.TreeData.{data_of};
 ghost use Rattle.model_site.specs.TimeZones.{has_zone};

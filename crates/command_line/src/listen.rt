@@ -1,6 +1,6 @@
 //! The words of `listen`.
 
-ghost use Rattle.std.specs.Prelude.{◌≡◌, ◌≤◌, IfOk, IfSome, map, option_and_then, option_map, string_bytes};
+ghost use Rattle.std.specs.Prelude.{◌≡◌, ◌≤◌, IfOk, IfSome, map, option_map, string_bytes};
 ghost use Rattle.command_line.specs.Commands.{count_in, count_or, listen_command_of, listen_of, listen_with};
 ghost use Rattle.command_line.specs.Shown.{listen_shown};
 

@@ -11,7 +11,7 @@ use Rattle.model_json.specs.Data.{Data}
 use Rattle.model_http.specs.Messages.{Message}
 use Rattle.model_http.specs.Responses.{Response, response_text}
 use Rattle.model_connection.specs.Routes.{Route, api, direct, route}
-use Rattle.model_connection.specs.Exchanges.{Begun, Told, Ticked, Exchange, api_response, at_once, by_calls, called, moment_behind, moments_for, uncalled}
+use Rattle.model_connection.specs.Exchanges.{Told, Ticked, Exchange, api_response, at_once, by_calls, called, moment_behind, moments_for, uncalled}
 use Rattle.io_edge.specs.Outside.{Ticks}
 use Rattle.model_site.specs.Configuration.{Site, user_at}
 use Rattle.model_json.specs.TreeData.{data_of}

@@ -1,5 +1,5 @@
 -- How a connection ends that wasn't served to the end of its bytes.
-use Rattle.std.specs.Prelude.{◌≡◌, ◌≤◌, ℕ, List}
+use Rattle.std.specs.Prelude.{◌≡◌, ◌≤◌, ℕ}
 use Rattle.model_connection.specs.Serving.{refusal_text}
 use Rattle.io_edge.specs.Outside.{Grows, GrowsByPrefix, Rose, SinkShown}
 use Rattle.model_connection.specs.declared.served.ConnEnd.{ConnEnd}

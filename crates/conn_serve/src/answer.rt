@@ -1,9 +1,9 @@
 //! The response to one message.
 ghost use Rattle.std.specs.Prelude.{◌≡◌, ◌<◌, IfOk, length};
-ghost use Rattle.model_http.specs.Responses.{IsStatus, response_text};
+ghost use Rattle.model_http.specs.Responses.{response_text};
 ghost use Rattle.model_connection.specs.Routes.{api, route};
 ghost use Rattle.conn_serve.specs.Answering.{AnswersMessage, outcome_response};
-ghost use Rattle.http_edge.specs.Reading.{message_shown, response_shown};
+ghost use Rattle.http_edge.specs.Reading.{message_shown};
 
 use crate::reply::{RequestOutcome, reply_to};
 use crate::route::{Route, route_of, success, with_problem};

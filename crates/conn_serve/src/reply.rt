@@ -1,5 +1,5 @@
 //! The reply to the body of a request.
-ghost use Rattle.std.specs.Prelude.{◌≡◌, ◌<◌, All};
+ghost use Rattle.std.specs.Prelude.{◌<◌, All};
 ghost use Rattle.model_batch.specs.Asked.{asked_by};
 ghost use Rattle.model_batch.specs.Reply.{asked_in};
 ghost use Rattle.model_json.specs.TreeData.{data_of};

@@ -1,5 +1,5 @@
 //! What a batch asks of a desk over two accounts, of which the user may only read one.
-ghost use Rattle.std.specs.Prelude.{◌<◌, ◌≡◌, All, IfOk};
+ghost use Rattle.std.specs.Prelude.{◌<◌, All, IfOk};
 
 use crate::pair_desk::PairDesk;
 use batch_exec::run::run_batch;

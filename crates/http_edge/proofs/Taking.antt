@@ -1,5 +1,5 @@
 -- Bytes taken from a source, piece after piece.
-use Rattle.std.proofs.Common.{◌≡◌, ℕ, ◌+◌, ◌≤◌, List, [], ◌++◌, inl, inr, length, length-append, refl, sym, ap, ◌∙◌, subst, take, append_assoc, append-nil, arith}
+use Rattle.std.proofs.Common.{◌≡◌, ℕ, ◌+◌, ◌≤◌, List, [], ◌++◌, inr, length, length-append, sym, ap, ◌∙◌, subst, take, append_assoc, append-nil, arith}
 use Rattle.std.proofs.KnownBytes.{Consumes-nil, Consumes-trans}
 use Rattle.io_edge.specs.Outside.{Rose, SourceShown}
 use Rattle.http_edge.specs.Reading.{AskedWhile, Took, StopCause}

@@ -1,5 +1,5 @@
 //! What the fields of a head say.
-ghost use Rattle.std.specs.Prelude.{◌≡◌, ◌≤◌, length, map, Some, None, if◌then◌else◌, option_map, codes, IfOk, fold, ◌&&◌};
+ghost use Rattle.std.specs.Prelude.{◌≡◌, length, map, Some, None, if◌then◌else◌, option_map, codes, IfOk, fold, ◌&&◌};
 ghost use Rattle.std.specs.List.{All, list_any};
 ghost use Rattle.std.specs.Str.{IsAscii};
 ghost use Rattle.std.specs.Str.Parse.{digits_value};

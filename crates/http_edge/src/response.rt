@@ -1,5 +1,5 @@
 //! The bytes of responses.
-ghost use Rattle.std.specs.Prelude.{◌≡◌, IfOk, string_bytes, length, unwrap_or, [], true};
+ghost use Rattle.std.specs.Prelude.{◌≡◌, IfOk, string_bytes, length, unwrap_or, []};
 ghost use Rattle.http.specs.StatusCode.{reason_phrase};
 ghost use Rattle.model_http.specs.Responses as http;
 ghost use Rattle.model_http.specs.Responses.{IsStatus, response_text};

@@ -1,6 +1,6 @@
 //! Openers in memory.
 
-ghost use Rattle.std.specs.Prelude.{◌≡◌, ◌+◌, ◌≤◌, List, ℕ, Err, IfOk, Some, map, string_bytes};
+ghost use Rattle.std.specs.Prelude.{◌≡◌, ◌≤◌, Err, IfOk, Some, map, string_bytes};
 ghost use Rattle.io_edge.specs.FailingCalls.{CountsCall, faults_of};
 ghost use Rattle.io_edge.specs.Outside.{CountsOne, IsMissing, IsThere, Loads, Rose};
 

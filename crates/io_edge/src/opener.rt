@@ -1,6 +1,6 @@
 //! Openers: where files are loaded from, by name.
 
-ghost use Rattle.std.specs.Prelude.{◌≡◌, ℕ, ◌≤◌, List, Option, IfOk};
+ghost use Rattle.std.specs.Prelude.{◌≡◌, ◌≤◌, IfOk};
 ghost use Rattle.io_edge.specs.Outside.{CountsOne, IsMissing, IsThere, Loads, OpenerShown, Rose};
 
 use std::alloc::AllocError;

@@ -1,6 +1,6 @@
 //! Sinks: where bytes go.
 
-ghost use Rattle.std.specs.Prelude.{◌≡◌, ℕ, ◌<◌, List, length, take, Option, IfOk, OnErr, OnOk};
+ghost use Rattle.std.specs.Prelude.{◌≡◌, ◌<◌, length, take, IfOk, OnErr, OnOk};
 ghost use Rattle.std.specs.Io.{WritesAtMost};
 ghost use Rattle.io_edge.specs.Outside.{Grows, GrowsByPrefix, HasCause, SinkShown};
 

@@ -1,5 +1,5 @@
 //! Jobs: what is run in a thread of its own.
-ghost use Rattle.std.specs.Prelude.{◌≡◌, ℕ};
+ghost use Rattle.std.specs.Prelude.{◌≡◌};
 
 /// How a worker ended.
 #[derive(Clone, Copy, Debug, PartialEq, Eq, Drop)]

@@ -1,5 +1,5 @@
 //! Hosts in memory.
-ghost use Rattle.std.specs.Prelude.{◌≡◌, ◌+◌, [], IfOk, None, Some, map};
+ghost use Rattle.std.specs.Prelude.{◌≡◌, ◌+◌, [], IfOk, None, Some};
 ghost use Rattle.io_edge.specs.FailingCalls.{faults_of};
 
 use crate::host::{Host, HostError};

@@ -1,5 +1,4 @@
 //! One worker over a listener in memory.
-ghost use Rattle.std.specs.Prelude.{◌≡◌};
 
 use crate::connections::{bytes_of, connections_of, failing, tell_output};
 use account_desk::gate::Gate;

@@ -1,5 +1,5 @@
 -- What a JSON value asks for: a request, or a refusal of the whole (RFC 8620 sections 2 and 3.6.1).
-use Rattle.std.specs.Prelude.{ℕ, Bool, true, false, Option, Some, None, length, nat_lt, not, if◌then◌else◌}
+use Rattle.std.specs.Prelude.{Bool, true, false, Option, Some, None, length, nat_lt, not, if◌then◌else◌}
 use Rattle.std.specs.List.{list_all}
 use Rattle.model_json.specs.Data.{Data}
 use Rattle.model_core.specs.declared.limits.TheConstants.{MAX_CALLS_IN_REQUEST}

@@ -1,5 +1,5 @@
 -- The responses to a request, each determined by the steps before it (RFC 8620 sections 3.2 to 3.7).
-use Rattle.std.specs.Prelude.{◌≡◌, ℕ, ◌⊎◌, ℤ, List, [], ◌∷◌, ◌++◌, Option, Some, None, codes, flat_map, length, map, unwrap_or, Result, Ok, Err}
+use Rattle.std.specs.Prelude.{◌≡◌, ℕ, ◌⊎◌, ℤ, List, [], ◌∷◌, ◌++◌, Option, Some, None, codes, flat_map, map, unwrap_or, Result, Ok, Err}
 use Rattle.model_batch.specs.Asked.{asked, refused, asked_by}
 use Rattle.model_json.specs.Data.{Data, text, list, object, Pair, items_of, members_of}
 use Rattle.model_json.specs.Edit.{put_all}

@@ -2,7 +2,7 @@
 use Rattle.std.specs.Prelude.{ℕ, List, [], ◌∷◌, ◌==◌, Bool, not, Option, Some, None, option_map, option_and_then, is_some, filter, flat_map, drop, slice_get, codes, if◌then◌else◌}
 use Rattle.std.specs.List.{list_any}
 use Rattle.std.specs.Str.{bytes_eq}
-use Rattle.model_json.specs.Data.{Data, list, object, Pair, lookup, field, items_of, list_of, pairs_of}
+use Rattle.model_json.specs.Data.{Data, list, object, Pair, lookup, items_of, list_of, pairs_of}
 use Rattle.model_json.specs.Edit.{put_all}
 use Rattle.model_json.specs.Number.{number_in}
 use Rattle.model_json.specs.Parts.{all_some, behind_hash, text_at}

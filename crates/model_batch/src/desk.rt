@@ -1,5 +1,5 @@
 //! What answers calls on accounts.
-ghost use Rattle.std.specs.Prelude.{◌≡◌, ◌<◌, ◌^◌};
+ghost use Rattle.std.specs.Prelude.{◌≡◌, ◌<◌};
 ghost use Rattle.model_batch.specs.Chain.{Shown, Called};
 
 use model_call::call::{Call, Reply};

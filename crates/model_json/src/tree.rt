@@ -1,5 +1,5 @@
 //! JSON values.
-ghost use Rattle.std.specs.Prelude.{◌≡◌, IfOk, length, map};
+ghost use Rattle.std.specs.Prelude.{◌≡◌, IfOk, map};
 ghost use Rattle.model_json.specs.Data.{items_of, members_of};
 ghost use Rattle.model_json.specs.SameData.{same_items, same_members};
 ghost use Rattle.model_json.specs.TreeData.{data_of, pair_of};

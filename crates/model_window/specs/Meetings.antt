@@ -1,5 +1,5 @@
 -- The occurrence of a recurrence id, and whether some occurrence of a series meets a window, as functions.
-use Rattle.std.specs.Prelude.{ℤ, Bool, true, false, List, [], ◌∷◌, Option, Some, None, is_some, option_map, if◌then◌else◌}
+use Rattle.std.specs.Prelude.{ℤ, Bool, false, List, [], ◌∷◌, Option, Some, None, is_some, option_map, if◌then◌else◌}
 use Rattle.std.specs.Option.{option_map_or}
 use Rattle.std.specs.Ordering.{int_eq}
 use Rattle.model_series.specs.declared.exception.Exception.{Exception}

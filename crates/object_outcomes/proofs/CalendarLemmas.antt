@@ -1,18 +1,16 @@
 -- What comes of storing a calendar.
-use Rattle.std.proofs.Common.{◌≡◌, ◌⊎◌, inl, inr, ◌||◌, ℕ, List, [], ◌∷◌, Bool, true, false, Option, Some, None, codes, is_some, not, option_and_then, if◌then◌else◌, refl, sym, ap, ◌∙◌, subst}
+use Rattle.std.proofs.Common.{◌≡◌, inl, inr, ℕ, List, [], Bool, true, false, Option, Some, None, is_some, not, option_and_then, refl, sym, ap, ◌∙◌}
 use Rattle.std.proofs.lemmas.Bool.{false≢true}
-use Rattle.std.specs.Str.{bytes_eq}
-use Rattle.cal_model.specs.Calendar.{CalendarProperties, bad_properties, calendar_in, stored, text_or_null}
+use Rattle.cal_model.specs.Calendar.{CalendarProperties, calendar_in, stored, text_or_null}
 use Rattle.cal_model.specs.Fits.{IsObjectFit}
 use Rattle.cal_model.specs.Operations.{Ground, after_tests, bad_of_calendar, exceeds_resources, has_other_zone, put, stored_calendar_outcome, within_quota, zone_given}
 use Rattle.cal_model.specs.declared.outcome.Outcome.TheVariants.{Refused}
 use Rattle.cal_model.specs.declared.set_error.SetError.TheVariants.{InvalidProperties}
-use Rattle.model_history.specs.History.{live_object, next_number}
+use Rattle.model_history.specs.History.{live_object}
 use Rattle.model_history.specs.declared.entry.Change.{Change}
 use Rattle.model_history.specs.declared.entry.Kind.TheVariants.{Calendar}
-use Rattle.model_json.specs.Data.{Data, null, text}
+use Rattle.model_json.specs.Data.{Data}
 use Rattle.model_json.specs.SameData.{same_data}
-use Rattle.model_json.specs.TreeData.{data_of}
 use Rattle.model_json.specs.declared.tree.Tree.{Tree}
 use Rattle.model_json.specs.declared.tree.Tree.TheVariants.{Object}
 use Rattle.model_resource.specs.Resources.{is_resource, zone_of_resource}

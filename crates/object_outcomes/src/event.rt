@@ -1,11 +1,10 @@
 //! What comes of storing an event.
-ghost use Rattle.std.specs.Prelude.{◌≡◌, ◌++◌, [], ◌∷◌, IfOk, OnOk, codes, is_some, map, option_map, unwrap_or};
+ghost use Rattle.std.specs.Prelude.{◌≡◌, ◌++◌, [], IfOk, OnOk, is_some, map, option_map, unwrap_or};
 ghost use Rattle.std.specs.List.{list_all};
-ghost use Rattle.cal_model.specs.EventObject.{event_members, has_other_uid, names_missing_calendar, moment_created, value_or_null, with_default, with_server_values};
+ghost use Rattle.cal_model.specs.EventObject.{has_other_uid, names_missing_calendar, moment_created, value_or_null, with_default, with_server_values};
 ghost use Rattle.cal_model.specs.Operations.{bad_of_booking, bad_of_event, event_outcome, stored_event_outcome};
 ghost use Rattle.model_event.specs.Events.{calendars_among};
 ghost use Rattle.model_history.specs.History.{live_object};
-ghost use Rattle.model_history.specs.ObjectId.{id_text};
 ghost use Rattle.model_history.specs.declared.entry.Kind.TheVariants.{Calendar as calendar_kind, Event as event_kind};
 ghost use Rattle.model_json.specs.Data.{null, text};
 ghost use Rattle.model_json.specs.Edit.{with_pair};

@@ -1,6 +1,5 @@
 //! The members that a client gives.
-ghost use Rattle.std.specs.Prelude.{◌≡◌, ◌∷◌, [], Bool, IfOk, OnOk, codes, false, not, option_map};
-ghost use Rattle.std.specs.Option.{option_map_or};
+ghost use Rattle.std.specs.Prelude.{◌≡◌, [], IfOk, OnOk, false, option_map};
 ghost use Rattle.cal_model.specs.Operations.{has_other_id, is_this_text, with_name_if, with_own_id};
 ghost use Rattle.cal_model.specs.declared.outcome.Outcome.TheVariants.{Refused};
 ghost use Rattle.cal_model.specs.declared.set_error.SetError.TheVariants.{InvalidProperties};

@@ -1,5 +1,5 @@
 //! What comes of one object of a set.
-ghost use Rattle.std.specs.Prelude.{◌≡◌, ◌++◌, Bool, IfOk, IfSome, Some, if◌then◌else◌, is_some, option_map, true};
+ghost use Rattle.std.specs.Prelude.{◌≡◌, ◌++◌, IfOk, IfSome, Some, if◌then◌else◌, is_some, option_map};
 ghost use Rattle.cal_model.specs.CreatedIds.{object_named, resolved_object};
 ghost use Rattle.cal_model.specs.declared.set_error.SetError.TheVariants.{Forbidden, WillDestroy};
 ghost use Rattle.cal_model.specs.Operations.{created_outcome, destroyed_outcome, is_in_use, object_outcome, outcome_of, patched_outcome, updated_outcome};

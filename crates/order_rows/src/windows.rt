@@ -1,5 +1,4 @@
 //! Rows of windows.
-ghost use Rattle.std.specs.Prelude.{◌≡◌};
 ghost use Rattle.model_query.specs.Windows.{IsInMemory};
 
 use crate::numbers::{list_of, number_at, signed_at};

@@ -1,5 +1,5 @@
 //! What the overrides of an event come to.
-ghost use Rattle.std.specs.Prelude.{◌≡◌, IfErr, IfOk, Some, codes, if◌then◌else◌, None, map, option_and_then, option_map};
+ghost use Rattle.std.specs.Prelude.{◌≡◌, IfErr, IfOk, Some, codes, if◌then◌else◌, None, map, option_map};
 ghost use Rattle.model_event.specs.Events.{bad_event_properties};
 ghost use Rattle.model_event.specs.Values.{is_showing};
 ghost use Rattle.model_json.specs.Data.{lookup};

@@ -1,5 +1,5 @@
 //! Puts values into a tree at the ends of paths, or takes out what stands there.
-ghost use Rattle.std.specs.Prelude.{◌≡◌, ◌+◌, ◌<◌, ◌≤◌, IfOk, IsTrue, drop, get_or, length, map, take};
+ghost use Rattle.std.specs.Prelude.{◌≡◌, ◌+◌, ◌<◌, ◌≤◌, IfOk, IsTrue, drop, length, map, take};
 ghost use Rattle.model_json.specs.Patch.{on_members, put_or_removed};
 ghost use Rattle.model_json.specs.TreeData.{data_of};
 ghost use Rattle.patch_object.specs.Edits.{all_through, change_from, goes_through, is_group, placed_each};

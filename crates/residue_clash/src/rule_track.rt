@@ -1,5 +1,5 @@
 //! The days of recurrence rules as tracks.
-ghost use Rattle.std.specs.Prelude.{◌≡◌, ◌<◌, true, unsigned_abs};
+ghost use Rattle.std.specs.Prelude.{◌<◌, unsigned_abs};
 ghost use Rattle.model_series.specs.Periods.{is_in_phase};
 ghost use Rattle.model_series.specs.RuleSets.{is_kept};
 ghost use Rattle.residue_clash.specs.Repeats.{repeats_after};

@@ -4,7 +4,7 @@ ghost use Rattle.model_series.specs.Lengths.{IsWeekLong};
 ghost use Rattle.rule_expand.specs.Least.{IsLeastOf};
 ghost use Rattle.model_room.specs.declared.booking.Booking.{Booking as BookingView};
 ghost use Rattle.model_room.specs.Bookings.{but};
-ghost use Rattle.model_room.specs.Clashes.{IsClash, is_clash, IsClear, clash_at, first_clash, second_of};
+ghost use Rattle.model_room.specs.Clashes.{IsClash, IsClear, first_clash, second_of};
 ghost use Rattle.resource_book.specs.Meetings.{meets_booking, earlier_of, IsEarliestOf, clash_of};
 
 use crate::places::place_but;

@@ -1,7 +1,6 @@
 //! Arguments that are given both as a value and as a reference.
-ghost use Rattle.std.specs.Prelude.{◌≡◌, is_some, map};
+ghost use Rattle.std.specs.Prelude.{◌≡◌, map};
 ghost use Rattle.std.specs.List.{list_any};
-ghost use Rattle.model_json.specs.Parts.{behind_hash};
 ghost use Rattle.model_batch.specs.References.{has_both_forms};
 ghost use Rattle.model_json.specs.TreeData.{pair_of};
 ghost use Rattle.result_refs.specs.Walk.{begins_with, from_key};

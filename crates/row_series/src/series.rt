@@ -1,7 +1,6 @@
 //! Series as a table has them.
-ghost use Rattle.std.specs.Prelude.{◌≡◌, ◌≤◌, ◌&&◌, length as count, nat_le, true, IfOk, IfSome};
+ghost use Rattle.std.specs.Prelude.{◌≡◌, ◌≤◌, length as count, true, IfOk, IfSome};
 ghost use Rattle.model_time.specs.Walls.{is_in_years};
-ghost use Rattle.model_series.specs.SeriesLimits.{is_span_in_years, wall_seconds};
 ghost use Rattle.model_series.specs.Lengths.{IsWeekLong};
 
 use crate::limits::{are_distinct, are_in_years, are_short, are_week_long, is_week};

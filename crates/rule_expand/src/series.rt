@@ -1,6 +1,5 @@
 //! The occurrences of a series.
-ghost use Rattle.std.specs.Prelude.{◌^◌, ◌&&◌, ◌||◌, int_lt, unsigned_abs, int_le, ℕ, ◌≡◌, ◌+◌, ◌-◌, ◌+ℤ◌, ◌*◌, ◌-ℤ◌, ◌*ℤ◌, ◌<◌, ◌≤◌, ◌≤ℤ◌, ◌<ℤ◌, ℤ, pos, true, IsSome, IfSome, IsNone, Some, slice_get};
-ghost use Rattle.model_series.specs.Occurrences.{IsOccurrence, IsRegular};
+ghost use Rattle.std.specs.Prelude.{◌^◌, ◌&&◌, ◌||◌, int_lt, unsigned_abs, int_le, ℕ, ◌≡◌, ◌+◌, ◌-◌, ◌+ℤ◌, ◌*◌, ◌-ℤ◌, ◌*ℤ◌, ◌<◌, ◌≤◌, ◌≤ℤ◌, ℤ, pos, true, IfSome, IsNone, Some};
 ghost use Rattle.model_series.specs.RuleSets.{is_in_set};
 ghost use Rattle.model_series.specs.SeriesLimits.{is_named};
 ghost use Rattle.model_time.specs.Walls.{second_of_wall};

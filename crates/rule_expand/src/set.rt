@@ -1,12 +1,11 @@
 //! The set of a rule.
-ghost use Rattle.std.specs.Prelude.{◌^◌, unsigned_abs, ◌&&◌, int_le, ℕ, ◌≡◌, ◌+◌, ◌-◌, ◌+ℤ◌, ◌*◌, ◌-ℤ◌, ◌*ℤ◌, ◌<◌, ◌≤◌, ◌≤ℤ◌, ◌<ℤ◌, ℤ, pos, true, IsSome, IfSome, IsNone};
+ghost use Rattle.std.specs.Prelude.{◌^◌, unsigned_abs, ◌&&◌, int_le, ℕ, ◌≡◌, ◌+◌, ◌-◌, ◌+ℤ◌, ◌-ℤ◌, ◌<◌, ◌≤◌, ◌≤ℤ◌, ◌<ℤ◌, ℤ, pos, true, IfSome, IsNone};
 ghost use Rattle.model_series.specs.Periods.{is_in_phase};
-ghost use Rattle.model_series.specs.Places.{count_from};
-ghost use Rattle.model_series.specs.RuleSets.{is_due, is_counted, is_day_of_set, is_in_set};
+ghost use Rattle.model_series.specs.RuleSets.{is_due, is_day_of_set, is_in_set};
 ghost use Rattle.model_time.specs.Walls.{day_of_wall, is_in_years, second_of_wall};
 ghost use Rattle.model_time.specs.Floor.{floor_div, modulo};
 ghost use Rattle.rule_expand.specs.Near.{IsNear};
-ghost use Rattle.rule_expand.specs.Sets.{IsGreatest, IsLastDue, IsNearBound, IsFirstFrom, IsCountAt, is_by_last, is_up_to, IsNext, IsBound};
+ghost use Rattle.rule_expand.specs.Sets.{IsGreatest, IsLastDue, IsNearBound, IsFirstFrom, IsNext, IsBound};
 ghost use Rattle.model_series.specs.declared.by_part.End.TheVariants.{Count};
 
 use crate::bound::Bound;

@@ -1,13 +1,12 @@
 //! The next day that is kept and in phase.
-ghost use Rattle.std.specs.Prelude.{[], ◌^◌, unsigned_abs, ◌&&◌, ℕ, ◌≡◌, ◌+◌, ◌-◌, ◌+ℤ◌, ◌*◌, ◌-ℤ◌, ◌*ℤ◌, ◌<◌, ◌≤◌, ◌≤ℤ◌, ◌<ℤ◌, ◌↔◌, ℤ, pos, neg_ℤ, true, IsSome, IfSome, IsNone};
+ghost use Rattle.std.specs.Prelude.{[], ◌^◌, unsigned_abs, ◌&&◌, ℕ, ◌≡◌, ◌+◌, ◌-◌, ◌+ℤ◌, ◌*◌, ◌-ℤ◌, ◌*ℤ◌, ◌<◌, ◌≤◌, ℤ, pos, IfSome, IsNone};
 ghost use Rattle.std.specs.Int.{IsInRange};
 ghost use Rattle.model_series.specs.Periods.{period_number};
-ghost use Rattle.model_series.specs.Places.{empty_or_any, is_place, count_days};
-ghost use Rattle.model_series.specs.RuleSets.{day_matches, is_kept};
+ghost use Rattle.model_series.specs.Places.{empty_or_any, is_place};
 ghost use Rattle.model_time.specs.CivilDay.{day_number};
 ghost use Rattle.model_time.specs.Floor.{floor_div, modulo};
 ghost use Rattle.rule_expand.specs.Near.{IsNear, most};
-ghost use Rattle.rule_expand.specs.Walk.{IsWholePeriod, first_of, IsFirstPeriod, IsPhaseDay, IsNextDay, NoneThrough, NoneIn, IsFirstIn, periods, NoneKept, IsFirstKept};
+ghost use Rattle.rule_expand.specs.Walk.{IsWholePeriod, first_of, IsFirstPeriod, IsPhaseDay, IsNextDay, NoneIn, IsFirstIn, periods, NoneKept, IsFirstKept};
 
 use crate::matching::first_plain;
 use crate::occurs::{ahead, count_matching, date_at, in_month_days, in_period, matches_day};

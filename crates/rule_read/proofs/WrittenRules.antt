@@ -1,26 +1,21 @@
 -- A rule that was written is read back.
-use Rattle.std.proofs.Common.{zero, suc, ◌≡◌, ◌==◌, ◌&&◌, ◌||◌, ◌≤◌, ◌<◌, ◌^◌, ℕ, ℤ, pos, negsuc, List, [], ◌∷◌, Bool, true, false, not, Option, Some, None, length, map, codes, nat_le, nat_lt, int_le, unsigned_abs, if◌then◌else◌, refl, sym, ap, ◌∙◌, arith, subst, option_and_then, option_map}
-use Rattle.std.specs.List.{list_all, list_any}
+use Rattle.std.proofs.Common.{zero, suc, ◌≡◌, ◌&&◌, ◌≤◌, ◌<◌, ℕ, ℤ, pos, negsuc, List, [], ◌∷◌, Bool, true, false, Option, Some, None, map, codes, nat_le, nat_lt, int_le, if◌then◌else◌, refl, ap, ◌∙◌, arith, subst, option_and_then, option_map}
+use Rattle.std.specs.List.{list_all}
 use Rattle.std.specs.Int.{IsInRange}
-use Rattle.std.specs.Fmt.{decimal}
 use Rattle.std.proofs.lemmas.Bool.{and_from, and_parts}
 use Rattle.std.proofs.lemmas.Bool.Decides.{nat_tests}
 use Rattle.std.proofs.lemmas.Int.{ints}
 use Rattle.std.proofs.lemmas.Option.{none-some, same_Some}
-use Rattle.jiff_core.proofs.SignedLemmas.{signed_arith}
-use Rattle.model_json.specs.Data.{Data, null, whole, text, list, object, items_of, list_of, members_of, items_back}
-use Rattle.model_json.specs.Number.{number_in}
-use Rattle.model_json.specs.Parts.{all_some, as_list, as_whole}
-use Rattle.model_time.specs.CivilDay.{day_of_month, month_of, weekday_of}
+use Rattle.model_json.specs.Data.{Data, whole, list, items_of, items_back}
+use Rattle.model_json.specs.Parts.{all_some}
 use Rattle.model_series.specs.declared.by_part.Freq.{Freq}
 use Rattle.model_series.specs.declared.by_part.Freq.TheVariants.{Daily, Weekly, Monthly, Yearly}
 use Rattle.model_series.specs.declared.by_part.End.{End}
 use Rattle.model_series.specs.declared.by_part.End.TheVariants.{Never, Count, Until}
 use Rattle.model_series.specs.declared.by_part.NDay.{NDay}
 use Rattle.model_series.specs.declared.rule.Rule.{Rule}
-use Rattle.model_time.specs.LocalTimes.{local_in, local_text}
-use Rattle.model_series.specs.RuleLimits.{are_by_parts, is_end, is_month, is_nday, is_nth, is_place_to}
-use Rattle.model_series.specs.RuleObjects.{RuleParts, count_data, each_in, end_in, filled, frequency_in, frequency_named, frequency_text, implied_days, implied_month_days, implied_months, interval_in, is_empty, is_monthly, is_rule_object, is_settled, is_settled_by, is_weekly, is_yearly, month_data, month_in, month_of_number, nday_data, nday_in, nth_data, nth_in, parts_of, place_in, place_of, present, rule_data, rule_in, settled_rule, thousand_of, until_data, present_at, week_start_in, weekday_in, weekday_named, weekday_text, with_lists, with_members}
+use Rattle.model_series.specs.RuleLimits.{is_end, is_month, is_nday, is_nth, is_place_to}
+use Rattle.model_series.specs.RuleObjects.{RuleParts, count_data, each_in, end_in, filled, frequency_in, frequency_named, frequency_text, interval_in, is_empty, is_rule_object, is_settled, month_data, month_in, month_of_number, nday_data, nday_in, nth_data, nth_in, parts_of, place_in, present, rule_data, rule_in, settled_rule, thousand_of, until_data, present_at, week_start_in, weekday_named, weekday_text, with_lists, with_members}
 use Rattle.time_text.proofs.NumberLemmas.{decimal_back}
 use Rattle.time_text.proofs.WrittenLemmas.{read_back as local_back}
 

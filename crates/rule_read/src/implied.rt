@@ -1,5 +1,5 @@
 //! The implied parts of rules: those of the start's day that a rule leaves out.
-ghost use Rattle.std.specs.Prelude.{◌≡◌, ◌<◌, ◌&&◌, ◌||◌, ◌^◌, ◌∷◌, [], None, not, pos, true, is_some, unsigned_abs, IfOk};
+ghost use Rattle.std.specs.Prelude.{◌≡◌, ◌<◌, ◌&&◌, ◌||◌, ◌^◌, ◌∷◌, [], None, pos, is_some, unsigned_abs, IfOk};
 ghost use Rattle.std.specs.List.{list_any};
 ghost use Rattle.model_series.specs.RuleObjects.{implied_days, implied_month_days, implied_months, is_empty, is_monthly, is_settled_by, is_weekly, is_yearly};
 

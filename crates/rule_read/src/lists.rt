@@ -1,5 +1,5 @@
 //! The lists of rules.
-ghost use Rattle.std.specs.Prelude.{◌≡◌, ◌≤◌, IfOk, map, option_and_then, option_map};
+ghost use Rattle.std.specs.Prelude.{◌≡◌, ◌≤◌, IfOk, map, option_map};
 ghost use Rattle.model_json.specs.Parts.{all_some, as_list};
 ghost use Rattle.model_json.specs.TreeData.{data_of};
 ghost use Rattle.model_series.specs.RuleObjects.{each_in, month_in, nday_in, place_in};

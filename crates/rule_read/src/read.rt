@@ -5,7 +5,7 @@ ghost use Rattle.model_json.specs.TreeData.{data_of};
 ghost use Rattle.model_series.specs.RuleLimits.{are_by_parts};
 ghost use Rattle.model_series.specs.RuleObjects.{filled, frequency_in, parts_of, rule_in, rules_in, rules_of, settled_rule, with_lists, with_members};
 ghost use Rattle.model_time.specs.Walls.{day_of_wall, is_in_years};
-ghost use Rattle.rule_read.specs.declared.error.RulesError.TheVariants.{BadRules, NoMemory};
+ghost use Rattle.rule_read.specs.declared.error.RulesError.TheVariants.{BadRules};
 
 use crate::error::RulesError;
 use crate::frame::Frame;

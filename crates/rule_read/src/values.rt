@@ -4,7 +4,7 @@ ghost use Rattle.model_json.specs.Number.{number_in};
 ghost use Rattle.std.specs.Int.{IsInRange};
 ghost use Rattle.model_json.specs.Parts.{as_text, as_whole};
 ghost use Rattle.model_json.specs.TreeData.{data_of};
-ghost use Rattle.model_series.specs.RuleLimits.{is_end, is_month, is_nday, is_place_to};
+ghost use Rattle.model_series.specs.RuleLimits.{is_end, is_month, is_place_to};
 ghost use Rattle.model_series.specs.RuleObjects.{end_in, frequency_in, frequency_named, interval_in, local_at, month_in, month_of_number, nday_in, nday_of, nth_in, place_in, place_of, thousand_in, thousand_of, week_start_in, weekday_in, weekday_named};
 ghost use Rattle.model_time.specs.Walls.{is_in_years};
 

@@ -1,6 +1,5 @@
 //! Writes recurrence rules.
-ghost use Rattle.std.specs.Prelude.{◌≡◌, ◌≤◌, ◌<◌, ◌^◌, codes, decimal, map, pos, true, unsigned_abs, IfOk};
-ghost use Rattle.std.specs.List.{list_all};
+ghost use Rattle.std.specs.Prelude.{◌≡◌, ◌<◌, map, true, unsigned_abs, IfOk};
 ghost use Rattle.model_json.specs.Data.{items_of, list, text, whole};
 ghost use Rattle.model_json.specs.TreeData.{data_of};
 ghost use Rattle.model_series.specs.RuleLimits.{is_end};

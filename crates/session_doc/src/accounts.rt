@@ -1,7 +1,7 @@
 //! The field `accounts`.
 ghost use Rattle.model_site.specs.declared.limits.TheConstants.{MAX_ACCOUNTS};
 ghost use Rattle.std.specs.Prelude.{◌≡◌, ◌≤◌, [], IfErr, IfOk, Ok, length, map};
-ghost use Rattle.model_site.specs.Configuration.{account_in, accounts_in, has_account, is_good_account, read_behind};
+ghost use Rattle.model_site.specs.Configuration.{account_in, accounts_in, has_account, read_behind};
 ghost use Rattle.model_json.specs.TreeData.{data_of};
 ghost use Rattle.model_site.specs.declared.field.Field.TheVariants.{Accounts};
 ghost use Rattle.session_doc.specs.Reports.{ReportsField};

@@ -1,10 +1,8 @@
 //! The accounts that a user of a configuration may use.
 ghost use Rattle.model_site.specs.declared.limits.TheConstants.{MAX_ACCOUNTS};
 ghost use Rattle.std.specs.Prelude.{◌≡◌, ◌≤◌, [], IfOk, IfSome, Some, ◌<◌, if◌then◌else◌, length, map, option_map, position};
-ghost use Rattle.std.specs.List.{list_any};
 ghost use Rattle.std.specs.Str.{bytes_eq};
-ghost use Rattle.model_json.specs.Parts.{as_text};
-ghost use Rattle.model_site.specs.Configuration.{grant_in, grant_to, grants_in, has_grant, restrict, restrict_all, user_grants};
+ghost use Rattle.model_site.specs.Configuration.{grant_in, grants_in, has_grant, restrict, restrict_all, user_grants};
 ghost use Rattle.model_json.specs.TreeData.{data_of};
 
 use crate::account::Account;

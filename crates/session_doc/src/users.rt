@@ -1,8 +1,7 @@
 //! The field `users`.
 ghost use Rattle.model_site.specs.declared.limits.TheConstants.{MAX_ACCOUNTS, MAX_USERS};
-ghost use Rattle.std.specs.Prelude.{◌≡◌, ◌≤◌, ◌&&◌, [], IfErr, IfOk, Ok, codes, length, map, not, option_map};
-ghost use Rattle.std.specs.List.{list_all, list_any};
-ghost use Rattle.std.specs.Char.{is_ascii_graphic};
+ghost use Rattle.std.specs.Prelude.{◌≡◌, ◌≤◌, ◌&&◌, [], IfErr, IfOk, Ok, codes, length, map, option_map};
+ghost use Rattle.std.specs.List.{list_any};
 ghost use Rattle.std.specs.Str.{bytes_eq};
 ghost use Rattle.model_core.specs.Names.{is_token};
 ghost use Rattle.model_json.specs.Parts.{text_at};

@@ -4,7 +4,6 @@ ghost use Rattle.cal_model.specs.declared.outcome.Outcome.TheVariants.{Accepted}
 ghost use Rattle.cal_model.specs.SetReply.{created_member, is_value, members_beyond, members_stored, object_or_null};
 ghost use Rattle.cal_model.specs.Operations.{created_id};
 ghost use Rattle.cal_model.specs.Sets.{of_each};
-ghost use Rattle.model_json.specs.Data.{lookup};
 ghost use Rattle.model_json.specs.ObjectKeys.{HasOrderedKeys};
 ghost use Rattle.model_json.specs.Parts.{members_in};
 ghost use Rattle.model_json.specs.TreeData.{data_of, pair_of};

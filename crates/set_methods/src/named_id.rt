@@ -1,5 +1,5 @@
 //! The objects that the texts of a call name.
-ghost use Rattle.std.specs.Prelude.{◌≡◌, IfOk, map, []};
+ghost use Rattle.std.specs.Prelude.{◌≡◌, IfOk, []};
 ghost use Rattle.cal_model.specs.Sets.{ids_named, names_id};
 
 use model_json::text::Text;

@@ -1,7 +1,6 @@
 //! The parts of the response to a set.
-ghost use Rattle.std.specs.Prelude.{◌≡◌, [], IfOk, map};
+ghost use Rattle.std.specs.Prelude.{◌≡◌, IfOk, map};
 ghost use Rattle.cal_model.specs.SetReply.{list_or_null, object_or_null};
-ghost use Rattle.model_json.specs.Edit.{put_all};
 ghost use Rattle.model_json.specs.TreeData.{data_of, pair_of};
 
 use model_json::tree::{Member, Tree, TreeList};

@@ -1,5 +1,5 @@
 //! Plans.
-ghost use Rattle.std.specs.Prelude.{◌≡◌, [], ℤ, List, None, IfErr, IfOk, OnErr, OnOk};
+ghost use Rattle.std.specs.Prelude.{◌≡◌, [], None, IfErr, IfOk, OnErr, OnOk};
 ghost use Rattle.cal_model.specs.SetReply.{set_arguments};
 ghost use Rattle.cal_model.specs.Sets.{new_ids, set_changes, set_refusal};
 ghost use Rattle.set_methods.specs.Reports.{Reports};

@@ -1,5 +1,5 @@
 //! Sets that are refused as a whole.
-ghost use Rattle.std.specs.Prelude.{◌≡◌, ◌++◌, ◌&&◌, Bool, IfOk, map, not, nat_lt, length, ◌+◌};
+ghost use Rattle.std.specs.Prelude.{◌≡◌, ◌++◌, ◌&&◌, IfOk, map, nat_lt, length, ◌+◌};
 ghost use Rattle.std.specs.List.{list_all};
 ghost use Rattle.cal_model.specs.Sets.{are_values, is_in_state, set_refusal};
 ghost use Rattle.model_core.specs.Id.{is_id};

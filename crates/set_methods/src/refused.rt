@@ -1,5 +1,5 @@
 //! What the reply to a set tells of objects that were refused (RFC 8620 section 5.3).
-ghost use Rattle.std.specs.Prelude.{◌≡◌, ◌∷◌, [], IfOk, codes, length, map};
+ghost use Rattle.std.specs.Prelude.{◌≡◌, [], IfOk, codes, length, map};
 ghost use Rattle.std.specs.Option.{option_map_or};
 ghost use Rattle.cal_model.specs.SetErrors.{set_error};
 ghost use Rattle.cal_model.specs.SetReply.{object_or_null, refused_member};

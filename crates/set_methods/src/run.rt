@@ -1,5 +1,5 @@
 //! Operations carried out in order.
-ghost use Rattle.std.specs.Prelude.{◌≡◌, ◌++◌, IfOk, OnOk, flat_map, length, map, vec_len};
+ghost use Rattle.std.specs.Prelude.{◌≡◌, ◌++◌, IfOk, flat_map, length, map, vec_len};
 ghost use Rattle.cal_model.specs.Operations.{changes_in, created_id, outcomes, outcomes_of_creates};
 ghost use Rattle.cal_model.specs.Sets.{of_each};
 ghost use Rattle.model_json.specs.Data.{Data};

@@ -1,5 +1,5 @@
 //! The calendars of an event.
-ghost use Rattle.std.specs.Prelude.{◌≡◌, ◌==◌, [], IfOk, map, unwrap_or};
+ghost use Rattle.std.specs.Prelude.{◌≡◌, ◌==◌, [], IfOk, map};
 ghost use Rattle.std.specs.List.{list_any};
 ghost use Rattle.model_event.specs.Events.{calendars_among, calendars_of, names_calendar};
 ghost use Rattle.model_json.specs.TreeData.{data_of, pair_of};

@@ -1,5 +1,5 @@
 //! Reads events.
-ghost use Rattle.std.specs.Prelude.{◌≡◌, ◌∷◌, [], IfErr, IfOk, OnOk, codes, option_and_then, true};
+ghost use Rattle.std.specs.Prelude.{◌≡◌, [], IfErr, IfOk, OnOk, codes, option_and_then, true};
 ghost use Rattle.single_event.specs.Reports.{Reports};
 ghost use Rattle.single_event.specs.declared.read.EventError.TheVariants.{NoMemory};
 ghost use Rattle.model_event.specs.Events.{bad_event_properties, event_in, has_word, is_occupying, length_in, participants_of, start_in};

@@ -1,5 +1,5 @@
 //! Makes a page of changes.
-ghost use Rattle.std.specs.Prelude.{◌≡◌, ◌≤◌, ◌<◌, ◌+◌, ◌^◌, ◌++◌, ◌==◌, ◌∷◌, [], None, Some, IfOk, OnOk, if◌then◌else◌, length, nat_eq, ℕ};
+ghost use Rattle.std.specs.Prelude.{◌≡◌, ◌≤◌, ◌<◌, ◌+◌, ◌^◌, ◌++◌, ◌∷◌, [], None, Some, IfOk, OnOk, if◌then◌else◌, length, nat_eq};
 ghost use Rattle.std.specs.HashMap.{get};
 ghost use Rattle.model_history.specs.Pages.{created, destroyed, page_end, updated};
 ghost use Rattle.state_log.specs.ChangeIndex.{mentioned};

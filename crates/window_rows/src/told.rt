@@ -1,6 +1,4 @@
 //! What is told of a row.
-ghost use Rattle.std.specs.Prelude.{◌≡◌, true};
-ghost use Rattle.jiff_core.specs.Calendar.{IsWithin};
 ghost use Rattle.model_time.specs.Walls.{is_in_years};
 
 use crate::events::{ZonedSeries, event_in};

@@ -1,4 +1,4 @@
-use Rattle.std.proofs.Common.{◌≡◌, ◌++◌, ◌∙◌, [], List, ℕ, ap, codes, option_map, sym}
+use Rattle.std.proofs.Common.{◌≡◌, ◌++◌, ◌∙◌, ap, codes, option_map, sym}
 use Rattle.cal_model.specs.Calendar.{bad_properties}
 use Rattle.cal_model.specs.Operations.{has_other_zone, stored_calendar_outcome, with_name_if}
 use Rattle.model_json.specs.TreeData.{data_of}

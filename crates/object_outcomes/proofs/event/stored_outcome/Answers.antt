@@ -1,6 +1,5 @@
-use Rattle.std.proofs.Common.{◌≡◌, ◌==◌, ◌++◌, ◌∙◌, [], ap, arith, length, option_map, sym, subst, vec_len}
+use Rattle.std.proofs.Common.{◌≡◌, ◌==◌, ◌++◌, ◌∙◌, ap, arith, length, option_map, sym, subst, vec_len}
 use Rattle.cal_model.specs.Fits.{IsEventFit}
-use Rattle.cal_model.specs.Operations.{bad_of_event}
 use Rattle.model_json.specs.Data.{members_of, object}
 use Rattle.object_outcomes.specs.Judging.{ground_in}
 use Rattle.object_outcomes.proofs.EventLemmas.{good_event}
