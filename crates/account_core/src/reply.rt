@@ -15,7 +15,7 @@ use std::alloc::{AllocError, Global};
 pub fn state_tree(alloc: Global, state: u64) -> Result<Tree, AllocError>
     ensures { IfOk result (λ t. t ≡ text_tree (decimal state)) }
 {
-    Ok(Tree::Text(Text::from_string(state.to_string(alloc)?)))
+    Ok(Tree::Text(Text::from_string(state.to_string(alloc)?)?))
 }
 
 /// The reply to a call that is answered. Takes no memory.

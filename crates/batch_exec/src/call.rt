@@ -66,13 +66,13 @@ fn asks_from(alloc: Global, method: Method, arguments: TreeObject) -> Result<Ask
     match method {
         Method::Echo => unreachable!(),
         Method::CalendarGet => get_asks(alloc, Kind::Calendar, arguments),
-        Method::CalendarChanges => Ok(changes_asks(alloc, Kind::Calendar, arguments)),
+        Method::CalendarChanges => Ok(changes_asks(Kind::Calendar, arguments)),
         Method::CalendarSet => {
             let remove_events = arguments.truth_at("onDestroyRemoveEvents");
             set_asks(alloc, Kind::Calendar, remove_events, arguments)
         }
         Method::EventGet => get_asks(alloc, Kind::Event, arguments),
-        Method::EventChanges => Ok(changes_asks(alloc, Kind::Event, arguments)),
+        Method::EventChanges => Ok(changes_asks(Kind::Event, arguments)),
         Method::EventSet => set_asks(alloc, Kind::Event, None, arguments),
         Method::EventQuery => query_asks(alloc, arguments),
         Method::EventQueryChanges => query_changes_asks(alloc, arguments),
@@ -90,13 +90,13 @@ fn get_asks(alloc: Global, kind: Kind, mut arguments: TreeObject) -> Result<Asks
     })
 }
 
-fn changes_asks(alloc: Global, kind: Kind, mut arguments: TreeObject) -> Asks
+fn changes_asks(kind: Kind, mut arguments: TreeObject) -> Asks
     ensures { result ≡ changes_asks arguments kind }
 {
     Asks::Changes {
         kind,
         max: arguments.number_at("maxChanges"),
-        since: take_text_or_empty(alloc, &mut arguments, "sinceState"),
+        since: take_text_or_empty(&mut arguments, "sinceState"),
     }
 }
 
@@ -143,7 +143,7 @@ fn query_changes_asks(alloc: Global, mut arguments: TreeObject) -> Result<Asks, 
         expand: is_true_at(&arguments, "expandRecurrences"),
         filter: take_filter(&mut arguments),
         sort: take_sort(&mut arguments),
-        since: take_text_or_empty(alloc, &mut arguments, "sinceQueryState"),
+        since: take_text_or_empty(&mut arguments, "sinceQueryState"),
         up_to: take_text(&mut arguments, "upToId"),
         time_zone: take_zone(alloc, &mut arguments)?,
     })
@@ -153,9 +153,9 @@ fn availability_asks(alloc: Global, mut arguments: TreeObject) -> Result<Asks, A
     ensures { IfOk result (λ asks. asks ≡ availability_asks arguments) }
 {
     Ok(Asks::Availability {
-        id: take_text_or_empty(alloc, &mut arguments, "id"),
-        utc_start: take_text_or_empty(alloc, &mut arguments, "utcStart"),
-        utc_end: take_text_or_empty(alloc, &mut arguments, "utcEnd"),
+        id: take_text_or_empty(&mut arguments, "id"),
+        utc_start: take_text_or_empty(&mut arguments, "utcStart"),
+        utc_end: take_text_or_empty(&mut arguments, "utcEnd"),
         time_zone: take_zone(alloc, &mut arguments)?,
     })
 }
@@ -179,13 +179,13 @@ fn take_text(arguments: &mut TreeObject, key: &str) -> Option<Text>
     arguments.take(key).and_then(Tree::into_text)
 }
 
-fn take_text_or_empty(alloc: Global, arguments: &mut TreeObject, key: &str) -> Text
+fn take_text_or_empty(arguments: &mut TreeObject, key: &str) -> Text
     ensures value { result ≡ text_argument arguments.old key.now }
     ensures others { ChangesOnlyAt key.now arguments.old arguments.new }
 {
     match take_text(arguments, key) {
         Some(text) => text,
-        None => Text::from_string(String::new(alloc)),
+        None => Text::empty(),
     }
 }
 

@@ -97,7 +97,7 @@ pub fn occurrence_id_text(alloc: Global, number: u64, wall: Wall) -> Result<Text
     let mut id = format!(in alloc; "E{number}_")?;
     let local = local_text(alloc, wall)?;
     push_compact(&mut id, local.as_str().as_bytes())?;
-    Ok(Text::from_string(id))
+    Text::from_string(id)
 }
 
 fn push_compact(id: &mut String, local: &[u8]) -> Result<(), AllocError>

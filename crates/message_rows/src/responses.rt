@@ -50,10 +50,14 @@ pub fn try_response(
         return Ok(());
     };
     let body = text_at(alloc, object, "body")?.unwrap_or(String::new(alloc));
+    let allow = match text_at(alloc, object, "allow")? {
+        Some(methods) => Some(Text::from_string(methods)?),
+        None => None,
+    };
     let response = Response {
         status,
         problem: is_true_at(object, "problem"),
-        allow: text_at(alloc, object, "allow")?.map(Text::from_string),
+        allow,
         close: is_true_at(object, "close"),
         body: Bytes::from_vec(body.into_bytes()),
     };

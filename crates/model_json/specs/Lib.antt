@@ -1,4 +1,5 @@
 pub mod Data
+pub mod Forms
 pub mod DataCode
 pub mod SameData
 pub mod ObjectKeys

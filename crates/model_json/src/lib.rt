@@ -4,5 +4,6 @@
 pub mod lists;
 pub mod num;
 pub mod object;
+mod short;
 pub mod text;
 pub mod tree;

@@ -154,7 +154,7 @@ fn update<V: AccountView>(
             if is_destroyed {
                 Ok(Judged::refused(SetError::WillDestroy))
             } else if is_repeated {
-                let key = Text::from_string(String::new(alloc));
+                let key = Text::empty();
                 Ok(Judged::refused(SetError::InvalidPatch { key }))
             } else {
                 patch_object(alloc, view, setting, number, object, patch)

@@ -147,7 +147,7 @@ fn joined(alloc: Global, first: &str, second: &str) -> Result<Text, AllocError>
 {
     let mut text = String::from_str(alloc, first)?;
     text.push_str(second)?;
-    Ok(Text::from_string(text))
+    Text::from_string(text)
 }
 
 fn resolved<'t>(created: &'t CreatedIds, id: &'t str) -> &'t str

@@ -71,7 +71,7 @@ fn made_up_item(alloc: Global, place: u64, seed: u64) -> Result<Item, AllocError
     let start = (scattered(place, seed) % STARTS) as i64;
     Ok(Item {
         start: start - start % 3600,
-        uid: Text::from_string(format!(in alloc; "event-{place}@example.com")?),
+        uid: Text::from_string(format!(in alloc; "event-{place}@example.com")?)?,
         title: made_up_title(alloc, scattered(place, seed.wrapping_add(10)) % TITLES)?,
         created: start,
         updated: start,
@@ -79,7 +79,7 @@ fn made_up_item(alloc: Global, place: u64, seed: u64) -> Result<Item, AllocError
 }
 
 fn made_up_title(alloc: Global, number: u64) -> Result<Text, AllocError> {
-    Ok(Text::from_string(format!(in alloc; "Weekly meeting of the group {number}")?))
+    Text::from_string(format!(in alloc; "Weekly meeting of the group {number}")?)
 }
 
 // By start, and those of one start by title, the last first.

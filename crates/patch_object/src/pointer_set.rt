@@ -66,7 +66,7 @@ fn strings(alloc: Global, parts: &[Text]) -> Result<Vec<String>, AllocError>
 {
     let mut strings = Vec::with_capacity(alloc, parts.len())?;
     for part in parts {
-        strings.push(part.copy()?.into_string())?;
+        strings.push(String::from_str(alloc, part.as_str())?)?;
     }
     Ok(strings)
 }

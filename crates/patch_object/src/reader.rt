@@ -56,7 +56,7 @@ impl Reader {
         match c {
             '/' => {
                 let part = std::mem::replace(&mut self.part, String::new(alloc));
-                self.ended.push(Text::from_string(part))?;
+                self.ended.push(Text::from_string(part)?)?;
             }
             '~' => self.escape = Escape::Begun,
             c => self.part.push(c)?,
@@ -89,7 +89,7 @@ impl Reader {
     {
         match self.escape {
             Escape::Whole => {
-                let last = Text::from_string(self.part);
+                let last = Text::from_string(self.part)?;
                 let mut parts = self.ended;
                 parts.push(last)?;
                 Ok(Some(parts))

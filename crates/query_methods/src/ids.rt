@@ -22,7 +22,7 @@ pub(crate) fn number_tree(number: u64) -> Tree
 pub(crate) fn state_tree(alloc: Global, state: u64) -> Result<Tree, AllocError>
     ensures { IfOk result (λ t. t ≡ text_tree (decimal state)) }
 {
-    Ok(Tree::Text(Text::from_string(state.to_string(alloc)?)))
+    Ok(Tree::Text(Text::from_string(state.to_string(alloc)?)?))
 }
 
 /// The ids of objects of a kind.

@@ -151,7 +151,7 @@ fn month_tree(alloc: Global, month: i32) -> Result<Tree, AllocError>
     ensures { IfOk result (λ t. data_of t ≡ month_data month) }
 {
     let number = month.unsigned_abs();
-    Ok(Tree::Text(Text::from_string(format!(in alloc; "{number}")?)))
+    Ok(Tree::Text(Text::from_string(format!(in alloc; "{number}")?)?))
 }
 
 fn month_list(alloc: Global, months: &[i32]) -> Result<Tree, AllocError>

@@ -57,7 +57,7 @@ fn address(alloc: Global, base: &Text, path: &str) -> Result<Tree, AllocError>
 {
     let mut address = String::from_str(alloc, base.as_str())?;
     address.push_str(path)?;
-    Ok(Tree::Text(Text::from_string(address)))
+    Ok(Tree::Text(Text::from_string(address)?))
 }
 
 // The capabilities of accounts, each with the id of the user's first account.

@@ -8,5 +8,5 @@ use std::alloc::{AllocError, Global};
 pub fn state_text(alloc: Global, changes: u64) -> Result<Text, AllocError>
     ensures { IfOk result (λ t. t ≡ decimal changes) }
 {
-    Ok(Text::from_string(changes.to_string(alloc)?))
+    Text::from_string(changes.to_string(alloc)?)
 }

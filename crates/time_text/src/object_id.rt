@@ -27,7 +27,7 @@ pub fn object_id_text(alloc: Global, kind: Kind, number: u64) -> Result<Text, Al
         Kind::Calendar => format!(in alloc; "C{number}")?,
         Kind::Event => format!(in alloc; "E{number}")?,
     };
-    Ok(Text::from_string(id))
+    Text::from_string(id)
 }
 
 fn letter(kind: Kind) -> u8

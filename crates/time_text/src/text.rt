@@ -26,7 +26,7 @@ pub fn local_text(alloc: Global, wall: Wall) -> Result<Text, AllocError>
 {
     let mut text = String::new(alloc);
     push_local(&mut text, wall.seconds())?;
-    Ok(Text::from_string(text))
+    Text::from_string(text)
 }
 
 /// The UTCDate of a moment in the years 0 to 9999.
@@ -37,7 +37,7 @@ pub fn utc_text(alloc: Global, moment: i64) -> Result<Text, AllocError>
     let mut text = String::new(alloc);
     push_local(&mut text, moment)?;
     text.push('Z')?;
-    Ok(Text::from_string(text))
+    Text::from_string(text)
 }
 
 fn push_local(text: &mut String, wall: i64) -> Result<(), AllocError>

@@ -72,7 +72,7 @@ fn event(alloc: Global, request: u32, start: Wall, interval: u32) -> Result<Tree
 {
     let calendars = vec![in alloc; ("C1", Tree::Truth(true))]?;
     let rules = vec![in alloc; weekly(alloc, interval)?]?;
-    let uid = Text::from_string(format!(in alloc; "w{request}")?);
+    let uid = Text::from_string(format!(in alloc; "w{request}")?)?;
     let members = vec![in alloc;
         ("calendarIds", Tree::object(alloc, calendars)?),
         ("duration", text(alloc, "PT1H")?),
