@@ -8,4 +8,4 @@ mod walk;
 
 pub use laws::meetings_are_found;
 pub use span::span_of;
-pub use walk::{expanded, matches_window, next_meeting};
+pub use walk::{FARTHEST, expanded, matches_window, next_meeting};

@@ -21,8 +21,8 @@ use model_window::window::Window;
 use rule_expand::next_from;
 use std::alloc::{AllocError, Global};
 
-/// The most seconds between a wall second and its instant.
-const FARTHEST: i64 = 93_599;
+/// The most seconds between a wall second and its instant, by any rule that `jiff` reads.
+pub const FARTHEST: i64 = 93_599;
 
 // Whether an occurrence meets the window.
 #[tactic(auto, unfolding(model_window::specs::Windows::meets_window))]

@@ -10,6 +10,7 @@ use Rattle.model_window.specs.Windows.{keeps_limits}
 use Rattle.model_window.specs.ZoneRules.{rule_of_event}
 use Rattle.model_window.specs.declared.period.Period.{Period}
 use Rattle.model_window.specs.declared.window.Window.{Window}
+use Rattle.occurrence_windows.specs.declared.walk.TheConstants.{FARTHEST}
 use Rattle.query_filter.specs.InZone.{FilterInZone}
 use Rattle.query_filter.specs.KeptTimes.{times_of}
 
@@ -21,9 +22,9 @@ IsForNoneOf f series = (zones : List ZoneText) (floating : List ℕ) (event : Da
 abbrev pub is_alone : Series → Bool
 is_alone s = (length s.rules == 0) && (length s.exceptions == 0)
 
--- an instant lies at most 93,599 seconds from its wall second, so an occurrence of so many wall seconds takes up no more than this
+-- an instant lies no farther from its wall second, so an occurrence of so many wall seconds takes up no more than this
 abbrev pub widest : ℤ → ℕ → Period
-widest start seconds = record { from = start -ℤ pos 93599; to = start +ℤ pos seconds +ℤ pos 93599 }
+widest start seconds = record { from = start -ℤ FARTHEST; to = start +ℤ pos seconds +ℤ FARTHEST }
 
 abbrev pub may_meet : Option Series → Window → Bool
 may_meet None w = false

@@ -9,9 +9,7 @@ use model_time::length::Length;
 use model_time::wall::Wall;
 use model_window::period::Period;
 use model_window::window::Window;
-
-/// The most seconds between a wall second and its instant.
-const FARTHEST: i64 = 93_599;
+use occurrence_windows::FARTHEST;
 
 /// Whether an event with this series may meet the window, as far as that can be told without the rule of its zone. Takes no memory.
 pub(crate) fn may_meet(series: Option<&Series>, window: Window) -> bool
