@@ -1,7 +1,7 @@
 //! What comes of storing a calendar.
 ghost use Rattle.std.specs.Prelude.{◌≡◌, ◌++◌, ◌==◌, None, IfOk, codes, false, filter, length, not, option_map};
 ghost use Rattle.cal_model.specs.Calendar.{calendar_in, stored, text_or_null};
-ghost use Rattle.cal_model.specs.Operations.{calendar_outcome, exceeds_resources, has_other_zone, put, with_name_if, within_quota};
+ghost use Rattle.cal_model.specs.Operations.{calendar_outcome, exceeds_resources, has_other_zone, put, stored_calendar_outcome, with_name_if, within_quota};
 ghost use Rattle.model_history.specs.declared.entry.Kind.TheVariants.{Calendar as calendar_kind};
 ghost use Rattle.model_json.specs.SameData.{same_data};
 ghost use Rattle.model_json.specs.TreeData.{data_of};
@@ -40,17 +40,35 @@ pub(crate) fn calendar_outcome<V: AccountView>(
     ensures allowed { IfOk result (IsAllowed (V.base view.now).zones (V.history view.now ++ V.staged view.now)) }
 {
     let tree = with_own_id(alloc, Kind::Calendar, number, object)?;
-    match read_calendar(alloc, &tree, setting.zones) {
+    stored_outcome(alloc, view, setting, number, before, names_id, &tree)
+}
+
+// What comes of storing a calendar that has its id.
+fn stored_outcome<V: AccountView>(
+    alloc: Global,
+    view: &V,
+    setting: &Setting<'_>,
+    number: u64,
+    before: Option<&Tree>,
+    names_id: bool,
+    tree: &Tree,
+) -> Result<Judged, AllocError>
+    requires before { IsBefore (V.history view.now ++ V.staged view.now) calendar_kind number (option_map (λ t. t.now) before) }
+    ensures exact { IfOk result (λ j. j.outcome ≡ stored_calendar_outcome (ground_in setting.now) (V.history view.now ++ V.staged view.now) number
+        (option_map (λ t. t.now) before.entry) names_id (data_of tree.now)) }
+    ensures allowed { IfOk result (IsAllowed (V.base view.now).zones (V.history view.now ++ V.staged view.now)) }
+{
+    match read_calendar(alloc, tree, setting.zones) {
         Ok(calendar) => {
-            let names = with_own_names(alloc, before, names_id, &tree, Vec::new(alloc))?;
+            let names = with_own_names(alloc, before, names_id, tree, Vec::new(alloc))?;
             if names.is_empty() {
-                return store(alloc, view, number, before, &tree, &calendar);
+                return store(alloc, view, number, before, tree, &calendar);
             }
             Ok(refused_for(names))
         }
         Err(CalendarError::BadCalendar { properties }) => {
             let names = copies(alloc, properties.items())?;
-            let names = with_own_names(alloc, before, names_id, &tree, names)?;
+            let names = with_own_names(alloc, before, names_id, tree, names)?;
             Ok(refused_for(names))
         }
         Err(CalendarError::NoMemory) => Err(AllocError),
