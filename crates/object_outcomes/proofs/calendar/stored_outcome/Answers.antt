@@ -32,6 +32,6 @@ returns-then-is_empty-clause-exact g c =
     let same : vec_len names ≡ length names.items = omega (arith, names.ok) in
     let none = none_left names.items c.is_empty.result c.if-is_empty.true (c.is_empty.ensures ∙ ap (λ n. n == 0) same) in
     let good = good_calendar G cs c.args.number before c.args.names_id d
-            (sym none ∙ c.in_ok-names-in-Ok.ensures
-            ∙ ap (λ ns. with_name_if c.args.names_id (codes "id") (with_name_if (has_other_zone before d) (codes "resourceZone") ns)) (c.new.ensures.items ∙ sym c.in-Ok.ensures.valid)) in
+    (sym none ∙ c.in_ok-names-in-Ok.ensures
+    ∙ ap (λ ns. with_name_if c.args.names_id (codes "id") (with_name_if (has_other_zone before d) (codes "resourceZone") ns)) (c.new.ensures.items ∙ sym c.in-Ok.ensures.valid)) in
     subst (λ o. IfOk c.store.result (λ j. j.outcome ≡ o)) good c.store.ensures.exact
