@@ -2,6 +2,7 @@
 use denote.Param.Send.{IsSend, sendable}
 use Rattle.std.proofs.Crossing.{crosses}
 use Rattle.model_json.proofs.tree.TreeList.TheLaws.TheKnot as tree
+use Rattle.model_json.specs.contracts.text.Text as text
 use Rattle.resource_book.specs.contracts.room.Room as room
 use Rattle.account_rooms.specs.contracts.slot.Slot as slot
 use Rattle.account_rooms.specs.contracts.rooms.Rooms as rooms
@@ -9,6 +10,9 @@ use Rattle.event_store.specs.contracts.series_log.SeriesLog as series
 use Rattle.account_core.specs.contracts.account.Account as account
 use Rattle.account_desk.proofs.gate.Gate.TheSendSync as gate
 use Rattle.account_desk.specs.contracts.gated.Gated as gated
+
+text_sent : IsSend text.the_row
+text_sent = search (crosses, sendable) depth 60 fits 20000
 
 room_sent : IsSend room.the_row
 room_sent = search (crosses, sendable) depth 60 fits 20000
@@ -23,7 +27,7 @@ series_sent : IsSend series.the_row
 series_sent = search (crosses, sendable) depth 60 fits 20000
 
 pub account_sent : IsSend account.the_row
-account_sent = search (rooms_sent, series_sent, crosses, tree.crosses, sendable) depth 60 fits 20000
+account_sent = search (text_sent, rooms_sent, series_sent, crosses, tree.crosses, sendable) depth 60 fits 20000
 
 pub gated_sent : IsSend gated.the_row
 gated_sent = search (account_sent, gate.the_field_send, gate.the_send, crosses, sendable) depth 60 fits 20000
