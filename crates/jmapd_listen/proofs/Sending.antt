@@ -6,15 +6,22 @@ use Rattle.account_desk.proofs.Crossing.{gated_sent}
 use Rattle.account_lock.proofs.locked.Locked.TheSendSync as locked
 use Rattle.account_lock.proofs.pass.Pass.TheSendSync as pass
 use Rattle.model_json.proofs.tree.TreeList.TheLaws.TheKnot as tree
+use Rattle.model_json.specs.contracts.text.Text as text
 use Rattle.session_doc.specs.contracts.site.Site as site
 use Rattle.jmapd_listen.specs.contracts.job.WorkerBack as back
 use Rattle.jmapd_listen.specs.contracts.job.WorkerJob as job
 
+text_sent : IsSend text.the_row
+text_sent = search (crosses, sendable) depth 60 fits 20000
+
+text_shared : IsSync text.the_row
+text_shared = search (crosses, sendable) depth 60 fits 20000
+
 site_sent : IsSend site.the_row
-site_sent = search (crosses, tree.crosses, sendable) depth 60 fits 20000
+site_sent = search (text_sent, text_shared, crosses, tree.crosses, sendable) depth 60 fits 20000
 
 site_shared : IsSync site.the_row
-site_shared = search (crosses, tree.crosses, sendable) depth 60 fits 20000
+site_shared = search (text_sent, text_shared, crosses, tree.crosses, sendable) depth 60 fits 20000
 
 pub job_sent : (L C W : RattleType) → IsSend L → IsSend C → IsSend W → IsSend (job.the_row L C W)
 job_sent L C W l c w = search (locked.the_send, locked.the_sync, pass.the_send, gated_sent, site_sent, site_shared, crosses, sendable) depth 60 fits 20000
