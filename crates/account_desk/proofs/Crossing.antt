@@ -11,7 +11,7 @@ use Rattle.account_core.specs.contracts.account.Account as account
 use Rattle.account_desk.proofs.gate.Gate.TheSendSync as gate
 use Rattle.account_desk.specs.contracts.gated.Gated as gated
 
-text_sent : IsSend text.the_row
+pub text_sent : IsSend text.the_row
 text_sent = search (crosses, sendable) depth 60 fits 20000
 
 room_sent : IsSend room.the_row

@@ -2,7 +2,7 @@
 use denote.RattleType.{RattleType}
 use denote.Param.Send.{IsSend, IsSync, sendable}
 use Rattle.std.proofs.Crossing.{crosses}
-use Rattle.account_desk.proofs.Crossing.{gated_sent}
+use Rattle.account_desk.proofs.Crossing.{gated_sent, text_sent}
 use Rattle.account_lock.proofs.locked.Locked.TheSendSync as locked
 use Rattle.account_lock.proofs.pass.Pass.TheSendSync as pass
 use Rattle.model_json.proofs.tree.TreeList.TheLaws.TheKnot as tree
@@ -10,9 +10,6 @@ use Rattle.model_json.specs.contracts.text.Text as text
 use Rattle.session_doc.specs.contracts.site.Site as site
 use Rattle.jmapd_listen.specs.contracts.job.WorkerBack as back
 use Rattle.jmapd_listen.specs.contracts.job.WorkerJob as job
-
-text_sent : IsSend text.the_row
-text_sent = search (crosses, sendable) depth 60 fits 20000
 
 text_shared : IsSync text.the_row
 text_shared = search (crosses, sendable) depth 60 fits 20000

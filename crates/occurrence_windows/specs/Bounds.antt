@@ -11,6 +11,8 @@ use Rattle.occurrence_windows.specs.declared.walk.TheConstants.{FARTHEST}
 abbrev pub AreNear : Window → Type 0
 AreNear w = IfSome w.after (IsWithin 300000000000) × IfSome w.before (IsWithin 300000000000)
 
+-- An instant lies at most FARTHEST seconds from its wall second.
+
 -- none that ends after the limit and lasts no longer than so many wall seconds starts before this
 abbrev pub first_wall : Option ℤ → ℕ → ℤ
 first_wall None longest = FIRST_START

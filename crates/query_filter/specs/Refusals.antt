@@ -18,11 +18,11 @@ use Rattle.query_filter.specs.KeptTimes.{times_of}
 abbrev pub IsForNoneOf : FilterInZone → Option Series → Type 0
 IsForNoneOf f series = (zones : List ZoneText) (floating : List ℕ) (event : Data) → matches_by f.clock series (rule_of_event zones floating event) f.filter event ≡ false
 
--- without rules and exceptions a series has the one occurrence at its start
+-- without rules and exceptions a series has the one occurrence at its start (RFC 8984 section 4.3)
 abbrev pub is_alone : Series → Bool
 is_alone s = (length s.rules == 0) && (length s.exceptions == 0)
 
--- an instant lies no farther from its wall second, so an occurrence of so many wall seconds takes up no more than this
+-- an instant lies at most FARTHEST seconds from its wall second, so an occurrence of so many wall seconds takes up no more than this
 abbrev pub widest : ℤ → ℕ → Period
 widest start seconds = record { from = start -ℤ FARTHEST; to = start +ℤ pos seconds +ℤ FARTHEST }
 
