@@ -76,7 +76,7 @@ fn find_each(
     ensures missing { IfOk result (λ found. found.missing.items
         ≡ filter (λ id. not (is_some (object_or_occurrence (changes_of (entries store.now)) kind id))) ids.items) }
 {
-    let mut list = Vec::new(alloc);
+    let mut list = Vec::with_capacity(alloc, ids.len())?;
     let mut missing = Vec::new(alloc);
     for id in ids {
         let occurrence = occurrence_of_id(alloc, store, kind, &id)?;

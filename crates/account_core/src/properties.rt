@@ -62,7 +62,7 @@ fn are_names_of_properties(kind: Kind, names: &[Text]) -> bool
 fn chosen(alloc: Global, asked: &Asked, members: &[Member]) -> Result<Vec<Member>, AllocError>
     ensures { IfOk result (λ v. map pair_of v.items ≡ filter (is_asked_for asked.now) (map pair_of members.now)) }
 {
-    let mut chosen = Vec::new(alloc);
+    let mut chosen = Vec::with_capacity(alloc, members.len())?;
     for member in members {
         if asked.has(member.key.as_str()) {
             let key = member.key.copy()?;

@@ -1,8 +1,5 @@
 //! Lists of texts.
-ghost use Rattle.std.specs.Prelude.{◌≡◌, IfOk, OnOk, map};
-ghost use Rattle.std.specs.List.{list_any};
-ghost use Rattle.std.specs.Str.{bytes_eq};
-ghost use Rattle.cal_model.specs.CreatedIds.{with_text};
+ghost use Rattle.std.specs.Prelude.{◌≡◌, IfOk, map};
 ghost use Rattle.model_json.specs.Data.{items_of, list, text};
 ghost use Rattle.model_json.specs.TreeData.{data_of};
 
@@ -30,21 +27,4 @@ pub fn copies(alloc: Global, texts: &[Text]) -> Result<Vec<Text>, AllocError>
         copies.push(text.copy()?)?;
     }
     Ok(copies)
-}
-/// Whether a text is one of these. Takes no memory.
-pub fn is_among(texts: &[Text], text: &Text) -> bool
-    ensures { result ≡ list_any (λ u. bytes_eq u text.now) texts.now }
-{
-    texts.iter().any(|other| other.as_str() == text.as_str())
-}
-
-/// Puts a text at the end of a list of different texts, where it isn't in it. Takes time with the length of the list.
-pub fn note(texts: &mut Vec<Text>, text: &Text) -> Result<(), AllocError>
-    ensures { OnOk result (texts.new.items ≡ with_text texts.old.items text.now) }
-{
-    if is_among(texts, text) {
-        return Ok(());
-    }
-    texts.push(text.copy()?)?;
-    Ok(())
 }

@@ -2,12 +2,13 @@
 ghost use Rattle.std.specs.Prelude.{◌≡◌, IfOk, map};
 ghost use Rattle.cal_model.specs.CreatedIds.{different, resolved_id};
 
+use indexmap::IndexSet;
 use model_json::text::Text;
 use object_outcomes::created_ids::CreatedIds;
-use object_outcomes::texts::note;
 use std::alloc::{AllocError, Global};
 
-/// The ids asked for, where `#key` stands for the created id of that key, each once in order of first mention.
+/// The ids asked for, where `#key` stands for the created id of that key, each once in order of first mention. They are at most as many as a
+/// get may ask for, so that no client makes it slow by ids whose hashes are equal.
 pub fn asked_ids(
     alloc: Global,
     ids: &[Text],
@@ -16,9 +17,19 @@ pub fn asked_ids(
     ensures { IfOk result (λ v. v.items ≡ different (map (resolved_id created.now) ids.now)) }
 {
     let created = CreatedIds::of(alloc, created)?;
-    let mut asked = Vec::new(alloc);
+    let mut asked = IndexSet::with_capacity(alloc, ids.len())?;
     for id in ids {
-        note(&mut asked, created.resolved(id))?;
+        asked.insert(created.resolved(id).as_str())?;
     }
-    Ok(asked)
+    texts_of(alloc, asked.as_slice())
+}
+
+fn texts_of(alloc: Global, texts: &[&str]) -> Result<Vec<Text>, AllocError>
+    ensures { IfOk result (λ v. v.items ≡ map (λ t. t.now) texts.now) }
+{
+    let mut copies = Vec::with_capacity(alloc, texts.len())?;
+    for text in texts {
+        copies.push(Text::from_str(alloc, text)?)?;
+    }
+    Ok(copies)
 }

@@ -94,8 +94,21 @@ impl<T: Drop> Table<T> {
     pub fn get(&self, id: u64) -> Option<&T>
         ensures { option_copied result ≡ latest (puts self.now) id }
     {
-        let place = self.newest.get(&id).copied()?;
+        let place = self.newest_of(id)?;
         self.versions[place].object.as_ref()
+    }
+
+    // The place of the newest version of an id.
+    //
+    // Ids are mostly the numbers of objects, given in order of creation from 1 on, so that an id stands at the place before its number and
+    // isn't looked for by its hash.
+    fn newest_of(&self, id: u64) -> Option<usize>
+        ensures { result ≡ get nat_eq self.now.newest id }
+    {
+        match self.newest.get_index(id.wrapping_sub(1) as usize) {
+            Some((key, place)) if *key == id => Some(*place),
+            _ => self.newest.get(&id).copied(),
+        }
     }
 
     /// The object that an id had at state `k`, where it had one. Takes no memory.
@@ -104,7 +117,7 @@ impl<T: Drop> Table<T> {
     pub fn get_at(&self, id: u64, k: u64) -> Option<&T>
         ensures { option_copied result ≡ version_at (puts self.now) id k }
     {
-        let mut place = self.newest.get(&id).copied();
+        let mut place = self.newest_of(id);
         while let Some(at) = place {
             let version = &self.versions[at];
             if version.state <= k {
