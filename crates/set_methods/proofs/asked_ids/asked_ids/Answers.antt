@@ -1,7 +1,7 @@
-use Rattle.std.proofs.Common.{◌≡◌, arith, map, ap, ◌∙◌, subst, sym}
+use Rattle.std.proofs.Common.{◌≡◌, arith, map, ap, ◌∙◌}
 use Rattle.std.proofs.lemmas.Grind.{common_steps}
 use Rattle.set_methods.proofs.AskedLemmas.{insert_notes}
-use Rattle.cal_model.specs.CreatedIds.{different, with_text}
+use Rattle.cal_model.specs.CreatedIds.{with_text}
 use Rattle.set_methods.proofs.asked_ids.asked_ids.Goals as goal
 
 pub loop-id-preserved : goal.loop-id-preserved
