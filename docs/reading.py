@@ -7,7 +7,8 @@
   docs/reading.py write   puts both into them: numbers, types and order; what a file says is kept, and asked for where a row is new
 
 It reads crates.txt, the sources and bench/gate.txt alone, so it needs no toolchain. bench/gate.txt has a line for each crate that was measured: its
-name, and the seconds of processor that its proofs with its tests, and the tries of its wrong bodies, took from nothing.
+name, and the seconds of processor that its proofs with its tests and programs took from nothing, and the tries of its wrong bodies, or - where
+these weren't measured.
 """
 import os
 import re
@@ -97,19 +98,17 @@ def reach():
 
 
 def measured():
-    """The seconds of processor of each crate that was measured: of its proofs with its tests, and of the tries of its wrong bodies."""
+    """The seconds of processor that the proofs of each crate, with its tests and programs, took where they were measured."""
     if not os.path.isfile(os.path.join(TOP, "bench/gate.txt")):
         return {}
     rows = [line.split() for line in read("bench/gate.txt").splitlines() if line and not line.startswith("#")]
-    return {name: (int(proofs), int(edits)) for name, proofs, edits in rows}
+    return {name: int(proofs) for name, proofs, _ in rows}
 
 
 def minutes(crates):
-    """The minutes of processor that these crates take: of proofs and tests, and of wrong bodies; empty where one of them wasn't measured."""
+    """The minutes of processor that the proofs of these crates take; empty where one of them wasn't measured."""
     found = measured()
-    if not all(name in found for name in crates):
-        return "", ""
-    return tuple(str(round(sum(found[name][kind] for name in crates) / 60)) for kind in (0, 1))
+    return str(round(sum(found[name] for name in crates) / 60)) if all(name in found for name in crates) else ""
 
 
 def short(name):
@@ -133,8 +132,7 @@ def reach_table():
     """The table of what a change of a definition proves again."""
     rows = []
     for name, crates in reach():
-        proofs, edits = minutes([name, *crates])
-        rows.append(f"| `{name}` | {len(crates)} | {proofs} | {edits} | {', '.join(crates)} |")
+        rows.append(f"| `{name}` | {len(crates)} | {minutes([name, *crates])} | {', '.join(crates)} |")
     return "\n".join(rows)
 
 
