@@ -6,7 +6,7 @@ import subprocess
 import threading
 
 from connections import CONFIGURATION, TOKEN, next_body
-from measure import compact, options
+from measure import compact, options, service_environment
 
 ENTRIES = (0, 5_000, 49_000)
 USING = ["urn:ietf:params:jmap:core", "urn:ietf:params:jmap:calendars"]
@@ -18,7 +18,8 @@ class Connection:
     """One kept connection to a program of its own, whose accounts are fresh."""
 
     def __init__(self, binary):
-        self.program = subprocess.Popen([binary, "stdio", "--config", CONFIGURATION], stdin=subprocess.PIPE, stdout=subprocess.PIPE)
+        words = [binary, "stdio", "--config", CONFIGURATION]
+        self.program = subprocess.Popen(words, stdin=subprocess.PIPE, stdout=subprocess.PIPE, env=service_environment())
 
     def send(self, call, times):
         """Sends a call so many times, a message each, and waits for the answers. None may be refused."""

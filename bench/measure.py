@@ -7,10 +7,18 @@ import sys
 import tempfile
 
 CAPABILITY = "urn:ietf:params:jmap:core"
+SERVICE = os.path.join(os.path.dirname(os.path.dirname(os.path.abspath(__file__))), "examples/jmapd.service")
 
 
 def compact(value):
     return json.dumps(value, ensure_ascii=False, separators=(",", ":")).encode()
+
+
+def service_environment():
+    """The environment with what the unit file sets in it, so that the C library is set as in production."""
+    with open(SERVICE, encoding="utf-8") as file:
+        lines = [line.removeprefix("Environment=").split() for line in file if line.startswith("Environment=")]
+    return os.environ | dict(word.split("=", 1) for words in lines for word in words)
 
 
 def contents(file):
