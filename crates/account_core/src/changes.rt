@@ -3,23 +3,21 @@ ghost use Rattle.std.specs.Prelude.{◌≡◌, IfOk, option_map, true, unsigned_
 ghost use Rattle.account_core.specs.Ledger.{base, ledger_entries};
 ghost use Rattle.account_core.specs.PageObject.{page_object};
 ghost use Rattle.cal_model.specs.Answer.{changes_answer};
-ghost use Rattle.model_queries.specs.States.{id_list, is_maximum};
-ghost use Rattle.model_json.specs.TreeData.{data_of};
+ghost use Rattle.model_queries.specs.States.{is_maximum};
 
 use crate::ledger::Ledger;
-use crate::reply::{refusal, reply, state_tree};
-use account_store::Store;
+use crate::reply::{refusal, reply};
 use model_call::call::{MethodError, Reply};
 use model_core::numbers::MAX_UNSIGNED_INT;
 use model_history::entry::Kind;
-use model_history::ids::Ids;
 use model_json::lists::Pairs;
 use model_json::num::Num;
 use model_json::text::Text;
-use model_json::tree::{Tree, TreeList};
+use model_json::tree::Tree;
+use query_methods::ids::id_list;
 use state_log::{ChangesError, Page};
 use std::alloc::{AllocError, Global};
-use time_text::{object_id_text, read_state};
+use time_text::{read_state, state_text};
 
 /// Answers what changed of a kind since a state. A maximum that isn't one is told before a state that isn't known.
 pub fn changes(
@@ -81,22 +79,12 @@ fn page_tree(
 {
     let members = vec![in alloc;
         ("accountId", Tree::Text(account.copy()?)),
-        ("created", id_list(alloc, kind, &page.created)?),
-        ("destroyed", id_list(alloc, kind, &page.destroyed)?),
+        ("created", id_list(alloc, kind, page.created.items())?),
+        ("destroyed", id_list(alloc, kind, page.destroyed.items())?),
         ("hasMoreChanges", Tree::Truth(page.until != state)),
-        ("newState", state_tree(alloc, page.until)?),
+        ("newState", Tree::Text(state_text(alloc, page.until)?)),
         ("oldState", Tree::Text(since.copy()?)),
-        ("updated", id_list(alloc, kind, &page.updated)?),
+        ("updated", id_list(alloc, kind, page.updated.items())?),
     ]?;
     Tree::object(alloc, members)
-}
-
-fn id_list(alloc: Global, kind: Kind, ids: &Ids) -> Result<Tree, AllocError>
-    ensures { IfOk result (λ t. data_of t ≡ id_list kind ids.now) }
-{
-    let mut items = Vec::with_capacity(alloc, ids.items().len())?;
-    for id in ids.items() {
-        items.push(Tree::Text(object_id_text(alloc, kind, *id)?))?;
-    }
-    Ok(Tree::List(TreeList::new(items)))
 }

@@ -10,7 +10,7 @@ ghost use Rattle.model_json.specs.TreeData.{data_of};
 use crate::found::{Found, find_all, find_ids};
 use crate::ledger::Ledger;
 use crate::properties::are_properties;
-use crate::reply::{refusal, reply, state_tree};
+use crate::reply::{refusal, reply};
 use account_store::Store;
 use model_call::call::{MethodError, Reply};
 use model_core::limits::MAX_OBJECTS_IN_GET;
@@ -20,6 +20,7 @@ use model_json::text::Text;
 use model_json::tree::{Tree, TreeList};
 use object_outcomes::texts::text_list;
 use std::alloc::{AllocError, Global};
+use time_text::state_text;
 
 /// Answers a get of objects of a kind. A name that no property of the kind has is told before too many objects.
 pub fn get(
@@ -96,7 +97,7 @@ fn arguments_tree(
     let id = Tree::Text(account.copy()?);
     let list = Tree::List(TreeList::new(found.list));
     let missing = text_list(alloc, found.missing)?;
-    let state = state_tree(alloc, store.count(kind))?;
+    let state = Tree::Text(state_text(alloc, store.count(kind))?);
     let members = vec![in alloc;
         ("accountId", id),
         ("list", list),

@@ -1,22 +1,13 @@
 //! What replies have in common.
-ghost use Rattle.std.specs.Prelude.{◌≡◌, IfOk, decimal};
+ghost use Rattle.std.specs.Prelude.{◌≡◌};
 ghost use Rattle.account_store.specs.Store.{entries};
 ghost use Rattle.cal_model.specs.Answer.{answered, refused};
-ghost use Rattle.model_json.specs.declared.tree.Tree.TheVariants.{Text as text_tree};
 
 use account_store::Store;
 use model_call::call::{MethodError, Reply};
 use model_json::lists::Pairs;
-use model_json::text::Text;
 use model_json::tree::Tree;
-use std::alloc::{AllocError, Global};
-
-/// A state as clients see it (RFC 8620 section 5.1).
-pub fn state_tree(alloc: Global, state: u64) -> Result<Tree, AllocError>
-    ensures { IfOk result (λ t. t ≡ text_tree (decimal state)) }
-{
-    Ok(Tree::Text(Text::from_string(state.to_string(alloc)?)?))
-}
+use std::alloc::Global;
 
 /// The reply to a call that is answered. Takes no memory.
 pub fn reply(store: &Store, arguments: Tree, created: Pairs) -> Reply

@@ -1,8 +1,8 @@
 -- An account may go to another thread, gated or not.
 use denote.Param.Send.{IsSend, sendable}
 use Rattle.std.proofs.Crossing.{crosses}
+use Rattle.model_json.proofs.Crossing.{text_sent}
 use Rattle.model_json.proofs.tree.TreeList.TheLaws.TheKnot as tree
-use Rattle.model_json.specs.contracts.text.Text as text
 use Rattle.resource_book.specs.contracts.room.Room as room
 use Rattle.account_rooms.specs.contracts.slot.Slot as slot
 use Rattle.account_rooms.specs.contracts.rooms.Rooms as rooms
@@ -10,9 +10,6 @@ use Rattle.event_store.specs.contracts.series_log.SeriesLog as series
 use Rattle.account_core.specs.contracts.account.Account as account
 use Rattle.account_desk.proofs.gate.Gate.TheSendSync as gate
 use Rattle.account_desk.specs.contracts.gated.Gated as gated
-
-pub text_sent : IsSend text.the_row
-text_sent = search (crosses, sendable) depth 60 fits 20000
 
 room_sent : IsSend room.the_row
 room_sent = search (crosses, sendable) depth 60 fits 20000

@@ -10,8 +10,8 @@ use io_edge::memory_source::MemSource;
 use jmapd_run::run::run;
 use jmapd_run::status::Status;
 use row_table::line::unrolled;
-use row_table::row::{Row, read_rows};
-use row_table::tally::RowTally;
+use row_table::row::Row;
+use row_table::trial::{NOT_READ, Trial, try_rows};
 use std::alloc::{AllocError, Global};
 use std::io;
 
@@ -88,20 +88,25 @@ fn has_failed(outcome: &Outcome, status: Status) -> bool {
     outcome.status == status && outcome.output.bytes() == Some(b"".as_slice())
 }
 
-/// What came of a row, where it isn't what the table has.
-fn other_than(alloc: Global, row: &Row) -> Result<Option<String>, AllocError> {
-    let (Some(request), Some(answer)) = (
-        unrolled(alloc, row.asked.as_str())?,
-        unrolled(alloc, row.answer.as_str())?,
-    ) else {
-        return Ok(Some(String::from_str(alloc, "the row can't be read")?));
-    };
-    let outcome = outcome_of(alloc, request.as_str(), Vec::new(alloc), Vec::new(alloc))?;
-    if !has_answered(&outcome, answer.as_str()) {
-        let written = outcome.output.bytes().unwrap_or_default();
-        return Ok(Some(String::from_utf8_lossy(alloc, written)?));
+/// Requests, and the answers to them.
+#[derive(Drop)]
+struct BatchRows;
+
+impl Trial for BatchRows {
+    fn other_than(&self, alloc: Global, row: &Row) -> Result<Option<String>, AllocError> {
+        let (Some(request), Some(answer)) = (
+            unrolled(alloc, row.asked.as_str())?,
+            unrolled(alloc, row.answer.as_str())?,
+        ) else {
+            return Ok(Some(String::from_str(alloc, NOT_READ)?));
+        };
+        let outcome = outcome_of(alloc, request.as_str(), Vec::new(alloc), Vec::new(alloc))?;
+        if !has_answered(&outcome, answer.as_str()) {
+            let written = outcome.output.bytes().unwrap_or_default();
+            return Ok(Some(String::from_utf8_lossy(alloc, written)?));
+        }
+        other_at_faults(alloc, request.as_str())
     }
-    other_at_faults(alloc, request.as_str())
 }
 
 /// What came where the input fails at one `take` after the other, or the output at its first `give`.
@@ -126,13 +131,5 @@ fn other_at_faults(alloc: Global, request: &str) -> Result<Option<String>, Alloc
 }
 
 fn main(rt: HostRuntime) -> io::Result<()> {
-    let mut tally = RowTally::new();
-    for row in &read_rows(&rt)? {
-        let other = other_than(rt.alloc(), row)?;
-        if let Some(other) = &other {
-            row.tell(&rt, other.as_str())?;
-        }
-        tally.count(other.is_none());
-    }
-    println!(rt; "{tally}")
+    try_rows(&rt, &BatchRows)
 }

@@ -1,16 +1,14 @@
 //! What an event may be that books a resource.
-ghost use Rattle.std.specs.Prelude.{◌≡◌, ◌++◌, IfOk, codes, nat_le, option_and_then, true};
+ghost use Rattle.std.specs.Prelude.{◌≡◌, ◌++◌, IfOk, nat_le, true};
 ghost use Rattle.std.specs.List.{list_all};
 ghost use Rattle.std.specs.Option.{option_map_or};
 ghost use Rattle.model_event.specs.Events.{length_in};
-ghost use Rattle.model_json.specs.Parts.{text_at};
 ghost use Rattle.model_json.specs.TreeData.{data_of};
 ghost use Rattle.model_recurrence.specs.Overrides.{exceptions_in};
 ghost use Rattle.model_resource.specs.BookingRules.{has_long_override, is_in_other_zone, is_in_zone, is_long_booking};
 ghost use Rattle.model_resource.specs.Resources.{resource_zone, resources_of};
 ghost use Rattle.model_series.specs.Lengths.{are_week_long, is_week_long};
 ghost use Rattle.model_series.specs.SeriesLimits.{wall_seconds};
-ghost use Rattle.model_time.specs.Durations.{duration_in};
 
 use crate::resources::resource_zone;
 use cal_model::view::AccountView;
@@ -19,8 +17,8 @@ use model_json::tree::Tree;
 use model_series::exception::{Exception, Span};
 use model_time::length::Length;
 use overrides::exceptions::{OverrideError, exceptions};
+use single_event::parts::given_length;
 use std::alloc::{AllocError, Global};
-use time_text::read_duration;
 use zone_table::Zones;
 
 const DAY: u64 = 86_400;
@@ -80,12 +78,6 @@ fn is_event_week_long(event: &Tree) -> bool
         Some(length) => lasts_a_week(length),
         None => true,
     }
-}
-
-fn given_length(event: &Tree) -> Option<Length>
-    ensures { result ≡ option_and_then duration_in (text_at (codes "duration") (data_of event.now)) }
-{
-    read_duration(event.text_at("duration")?.as_str().as_bytes())
 }
 
 /// Whether an override of an event that is in some resource lets an occurrence last longer than 7 days. Overrides that an event may

@@ -1,6 +1,7 @@
 //! A row as it is read: how the program is run, and what is wanted of it.
-use json_edge::write::tree_text;
 use model_json::tree::{Tree, TreeObject};
+use row_table::files::bytes_of;
+use row_table::line::words_in;
 use std::alloc::{AllocError, Global};
 
 /// A run of the program, and what is wanted of it.
@@ -37,7 +38,7 @@ impl Case {
             return Ok(None);
         };
         Ok(Some(Case {
-            words: words_of(alloc, words.as_str())?,
+            words: words_in(alloc, words.as_str())?,
             messages,
             failing_loads: numbers_at(alloc, asked, "failing_loads")?,
             status: String::from_str(alloc, status.as_str())?,
@@ -74,15 +75,6 @@ fn joined(alloc: Global, parts: &[Vec<u8>]) -> Result<Vec<u8>, AllocError> {
     Ok(all)
 }
 
-/// The words between blanks.
-fn words_of(alloc: Global, line: &str) -> Result<Vec<String>, AllocError> {
-    let mut words = Vec::new(alloc);
-    for word in line.split(' ') {
-        words.push(String::from_str(alloc, word)?)?;
-    }
-    Ok(words)
-}
-
 /// The numbers of a list that may be absent.
 fn numbers_at(alloc: Global, object: &TreeObject, key: &str) -> Result<Vec<u64>, AllocError> {
     let mut numbers = Vec::new(alloc);
@@ -110,24 +102,4 @@ fn texts_at(
         texts.push(bytes_of(alloc, item)?)?;
     }
     Ok(Some(texts))
-}
-
-/// The bytes of a text, those of the parts of a list one behind the other, the byte of a number, and the compact text of an object.
-pub fn bytes_of(alloc: Global, value: &Tree) -> Result<Vec<u8>, AllocError> {
-    let Tree::List(parts) = value else {
-        return part_bytes(alloc, value);
-    };
-    let mut bytes = Vec::new(alloc);
-    for part in parts.items() {
-        bytes.extend_from_slice(&part_bytes(alloc, part)?)?;
-    }
-    Ok(bytes)
-}
-
-fn part_bytes(alloc: Global, part: &Tree) -> Result<Vec<u8>, AllocError> {
-    match part {
-        Tree::Text(text) => text.as_str().as_bytes().to_vec(alloc),
-        Tree::Whole(byte) => Ok(vec![in alloc; u8::try_from(byte.get()).unwrap_or(0)]?),
-        part => tree_text(alloc, part),
-    }
 }

@@ -5,30 +5,15 @@ mod case;
 mod runs;
 mod trials;
 
-use case::{Case, bytes_of};
-use model_json::tree::Tree;
+use case::Case;
+use row_table::files::{Files, files_in};
 use row_table::line::tree_in;
 use row_table::row::{Row, read_rows};
 use row_table::tally::RowTally;
-use runs::Files;
+use row_table::trial::NOT_READ;
 use std::alloc::{AllocError, Global};
 use std::io;
 use trials::other_than_wanted;
-
-const NOT_READ: &str = "the row can't be read";
-
-/// The files by name that a line has, where it is an object. The bytes of each are those of a text, or the compact text of another value.
-fn files_in(alloc: Global, line: &str) -> Result<Option<Files>, AllocError> {
-    let Some(Tree::Object(object)) = tree_in(alloc, line)? else {
-        return Ok(None);
-    };
-    let mut files = Vec::new(alloc);
-    for member in object.members() {
-        let name = String::from_str(alloc, member.key.as_str())?;
-        files.push((name, bytes_of(alloc, &member.value)?))?;
-    }
-    Ok(Some(files))
-}
 
 /// What came of a row, where it isn't what the table has.
 fn other_than(alloc: Global, row: &Row, files: &Files) -> Result<Option<String>, AllocError> {

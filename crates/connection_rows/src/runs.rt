@@ -10,15 +10,13 @@ use io_edge::memory_source::MemSource;
 use io_edge::source::Source;
 use jmapd_run::run::run;
 use jmapd_run::status::Status;
+use row_table::files::Files;
 use std::alloc::{AllocError, Global};
 
 /// 2024-01-01T00:00:00Z.
 const CLOCK: StillClock = StillClock {
     moment: 1_704_067_200,
 };
-
-/// The files of the opener, by name.
-pub type Files = Vec<(String, Vec<u8>)>;
 
 /// How the input is given, and which calls fail, by number from 0.
 #[derive(Drop)]

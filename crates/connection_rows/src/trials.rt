@@ -2,7 +2,8 @@
 ghost use Rattle.std.specs.Prelude.{◌≡◌, count_by, nat_le};
 
 use crate::case::Case;
-use crate::runs::{Files, RunOutcome, Way, outcome_of};
+use crate::runs::{RunOutcome, Way, outcome_of};
+use row_table::files::Files;
 use std::alloc::{AllocError, Global};
 
 /// The most bytes of an input whose takes and gives fail one after the other.

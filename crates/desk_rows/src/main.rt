@@ -8,12 +8,10 @@ mod pair_desk;
 
 use model_json::tree::Tree;
 use row_table::line::{tree_in, unrolled};
-use row_table::row::{Row, read_rows};
-use row_table::tally::RowTally;
+use row_table::row::Row;
+use row_table::trial::{NOT_READ, Trial, try_rows, unless_answered};
 use std::alloc::{AllocError, Global};
 use std::io;
-
-const NOT_READ: &str = "the row can't be read";
 
 /// What comes of a row, where it can be read: a `request` is answered after those `before` it, and an `input` is served as a connection, each on a
 /// desk that makes `most` calls.
@@ -33,29 +31,22 @@ fn came(alloc: Global, asked: &Tree) -> Result<Option<String>, AllocError> {
     }
 }
 
-/// What came of a row, where it isn't what the table has.
-fn other_than(alloc: Global, row: &Row) -> Result<Option<String>, AllocError> {
-    let (Some(asked), Some(answer)) = (
-        tree_in(alloc, row.asked.as_str())?,
-        unrolled(alloc, row.answer.as_str())?,
-    ) else {
-        return Ok(Some(String::from_str(alloc, NOT_READ)?));
-    };
-    match came(alloc, &asked)? {
-        Some(came) if came.as_str() == answer.as_str() => Ok(None),
-        Some(came) => Ok(Some(came)),
-        None => Ok(Some(String::from_str(alloc, NOT_READ)?)),
+/// Requests and connections over a desk of two accounts, and what is written.
+#[derive(Drop)]
+struct DeskRows;
+
+impl Trial for DeskRows {
+    fn other_than(&self, alloc: Global, row: &Row) -> Result<Option<String>, AllocError> {
+        let (Some(asked), Some(answer)) = (
+            tree_in(alloc, row.asked.as_str())?,
+            unrolled(alloc, row.answer.as_str())?,
+        ) else {
+            return Ok(Some(String::from_str(alloc, NOT_READ)?));
+        };
+        unless_answered(alloc, came(alloc, &asked)?, answer.as_str())
     }
 }
 
 fn main(rt: HostRuntime) -> io::Result<()> {
-    let mut tally = RowTally::new();
-    for row in &read_rows(&rt)? {
-        let other = other_than(rt.alloc(), row)?;
-        if let Some(other) = &other {
-            row.tell(&rt, other.as_str())?;
-        }
-        tally.count(other.is_none());
-    }
-    println!(rt; "{tally}")
+    try_rows(&rt, &DeskRows)
 }

@@ -5,5 +5,5 @@ mod dates;
 pub mod ids;
 pub mod names;
 pub mod occurrence;
-mod rules;
+pub mod rules;
 mod table;

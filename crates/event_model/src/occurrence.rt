@@ -8,7 +8,7 @@ ghost use Rattle.model_recurrence.specs.Overrides.{few_members, is_excluded, occ
 ghost use Rattle.model_recurrence.specs.Recurrence.{has_occurrence_at, is_given_by_rules, is_there, occurrence_at, occurrence_members, occurrence_seen, override_at, seen_as, with_ids};
 ghost use Rattle.model_time.specs.Walls.{is_in_years};
 
-use crate::dates::{day_of, second_of, start_of};
+use crate::dates::{day_of, second_of};
 use crate::ids::occurrence_id_text;
 use crate::rules::{is_day, rules_of_event};
 use model_history::entry::Kind;
@@ -17,6 +17,7 @@ use model_json::tree::{Tree, TreeObject};
 use model_recurrence::limits::MAX_OVERRIDES;
 use model_time::wall::Wall;
 use overrides::occurrence::occurrence_tree;
+use single_event::parts::start_of;
 use single_event::recurrence::has_recurrence;
 use std::alloc::{AllocError, Global};
 use time_text::{local_text, object_id_text};
@@ -167,18 +168,8 @@ fn seen_as(
     ensures { IfOk result (λ o. o ≡ seen_as ids.now.id ids.now.key ids.now.event (occurrence_in (members_in (data_of event.now)) ids.now.key patch.now)) }
 {
     match occurrence_tree(alloc, event, &ids.key, patch)? {
-        Some(tree) => Ok(Some(with_ids(alloc, ids, into_members(alloc, tree))?)),
+        Some(tree) => Ok(Some(with_ids(alloc, ids, tree.into_object_or_empty(alloc))?)),
         None => Ok(None),
-    }
-}
-
-// The object that a tree is, or one without members.
-fn into_members(alloc: Global, tree: Tree) -> TreeObject
-    ensures { result ≡ members_in (data_of tree) }
-{
-    match tree.into_object() {
-        Some(object) => object,
-        None => TreeObject::new(Vec::new(alloc)),
     }
 }
 

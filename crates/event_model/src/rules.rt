@@ -1,5 +1,5 @@
 //! The rules of an event.
-ghost use Rattle.std.specs.Prelude.{◌≡◌, ◌<◌, ◌^◌, IfOk, true, unsigned_abs};
+ghost use Rattle.std.specs.Prelude.{◌≡◌, ◌<◌, ◌≤◌, ◌^◌, IfOk, length, true, unsigned_abs};
 ghost use Rattle.std.specs.List.{list_any};
 ghost use Rattle.model_json.specs.TreeData.{data_of};
 ghost use Rattle.model_recurrence.specs.RulesOf.{rules_meant, rules_of_event};
@@ -7,18 +7,20 @@ ghost use Rattle.model_series.specs.Occurrences.{is_day};
 ghost use Rattle.model_series.specs.RuleSets.{is_in_set};
 ghost use Rattle.model_time.specs.Walls.{is_in_years};
 
-use crate::dates::{day_of, start_of};
+use crate::dates::day_of;
 use model_json::tree::Tree;
 use model_series::rule::Rule;
 use model_series::rules::Rules;
 use model_time::wall::Wall;
 use rule_expand::occurs_on;
 use rule_read::{RulesError, read_rules};
+use single_event::parts::start_of;
 use std::alloc::{AllocError, Global};
 
-/// The rules of an event, none where it may not have them.
-pub(crate) fn rules_of_event(alloc: Global, event: &Tree) -> Result<Rules, AllocError>
-    ensures { IfOk result (λ rules. rules ≡ rules_of_event (data_of event.now)) }
+/// The rules of an event (RFC 8984 section 4.3.3), none where it may not have them. Takes memory for them.
+pub fn rules_of_event(alloc: Global, event: &Tree) -> Result<Rules, AllocError>
+    ensures value { IfOk result (λ rules. rules ≡ rules_of_event (data_of event.now)) }
+    ensures few { IfOk result (λ rules. length rules ≤ 4) }
 {
     match event.get("recurrenceRules") {
         Some(rules) => rules_meant(alloc, rules, start_of(event)),
@@ -29,7 +31,8 @@ pub(crate) fn rules_of_event(alloc: Global, event: &Tree) -> Result<Rules, Alloc
 #[tactic(auto, using(model_recurrence::proofs::RuleLemmas::rules_back))]
 fn rules_meant(alloc: Global, rules: &Tree, start: Wall) -> Result<Rules, AllocError>
     requires { is_in_years start ≡ true }
-    ensures { IfOk result (λ rs. rs ≡ rules_meant start (data_of rules.now)) }
+    ensures value { IfOk result (λ rs. rs ≡ rules_meant start (data_of rules.now)) }
+    ensures few { IfOk result (λ rs. length rs ≤ 4) }
 {
     match read_rules(alloc, rules, start) {
         Ok(rules) => Ok(rules),

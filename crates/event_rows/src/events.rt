@@ -1,18 +1,14 @@
 //! Rows of events: what they mean, or the names of all that is bad in them.
 use crate::answers::{list_of, texts_of, whole, word};
-use json_edge::read::{ReadError, read_tree};
 use model_json::text::Text;
 use model_json::tree::Tree;
 use model_time::wall::Wall;
+use row_table::plain_event::over_plain;
 use single_event::event::Event;
 use single_event::read::{EventError, read_event};
 use std::alloc::{AllocError, Global};
 use time_text::{is_in_years, local_text};
 use zone_table::{ZoneError, Zones};
-
-/// The event over which the members of a line are laid.
-const PLAIN_EVENT: &str =
-    r#"{"@type":"Event","uid":"u","calendarIds":{"C1":true},"start":"2024-01-01T09:00:00"}"#;
 
 /// The time zones of the table.
 pub fn zones(alloc: Global) -> Result<Zones, AllocError> {
@@ -39,21 +35,6 @@ pub fn read_over(alloc: Global, zones: &Zones, members: Tree) -> Result<Option<T
     match over_plain(alloc, members)? {
         Some(event) => Ok(Some(read(alloc, zones, &event)?)),
         None => Ok(None),
-    }
-}
-
-/// The plain event with these members laid over it, none where they are no object.
-pub fn over_plain(alloc: Global, members: Tree) -> Result<Option<Tree>, AllocError> {
-    let plain = match read_tree(alloc, PLAIN_EVENT.as_bytes()) {
-        Ok(plain) => plain,
-        Err(ReadError::NotJson | ReadError::NotWhole) => return Ok(None),
-        Err(ReadError::NoMemory) => return Err(AllocError),
-    };
-    match (plain, members) {
-        (Tree::Object(plain), Tree::Object(members)) => {
-            Ok(Some(Tree::Object(plain.with_all(alloc, members)?)))
-        }
-        _ => Ok(None),
     }
 }
 

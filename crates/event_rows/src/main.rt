@@ -9,8 +9,8 @@ mod recurring;
 
 use model_json::tree::Tree;
 use row_table::line::tree_in;
-use row_table::row::{Row, read_rows};
-use row_table::tally::RowTally;
+use row_table::row::Row;
+use row_table::trial::{NOT_READ, Trial, try_rows};
 use std::alloc::{AllocError, Global};
 use std::io;
 use zone_table::Zones;
@@ -47,30 +47,30 @@ fn is_question(word: &str) -> bool {
     )
 }
 
-/// What came of a row, where it isn't what the table has.
-fn other_than(alloc: Global, zones: &Zones, row: &Row) -> Result<Option<String>, AllocError> {
-    let (Some(came), Some(answer)) = (
-        came_of(alloc, zones, row.asked.as_str())?,
-        tree_in(alloc, row.answer.as_str())?,
-    ) else {
-        return Ok(Some(String::from_str(alloc, "the row can't be read")?));
-    };
-    if came.same(&answer) {
-        Ok(None)
-    } else {
-        Ok(Some(answers::text_of(alloc, &came)?))
+/// Events, and what they mean.
+#[derive(Drop)]
+struct EventRows {
+    /// The time zones of the table.
+    zones: Zones,
+}
+
+impl Trial for EventRows {
+    fn other_than(&self, alloc: Global, row: &Row) -> Result<Option<String>, AllocError> {
+        let (Some(came), Some(answer)) = (
+            came_of(alloc, &self.zones, row.asked.as_str())?,
+            tree_in(alloc, row.answer.as_str())?,
+        ) else {
+            return Ok(Some(String::from_str(alloc, NOT_READ)?));
+        };
+        if came.same(&answer) {
+            Ok(None)
+        } else {
+            Ok(Some(answers::text_of(alloc, &came)?))
+        }
     }
 }
 
 fn main(rt: HostRuntime) -> io::Result<()> {
-    let mut tally = RowTally::new();
     let zones = events::zones(rt.alloc())?;
-    for row in &read_rows(&rt)? {
-        let other = other_than(rt.alloc(), &zones, row)?;
-        if let Some(other) = &other {
-            row.tell(&rt, other.as_str())?;
-        }
-        tally.count(other.is_none());
-    }
-    println!(rt; "{tally}")
+    try_rows(&rt, &EventRows { zones })
 }

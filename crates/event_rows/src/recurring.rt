@@ -1,11 +1,11 @@
 //! Rows of events with rules and overrides: what is bad in them, and their occurrences.
 use crate::answers::{texts_of, word};
-use crate::events::over_plain;
 use event_model::ids::read_occurrence_id;
 use event_model::names::bad_event_names;
 use event_model::occurrence::occurrence;
 use model_json::tree::Tree;
 use model_time::wall::Wall;
+use row_table::plain_event::over_plain;
 use std::alloc::{AllocError, Global};
 use time_text::is_in_years;
 use zone_table::Zones;

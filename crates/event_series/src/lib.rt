@@ -3,6 +3,5 @@
 
 mod exceptions;
 pub mod laws;
+mod length;
 pub mod read;
-mod rules;
-mod times;

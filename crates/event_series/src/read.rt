@@ -6,11 +6,12 @@ ghost use Rattle.model_recurrence.specs.Recurrence.{bad_properties_of_event};
 ghost use Rattle.model_recurrence.specs.SeriesOf.{series_in};
 
 use crate::exceptions::exceptions_of;
-use crate::rules::rules_of;
-use crate::times::{is_occupying, length_of, start_of};
+use crate::length::length_of;
 use event_model::names::bad_event_names;
+use event_model::rules::rules_of_event;
 use model_json::tree::Tree;
 use model_series::series::Series;
+use single_event::parts::{is_occupying, start_of};
 use std::alloc::{AllocError, Global};
 use zone_table::Zones;
 
@@ -37,7 +38,7 @@ pub fn series_of(alloc: Global, event: &Tree, zones: &Zones) -> Result<Series, A
     ensures value { IfOk result (λ s. series_in zones.now (data_of event.now) ≡ Some s) }
     ensures parts { IfOk result (λ s. IsSeriesOf zones.now (data_of event.now) s) }
 {
-    let rules = rules_of(alloc, event)?;
+    let rules = rules_of_event(alloc, event)?;
     let exceptions = exceptions_of(alloc, event, zones)?;
     Ok(Series {
         start: start_of(event),

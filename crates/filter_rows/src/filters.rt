@@ -1,10 +1,10 @@
 //! Rows of filters: whether they are such, what they ask for, and whether they hold of an event.
 use crate::answers::{pair, time, word};
-use crate::events::over_plain;
 use event_series::read::read_series;
 use model_json::text::Text;
 use model_json::tree::Tree;
 use query_filter::{Filter, FilterError};
+use row_table::plain_event::over_plain;
 use std::alloc::{AllocError, Global};
 use zone_instants::{rule_of, rule_of_event};
 use zone_table::Zones;

@@ -2,17 +2,14 @@
 use denote.RattleType.{RattleType}
 use denote.Param.Send.{IsSend, IsSync, sendable}
 use Rattle.std.proofs.Crossing.{crosses}
-use Rattle.account_desk.proofs.Crossing.{gated_sent, text_sent}
+use Rattle.account_desk.proofs.Crossing.{gated_sent}
 use Rattle.account_lock.proofs.locked.Locked.TheSendSync as locked
 use Rattle.account_lock.proofs.pass.Pass.TheSendSync as pass
+use Rattle.model_json.proofs.Crossing.{text_sent, text_shared}
 use Rattle.model_json.proofs.tree.TreeList.TheLaws.TheKnot as tree
-use Rattle.model_json.specs.contracts.text.Text as text
 use Rattle.session_doc.specs.contracts.site.Site as site
 use Rattle.jmapd_listen.specs.contracts.job.WorkerBack as back
 use Rattle.jmapd_listen.specs.contracts.job.WorkerJob as job
-
-text_shared : IsSync text.the_row
-text_shared = search (crosses, sendable) depth 60 fits 20000
 
 site_sent : IsSend site.the_row
 site_sent = search (text_sent, text_shared, crosses, tree.crosses, sendable) depth 60 fits 20000

@@ -1,19 +1,11 @@
 //! Connections in memory.
 use io_edge::memory_sink::MemSink;
 use io_edge::memory_source::MemSource;
-use json_edge::write::tree_text;
 use listen_edge::memory_listener::MemConnection;
 use model_json::tree::Tree;
+use row_table::files::bytes_of;
 use std::alloc::{AllocError, Global};
 use std::fmt::Write;
-
-/// The bytes of a text, or of the compact text of another value.
-pub fn bytes_of(alloc: Global, value: &Tree) -> Result<Vec<u8>, AllocError> {
-    match value {
-        Tree::Text(text) => text.as_str().as_bytes().to_vec(alloc),
-        value => tree_text(alloc, value),
-    }
-}
 
 /// A connection for each item, whose peer sends its bytes and ends.
 pub fn connections_of(alloc: Global, items: &[Tree]) -> Result<Vec<MemConnection>, AllocError> {

@@ -5,34 +5,17 @@ mod connections;
 mod sites;
 mod workers;
 
-use connections::bytes_of;
 use io_edge::memory_opener::MemOpener;
 use model_json::tree::Tree;
+use row_table::files::{Files, files_in};
 use row_table::line::{tree_in, unrolled};
 use row_table::row::{Row, read_rows};
 use row_table::tally::RowTally;
+use row_table::trial::NOT_READ;
 use std::alloc::{AllocError, Global};
 use std::io;
 use std::sync::Wait;
 use std::thread::Threads;
-
-const NOT_READ: &str = "the row can't be read";
-
-/// The files of the opener, by name.
-type Files = Vec<(String, Vec<u8>)>;
-
-/// The files by name that a line has, where it is an object.
-fn files_in(alloc: Global, line: &str) -> Result<Option<Files>, AllocError> {
-    let Some(Tree::Object(object)) = tree_in(alloc, line)? else {
-        return Ok(None);
-    };
-    let mut files = Vec::new(alloc);
-    for member in object.members() {
-        let name = String::from_str(alloc, member.key.as_str())?;
-        files.push((name, bytes_of(alloc, &member.value)?))?;
-    }
-    Ok(Some(files))
-}
 
 /// What comes of a row, where it can be read: `words` are run over a host in memory, and a row without words is one worker's.
 fn came<R: Threads + Wait + Copy + Send + Drop + 'static>(

@@ -10,6 +10,7 @@ use listen_edge::in_place::InPlace;
 use listen_edge::memory_host::MemHost;
 use listen_edge::real_threads::RealThreads;
 use model_json::tree::Tree;
+use row_table::line::words_in;
 use std::alloc::{AllocError, Global};
 use std::fmt::Write;
 use std::sync::{Arc, Wait};
@@ -36,7 +37,7 @@ pub fn told<R: Threads + Wait + Copy + Send + Drop + 'static>(
     let Some(words) = asked.text_at("words") else {
         return Ok(None);
     };
-    let words = words_of(alloc, words.as_str())?;
+    let words = words_in(alloc, words.as_str())?;
     let mut waiting = Vec::new(alloc);
     for worker in asked.list_at("input").unwrap_or(&[]) {
         let Tree::List(items) = worker else {
@@ -92,13 +93,4 @@ fn tell_outputs<R: Wait + Copy + Send + Drop + 'static>(
         }
     }
     Ok(())
-}
-
-/// The words between blanks.
-fn words_of(alloc: Global, line: &str) -> Result<Vec<String>, AllocError> {
-    let mut words = Vec::new(alloc);
-    for word in line.split(' ') {
-        words.push(String::from_str(alloc, word)?)?;
-    }
-    Ok(words)
 }

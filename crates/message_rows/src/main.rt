@@ -14,6 +14,7 @@ use responses::try_response;
 use row_table::line::tree_in;
 use row_table::row::{Row, read_rows};
 use row_table::tally::RowTally;
+use row_table::trial::NOT_READ;
 use std::alloc::{AllocError, Global};
 use std::io;
 
@@ -38,7 +39,7 @@ fn try_row(alloc: Global, row: &Row, findings: &mut Findings) -> Result<(), Allo
 }
 
 fn not_read(alloc: Global, findings: &mut Findings) -> Result<(), AllocError> {
-    findings.find(String::from_str(alloc, "the row can't be read")?);
+    findings.find(String::from_str(alloc, NOT_READ)?);
     Ok(())
 }
 

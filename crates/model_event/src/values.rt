@@ -3,10 +3,10 @@ ghost use Rattle.std.specs.Prelude.{◌≡◌, IfOk, map};
 ghost use Rattle.model_event.specs.Values.{is_one_of, is_true};
 ghost use Rattle.model_json.specs.Parts.{text_at};
 ghost use Rattle.model_json.specs.TreeData.{data_of};
-ghost use Rattle.property_table.specs.Names.{has_name};
 
 use model_json::text::Text;
 use model_json::tree::Tree;
+use property_table::names::has_name;
 use std::alloc::AllocError;
 
 /// Whether this is `true`. Takes no memory.
@@ -24,7 +24,7 @@ pub fn is_one_of(value: &Tree, words: &[&str]) -> bool
     ensures { result ≡ is_one_of (map (λ word. word.now) words.now) (data_of value.now) }
 {
     match value {
-        Tree::Text(text) => has_word(words, text.as_str()),
+        Tree::Text(text) => has_name(words, text.as_str()),
         _ => false,
     }
 }
@@ -37,15 +37,4 @@ pub fn copy_at(tree: &Tree, key: &str) -> Result<Option<Text>, AllocError>
         Some(text) => Ok(Some(text.copy()?)),
         None => Ok(None),
     }
-}
-
-fn has_word(words: &[&str], text: &str) -> bool
-    ensures { result ≡ has_name (map (λ word. word.now) words.now) text.now }
-{
-    for word in words {
-        if *word == text {
-            return true;
-        }
-    }
-    false
 }

@@ -1,4 +1,5 @@
 pub mod Appending
+pub mod Crossing
 pub mod KeyOrder
 pub mod EditLemmas
 pub mod MergeLemmas

@@ -3,7 +3,7 @@
 
 pub mod lists;
 pub mod num;
-pub mod object;
+mod object;
 mod short;
 pub mod text;
 pub mod tree;

@@ -5,7 +5,7 @@ ghost use Rattle.model_json.specs.SameData.{same_items, same_members};
 ghost use Rattle.model_json.specs.TreeData.{data_of, pair_of};
 
 mod edit;
-mod merge;
+pub mod merge;
 mod place;
 mod read;
 

@@ -8,8 +8,8 @@ use congruences::least_text;
 use dates::{date_text, day_text};
 use model_json::tree::Tree;
 use row_table::line::tree_in;
-use row_table::row::{Row, read_rows};
-use row_table::tally::RowTally;
+use row_table::row::Row;
+use row_table::trial::{Trial, try_rows, unless_answered};
 use std::alloc::{AllocError, Global};
 use std::io;
 
@@ -26,27 +26,20 @@ fn came(alloc: Global, asked: &Tree) -> Result<Option<String>, AllocError> {
     }
 }
 
-/// What came of a row, where it isn't what the table has.
-fn other_than(alloc: Global, row: &Row) -> Result<Option<String>, AllocError> {
-    let came = match tree_in(alloc, row.asked.as_str())? {
-        Some(asked) => came(alloc, &asked)?,
-        None => None,
-    };
-    match came {
-        Some(came) if came.as_str() == row.answer.as_str() => Ok(None),
-        Some(came) => Ok(Some(came)),
-        None => Ok(Some(String::from_str(alloc, "the row can't be read")?)),
+/// Dates and congruences, and their answers as texts.
+#[derive(Drop)]
+struct NumberRows;
+
+impl Trial for NumberRows {
+    fn other_than(&self, alloc: Global, row: &Row) -> Result<Option<String>, AllocError> {
+        let came = match tree_in(alloc, row.asked.as_str())? {
+            Some(asked) => came(alloc, &asked)?,
+            None => None,
+        };
+        unless_answered(alloc, came, row.answer.as_str())
     }
 }
 
 fn main(rt: HostRuntime) -> io::Result<()> {
-    let mut tally = RowTally::new();
-    for row in &read_rows(&rt)? {
-        let other = other_than(rt.alloc(), row)?;
-        if let Some(other) = &other {
-            row.tell(&rt, other.as_str())?;
-        }
-        tally.count(other.is_none());
-    }
-    println!(rt; "{tally}")
+    try_rows(&rt, &NumberRows)
 }

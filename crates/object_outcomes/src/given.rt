@@ -28,16 +28,6 @@ pub(crate) fn copy_of_object(alloc: Global, tree: &Tree) -> Result<TreeObject, A
     }
 }
 
-/// The object that this is, without members where it is none. Takes no memory.
-pub(crate) fn into_object(alloc: Global, tree: Tree) -> TreeObject
-    ensures { result ≡ members_in (data_of tree) }
-{
-    match tree.into_object() {
-        Some(object) => object,
-        None => TreeObject::new(Vec::new(alloc)),
-    }
-}
-
 /// The value at a key, where it isn't null. Takes no memory.
 #[tactic(auto, using(crate::proofs::GivenLemmas::given_is))]
 pub(crate) fn given_at<'a>(object: &'a TreeObject, key: &str) -> Option<&'a Tree>

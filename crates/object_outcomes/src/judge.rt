@@ -12,7 +12,7 @@ ghost use Rattle.object_outcomes.specs.Judging.{IsAllowed, IsBefore, ground_in, 
 use crate::calendar::calendar_outcome;
 use crate::created_ids::CreatedIds;
 use crate::event::event_outcome;
-use crate::given::{given_at, has_other_id, into_object};
+use crate::given::{given_at, has_other_id};
 use crate::occurrences::is_occurrence;
 use crate::operation::Operation;
 use crate::quota::within_quota;
@@ -180,7 +180,7 @@ fn patch_object<V: AccountView>(
 {
     match apply(alloc, object, patch) {
         Ok(tree) => {
-            let patched = into_object(alloc, tree);
+            let patched = tree.into_object_or_empty(alloc);
             let names_id = has_other_id(alloc, setting.kind, number, &patched)?;
             object_outcome(
                 alloc,

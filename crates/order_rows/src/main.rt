@@ -9,8 +9,8 @@ mod windows;
 
 use model_json::tree::Tree;
 use row_table::line::tree_in;
-use row_table::row::{Row, read_rows};
-use row_table::tally::RowTally;
+use row_table::row::Row;
+use row_table::trial::{NOT_READ, Trial, try_rows};
 use std::alloc::{AllocError, Global};
 use std::io;
 
@@ -28,29 +28,26 @@ fn came_of(alloc: Global, asked: &Tree) -> Result<Option<Tree>, AllocError> {
     results::result_of(alloc, asked)
 }
 
-/// What came of a row, where it isn't what the table has.
-fn other_than(alloc: Global, row: &Row) -> Result<Option<String>, AllocError> {
-    let (Some(asked), Some(answer)) = (
-        tree_in(alloc, row.asked.as_str())?,
-        tree_in(alloc, row.answer.as_str())?,
-    ) else {
-        return Ok(Some(String::from_str(alloc, "the row can't be read")?));
-    };
-    match came_of(alloc, &asked)? {
-        Some(came) if came.same(&answer) => Ok(None),
-        Some(came) => Ok(Some(numbers::text_of(alloc, &came)?)),
-        None => Ok(Some(String::from_str(alloc, "the row asks for nothing")?)),
+/// Queries, and their results, windows and changes.
+#[derive(Drop)]
+struct OrderRows;
+
+impl Trial for OrderRows {
+    fn other_than(&self, alloc: Global, row: &Row) -> Result<Option<String>, AllocError> {
+        let (Some(asked), Some(answer)) = (
+            tree_in(alloc, row.asked.as_str())?,
+            tree_in(alloc, row.answer.as_str())?,
+        ) else {
+            return Ok(Some(String::from_str(alloc, NOT_READ)?));
+        };
+        match came_of(alloc, &asked)? {
+            Some(came) if came.same(&answer) => Ok(None),
+            Some(came) => Ok(Some(numbers::text_of(alloc, &came)?)),
+            None => Ok(Some(String::from_str(alloc, "the row asks for nothing")?)),
+        }
     }
 }
 
 fn main(rt: HostRuntime) -> io::Result<()> {
-    let mut tally = RowTally::new();
-    for row in &read_rows(&rt)? {
-        let other = other_than(rt.alloc(), row)?;
-        if let Some(other) = &other {
-            row.tell(&rt, other.as_str())?;
-        }
-        tally.count(other.is_none());
-    }
-    println!(rt; "{tally}")
+    try_rows(&rt, &OrderRows)
 }

@@ -5,11 +5,11 @@ ghost use Rattle.std.specs.Option.{option_map_or};
 ghost use Rattle.model_json.specs.Pointer.{parts};
 ghost use Rattle.model_json.specs.TreeData.{pair_of};
 ghost use Rattle.model_recurrence.specs.Overrides.{first_is_fixed, touches_fixed};
-ghost use Rattle.property_table.specs.Names.{has_name};
 
 use model_json::text::Text;
 use model_json::tree::Member;
 use patch_object::{Pointer, PointerError};
+use property_table::names::has_name;
 use std::alloc::{AllocError, Global};
 
 /// Whether one of these changes touches what is fixed.
@@ -60,16 +60,4 @@ fn first_is_fixed(parts: &[Text]) -> bool
         ),
         None => false,
     }
-}
-
-/// Whether a name is one of these. Takes no memory.
-pub(crate) fn has_name(names: &[&str], name: &str) -> bool
-    ensures { result ≡ has_name (map (λ n. n.now) names.now) name.now }
-{
-    for one in names {
-        if *one == name {
-            return true;
-        }
-    }
-    false
 }

@@ -2,12 +2,13 @@
 ghost use Rattle.std.specs.Prelude.{◌≡◌, ◌++◌, IfOk, OnOk, map, option_map};
 ghost use Rattle.model_json.specs.Data.{lookup};
 ghost use Rattle.model_json.specs.Edit.{with_pair, without};
-ghost use Rattle.model_json.specs.Merge.{TakesBelow, without_first};
+ghost use Rattle.model_json.specs.Merge.{without_first};
 ghost use Rattle.model_json.specs.ObjectKeys.{HasOrderedKeys};
 ghost use Rattle.model_json.specs.TreeData.{data_of, pair_of};
 ghost use Rattle.patch_object.specs.Cursor.{IsParted, TakesFrom, first_at};
 
 use model_json::text::Text;
+use model_json::tree::merge::pop_below;
 use model_json::tree::{Member, Tree, TreeObject};
 use std::alloc::AllocError;
 use std::collections::VecDeque;
@@ -118,17 +119,6 @@ fn pop_from(members: &mut Vec<Member>, key: &Text) -> Option<Member>
         None => false,
     };
     if is_from { members.pop() } else { None }
-}
-
-// Takes out the first member, where its key is below this one.
-fn pop_below(members: &mut VecDeque<Member>, key: &Text) -> Option<Member>
-    ensures { TakesBelow key.now (option_map pair_of result) (map pair_of members.old.items) (map pair_of members.new.items) }
-{
-    let is_below = match members.front() {
-        Some(member) => member.key.as_str() < key.as_str(),
-        None => false,
-    };
-    if is_below { members.pop_front() } else { None }
 }
 
 // Takes out the value of the first member, where it has this key.

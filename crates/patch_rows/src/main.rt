@@ -6,39 +6,28 @@ mod times;
 
 use answers::came;
 use row_table::line::tree_in;
-use row_table::row::{Row, read_rows};
-use row_table::tally::RowTally;
+use row_table::row::Row;
+use row_table::trial::{Trial, try_rows, unless_answered};
 use std::alloc::{AllocError, Global};
 use std::{env, io};
 
-/// What came of a row, where it isn't what the table has.
-fn other_than(alloc: Global, row: &Row) -> Result<Option<String>, AllocError> {
-    let came = match tree_in(alloc, row.asked.as_str())? {
-        Some(asked) => came(alloc, &asked)?,
-        None => None,
-    };
-    match came {
-        Some(came) if came.as_str() == row.answer.as_str() => Ok(None),
-        Some(came) => Ok(Some(came)),
-        None => Ok(Some(String::from_str(alloc, "the row can't be read")?)),
-    }
-}
+/// Patches and pointers, and what comes of them.
+#[derive(Drop)]
+struct PatchRows;
 
-fn compare_rows(rt: &HostRuntime) -> io::Result<()> {
-    let mut tally = RowTally::new();
-    for row in &read_rows(rt)? {
-        let other = other_than(rt.alloc(), row)?;
-        if let Some(other) = &other {
-            row.tell(rt, other.as_str())?;
-        }
-        tally.count(other.is_none());
+impl Trial for PatchRows {
+    fn other_than(&self, alloc: Global, row: &Row) -> Result<Option<String>, AllocError> {
+        let came = match tree_in(alloc, row.asked.as_str())? {
+            Some(asked) => came(alloc, &asked)?,
+            None => None,
+        };
+        unless_answered(alloc, came, row.answer.as_str())
     }
-    println!(rt; "{tally}")
 }
 
 fn main(rt: HostRuntime) -> io::Result<()> {
     match env::args(&rt)?.nth(1) {
         Some(rounds) => times::tell(&rt, rounds.parse::<u32>().unwrap_or(1)),
-        None => compare_rows(&rt),
+        None => try_rows(&rt, &PatchRows),
     }
 }

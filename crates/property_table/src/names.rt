@@ -1,8 +1,8 @@
 //! Lists of names in byte order.
-ghost use Rattle.std.specs.Prelude.{◌≡◌, OnOk};
+ghost use Rattle.std.specs.Prelude.{◌≡◌, OnOk, map};
 ghost use Rattle.std.specs.Cmp.Lexicographic.{slice_cmp};
 ghost use Rattle.std.specs.Ordering.{nat_cmp, is_lt};
-ghost use Rattle.property_table.specs.Names.{put_name};
+ghost use Rattle.property_table.specs.Names.{has_name, put_name};
 
 use model_json::text::Text;
 use std::alloc::AllocError;
@@ -27,4 +27,16 @@ fn is_below(one: &str, two: &str) -> bool
     ensures { result ≡ is_lt (slice_cmp nat_cmp one.now two.now) }
 {
     one.cmp(two) == Ordering::Less
+}
+
+/// Whether a name is one of these. Takes no memory.
+pub fn has_name(names: &[&str], name: &str) -> bool
+    ensures { result ≡ has_name (map (λ n. n.now) names.now) name.now }
+{
+    for one in names {
+        if *one == name {
+            return true;
+        }
+    }
+    false
 }

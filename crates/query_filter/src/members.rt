@@ -1,18 +1,16 @@
 //! The members of conditions and operators.
 ghost use Rattle.std.specs.Prelude.{◌≡◌, Some, map, option_map};
-ghost use Rattle.model_event.specs.Values.{is_showing, is_start};
+ghost use Rattle.model_event.specs.Values.{is_start};
 ghost use Rattle.model_filter.specs.Members.{condition_table, given_at, has_bad_member, has_other_than};
 ghost use Rattle.model_json.specs.TreeData.{data_of, pair_of};
-ghost use Rattle.property_table.specs.Names.{has_name};
 ghost use Rattle.property_table.specs.OnePass.{fails_given};
 ghost use Rattle.property_table.specs.Table.{test_at};
 ghost use Rattle.property_table.specs.Values.{is_text_that};
 
-use model_event::limits::{FIRST_START, LAST_START};
 use model_json::tree::{Member, Tree, TreeObject};
-use model_time::wall::Wall;
+use property_table::names::has_name;
 use property_table::values::is_text;
-use time_text::read_local;
+use single_event::times::is_start as names_start;
 
 /// The members of a condition.
 pub(crate) const CONDITION_NAMES: [&str; 8] = [
@@ -85,21 +83,6 @@ fn is_start(value: &Tree) -> bool
     }
 }
 
-fn names_start(text: &[u8]) -> bool
-    ensures { result ≡ is_start text.now }
-{
-    match read_local(text) {
-        Some(wall) => is_showing(wall),
-        None => false,
-    }
-}
-
-fn is_showing(wall: Wall) -> bool
-    ensures { result ≡ is_showing wall }
-{
-    FIRST_START <= wall.seconds() && wall.seconds() <= LAST_START
-}
-
 /// Whether some member that isn't null has none of these names. Takes no memory.
 pub(crate) fn has_other_than(names: &[&str], object: &TreeObject) -> bool
     ensures { result ≡ has_other_than (map (λ n. n.now) names.now) object.now }
@@ -112,17 +95,6 @@ fn any_other_than(names: &[&str], members: &[Member]) -> bool
 {
     for member in members {
         if !member.value.is_null() && !has_name(names, member.key.as_str()) {
-            return true;
-        }
-    }
-    false
-}
-
-fn has_name(names: &[&str], name: &str) -> bool
-    ensures { result ≡ has_name (map (λ n. n.now) names.now) name.now }
-{
-    for one in names {
-        if *one == name {
             return true;
         }
     }

@@ -12,7 +12,7 @@ ghost use Rattle.query_methods.specs.Reports.{Reports};
 ghost use Rattle.query_methods.specs.Requests.{since_in};
 
 use crate::error::QueryError;
-use crate::ids::{id_list, number_tree, state_tree};
+use crate::ids::{id_list, number_tree};
 use crate::request::Since;
 use crate::result::{current_result, touched_result};
 use crate::sight::Sight;
@@ -28,7 +28,7 @@ use model_query::delta::{Delta, Place};
 use query_order::change::changes_of;
 use query_order::order::Order;
 use std::alloc::{AllocError, Global};
-use time_text::object_id_text;
+use time_text::{object_id_text, state_text};
 
 /// The arguments of the reply that tells what changed of a result since a state. `Method` tells that it is more than the client takes.
 pub(crate) fn changed<S: Sight>(
@@ -135,7 +135,7 @@ fn delta_tree(
 {
     let added = Tree::List(TreeList::new(added_items(alloc, delta.added.items())?));
     let removed = id_list(alloc, Kind::Event, delta.removed.items())?;
-    let state = state_tree(alloc, store.count(Kind::Event))?;
+    let state = Tree::Text(state_text(alloc, store.count(Kind::Event))?);
     let mut members = vec![in alloc;
         ("accountId", Tree::Text(account.copy()?)),
         ("added", added),

@@ -13,7 +13,7 @@ ghost use Rattle.query_methods.specs.Reports.{Reports};
 ghost use Rattle.query_methods.specs.Requests.{paging_in};
 
 use crate::error::QueryError;
-use crate::ids::{id_list, number_tree, state_tree};
+use crate::ids::{id_list, number_tree};
 use crate::request::Paging;
 use crate::result::current_result;
 use crate::sight::Sight;
@@ -29,7 +29,7 @@ use query_order::order::Order;
 use query_order::window::window;
 use std::alloc::{AllocError, Global};
 use std::cmp::min;
-use time_text::read_object_id;
+use time_text::{read_object_id, state_text};
 
 /// The arguments of the reply to a query that asks for this window of its result. `Method` tells that the anchor isn't in the result.
 pub(crate) fn found<S: Sight>(
@@ -153,7 +153,8 @@ pub fn window_tree(
         members.push(("limit", number_tree(MAX_IDS_IN_QUERY as u64)))?;
     }
     members.push(("position", number_tree(part.cut.from)))?;
-    members.push(("queryState", state_tree(alloc, store.count(Kind::Event))?))?;
+    let state = state_text(alloc, store.count(Kind::Event))?;
+    members.push(("queryState", Tree::Text(state)))?;
     if paging.calculate_total {
         members.push(("total", number_tree(part.total)))?;
     }

@@ -1,12 +1,11 @@
-//! Numbers, ids and states as replies tell them.
-ghost use Rattle.std.specs.Prelude.{◌≡◌, IfOk, decimal, pos};
+//! Numbers and ids as replies tell them.
+ghost use Rattle.std.specs.Prelude.{◌≡◌, IfOk, pos};
 ghost use Rattle.model_json.specs.TreeData.{data_of};
-ghost use Rattle.model_json.specs.declared.tree.Tree.TheVariants.{Text as text_tree, Whole as whole_tree};
+ghost use Rattle.model_json.specs.declared.tree.Tree.TheVariants.{Whole as whole_tree};
 ghost use Rattle.model_queries.specs.States.{id_list};
 
 use model_history::entry::Kind;
 use model_json::num::Num;
-use model_json::text::Text;
 use model_json::tree::{Tree, TreeList};
 use std::alloc::{AllocError, Global};
 use time_text::object_id_text;
@@ -16,13 +15,6 @@ pub(crate) fn number_tree(number: u64) -> Tree
     ensures { result ≡ whole_tree (pos number) }
 {
     Tree::Whole(Num::new(number as i128))
-}
-
-/// A state as clients see it (RFC 8620 section 5.1).
-pub(crate) fn state_tree(alloc: Global, state: u64) -> Result<Tree, AllocError>
-    ensures { IfOk result (λ t. t ≡ text_tree (decimal state)) }
-{
-    Ok(Tree::Text(Text::from_string(state.to_string(alloc)?)?))
 }
 
 /// The ids of objects of a kind.

@@ -1,17 +1,16 @@
 //! What comparators see of an event.
-ghost use Rattle.std.specs.Prelude.{◌≡◌, IfOk, codes, option_and_then};
-ghost use Rattle.model_event.specs.Events.{start_in};
+ghost use Rattle.std.specs.Prelude.{◌≡◌, IfOk, option_and_then};
 ghost use Rattle.model_json.specs.Parts.{text_at};
 ghost use Rattle.model_json.specs.TreeData.{data_of};
 ghost use Rattle.model_queries.specs.Items.{item_of, utc_moment, start_instant, text_or_empty};
-ghost use Rattle.model_time.specs.LocalTimes.{local_in, utc_in};
+ghost use Rattle.model_time.specs.LocalTimes.{utc_in};
 
 use model_json::text::Text;
 use model_json::tree::Tree;
 use model_query::item::Item;
-use model_time::wall::Wall;
+use single_event::parts::start_of;
 use std::alloc::{AllocError, Global};
-use time_text::{read_local, read_utc};
+use time_text::read_utc;
 use zone_instants::{instant, rule_of_event};
 use zone_table::Zones;
 
@@ -61,21 +60,6 @@ fn given_moment(event: &Tree, key: &str) -> Option<i64>
     ensures { result ≡ option_and_then utc_in (text_at key.now (data_of event.now)) }
 {
     read_utc(event.text_at(key)?.as_str().as_bytes())
-}
-
-fn start_of(event: &Tree) -> Wall
-    ensures { result ≡ start_in (data_of event.now) }
-{
-    match given_start(event) {
-        Some(start) => start,
-        None => Wall::new(0),
-    }
-}
-
-fn given_start(event: &Tree) -> Option<Wall>
-    ensures { result ≡ option_and_then local_in (text_at (codes "start") (data_of event.now)) }
-{
-    read_local(event.text_at("start")?.as_str().as_bytes())
 }
 
 fn start_instant(zones: &Zones, floating: &Text, event: &Tree) -> i64

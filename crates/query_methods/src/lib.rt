@@ -13,6 +13,6 @@ pub mod numbers;
 pub mod query;
 pub mod query_changes;
 pub mod request;
-pub mod result;
+mod result;
 pub mod sight;
 mod touched;

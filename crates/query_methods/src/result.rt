@@ -21,7 +21,7 @@ use std::alloc::{AllocError, Global};
 ///
 /// Takes memory for them, and where there are comparators for the items of all of them. Time grows with the number of events.
 #[tactic(auto, using(crate::proofs::ResultLemmas::result_now))]
-pub fn current_result<S: Sight>(
+pub(crate) fn current_result<S: Sight>(
     alloc: Global,
     events: &StoredEvents<'_>,
     sight: &S,

@@ -7,22 +7,26 @@ use model_room::clash::Clash;
 use resource_book::Room;
 use row_series::series_in;
 use row_table::line::tree_in;
-use row_table::row::{Row, read_rows};
-use row_table::tally::RowTally;
+use row_table::row::Row;
+use row_table::trial::{Trial, try_rows, unless_answered};
 use std::alloc::{AllocError, Global};
 use std::fmt::Write;
 use std::{env, io};
 
-/// What came of a row, where it isn't what the table has.
-fn other_than(alloc: Global, row: &Row, times: u32) -> Result<Option<String>, AllocError> {
-    let came = match tree_in(alloc, row.asked.as_str())? {
-        Some(asked) => told(alloc, &asked, times)?,
-        None => String::from_str(alloc, "the row can't be read")?,
-    };
-    if came.as_str() == row.answer.as_str() {
-        Ok(None)
-    } else {
-        Ok(Some(came))
+/// Rooms with a proposed series, and how it clashes.
+#[derive(Drop)]
+struct RoomRows {
+    /// How often each check is made.
+    times: u32,
+}
+
+impl Trial for RoomRows {
+    fn other_than(&self, alloc: Global, row: &Row) -> Result<Option<String>, AllocError> {
+        let came = match tree_in(alloc, row.asked.as_str())? {
+            Some(asked) => Some(told(alloc, &asked, self.times)?),
+            None => None,
+        };
+        unless_answered(alloc, came, row.answer.as_str())
     }
 }
 
@@ -93,13 +97,5 @@ fn times_in(rt: &HostRuntime) -> io::Result<u32> {
 
 fn main(rt: HostRuntime) -> io::Result<()> {
     let times = times_in(&rt)?;
-    let mut tally = RowTally::new();
-    for row in &read_rows(&rt)? {
-        let other = other_than(rt.alloc(), row, times)?;
-        if let Some(other) = &other {
-            row.tell(&rt, other.as_str())?;
-        }
-        tally.count(other.is_none());
-    }
-    println!(rt; "{tally}")
+    try_rows(&rt, &RoomRows { times })
 }

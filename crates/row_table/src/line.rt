@@ -71,3 +71,12 @@ pub fn tree_in(alloc: Global, line: &str) -> Result<Option<Tree>, AllocError> {
         Err(ReadError::NoMemory) => Err(AllocError),
     }
 }
+
+/// The words of a line between its blanks. Takes memory for them.
+pub fn words_in(alloc: Global, line: &str) -> Result<Vec<String>, AllocError> {
+    let mut words = Vec::new(alloc);
+    for word in line.split(' ') {
+        words.push(String::from_str(alloc, word)?)?;
+    }
+    Ok(words)
+}

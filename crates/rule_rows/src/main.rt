@@ -12,8 +12,8 @@ use model_series::series::Series;
 use model_time::length::Length;
 use model_time::wall::Wall;
 use row_table::line::tree_in;
-use row_table::row::{Row, read_rows};
-use row_table::tally::RowTally;
+use row_table::row::Row;
+use row_table::trial::{NOT_READ, Trial, try_rows, unless_answered};
 use rule_expand::{Bound, last_day, next_from, occurs_on};
 use rule_read::{RulesError, read_rules};
 use std::alloc::{AllocError, Global};
@@ -27,16 +27,17 @@ const TOLD: u32 = 10;
 /// The end of the wall seconds that `next_from` is asked about.
 const FAR: u64 = 1 << 57;
 
-/// What came of a row, where it isn't what the table has.
-fn other_than(alloc: Global, row: &Row) -> Result<Option<String>, AllocError> {
-    let came = match tree_in(alloc, row.asked.as_str())? {
-        Some(asked) => told(alloc, &asked)?,
-        None => String::from_str(alloc, "the row can't be read")?,
-    };
-    if came.as_str() == row.answer.as_str() {
-        Ok(None)
-    } else {
-        Ok(Some(came))
+/// Recurrence rules, and the days that they give.
+#[derive(Drop)]
+struct RuleRows;
+
+impl Trial for RuleRows {
+    fn other_than(&self, alloc: Global, row: &Row) -> Result<Option<String>, AllocError> {
+        let came = match tree_in(alloc, row.asked.as_str())? {
+            Some(asked) => Some(told(alloc, &asked)?),
+            None => None,
+        };
+        unless_answered(alloc, came, row.answer.as_str())
     }
 }
 
@@ -51,13 +52,13 @@ fn wall_at(tree: &Tree, key: &str) -> Option<Wall> {
 fn told(alloc: Global, asked: &Tree) -> Result<String, AllocError> {
     match (wall_at(asked, "start"), asked.get("rules")) {
         (Some(start), Some(rules)) => told_of(alloc, start, rules, asked),
-        _ => String::from_str(alloc, "the row can't be read"),
+        _ => String::from_str(alloc, NOT_READ),
     }
 }
 
 fn told_of(alloc: Global, start: Wall, rules: &Tree, asked: &Tree) -> Result<String, AllocError> {
     if !is_in_years(start) {
-        return String::from_str(alloc, "the row can't be read");
+        return String::from_str(alloc, NOT_READ);
     }
     match read_rules(alloc, rules, start) {
         Ok(rules) => told_of_rules(alloc, start, rules, asked),
@@ -196,13 +197,5 @@ fn on_day(alloc: Global, start: Wall, rules: &Rules, day: i128) -> Result<String
 }
 
 fn main(rt: HostRuntime) -> io::Result<()> {
-    let mut tally = RowTally::new();
-    for row in &read_rows(&rt)? {
-        let other = other_than(rt.alloc(), row)?;
-        if let Some(other) = &other {
-            row.tell(&rt, other.as_str())?;
-        }
-        tally.count(other.is_none());
-    }
-    println!(rt; "{tally}")
+    try_rows(&rt, &RuleRows)
 }

@@ -10,10 +10,10 @@ ghost use Rattle.set_methods.specs.Telling.{Tells};
 use crate::changed::{destroyed, updated};
 use crate::created::created;
 use crate::refused::{not_destroyed, refused};
-use crate::state::state_text;
 use crate::told::Told;
 use model_json::tree::Tree;
 use std::alloc::{AllocError, Global};
+use time_text::state_text;
 
 /// The arguments of the response to a set (RFC 8620 section 5.3).
 pub(crate) fn arguments(alloc: Global, told: &Told<'_>) -> Result<Tree, AllocError>

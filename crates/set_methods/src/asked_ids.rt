@@ -7,8 +7,9 @@ use model_json::text::Text;
 use object_outcomes::created_ids::CreatedIds;
 use std::alloc::{AllocError, Global};
 
-/// The ids asked for, where `#key` stands for the created id of that key, each once in order of first mention. They are at most as many as a
-/// get may ask for, so that no client makes it slow by ids whose hashes are equal.
+/// The ids asked for, where `#key` stands for the created id of that key, each once in order of first mention.
+///
+/// Those with equal hashes are compared one by one, so the caller sees to it that they are no more than a get may ask for.
 pub fn asked_ids(
     alloc: Global,
     ids: &[Text],

@@ -15,5 +15,4 @@ mod refusal;
 mod refused;
 pub mod request;
 mod run;
-pub mod state;
 mod told;

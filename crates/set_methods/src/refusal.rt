@@ -9,7 +9,6 @@ ghost use Rattle.model_json.specs.TreeData.{data_of, pair_of};
 ghost use Rattle.set_methods.specs.Requests.{objects_in};
 
 use crate::request::SetRequest;
-use crate::state::state_text;
 use cal_model::view::AccountView;
 use model_call::call::MethodError;
 use model_core::limits::MAX_OBJECTS_IN_SET;
@@ -17,7 +16,7 @@ use model_history::entry::Kind;
 use model_json::text::Text;
 use model_json::tree::{Member, Tree};
 use std::alloc::{AllocError, Global};
-use time_text::read_id;
+use time_text::{read_id, state_text};
 
 /// Why a set is refused as a whole: a value that isn't one of the argument's, then too many objects, then another state than the
 /// client's (RFC 8620 section 5.3).

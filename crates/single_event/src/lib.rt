@@ -4,7 +4,8 @@
 pub mod calendars;
 pub mod depth;
 pub mod event;
+pub mod parts;
 pub mod read;
 pub mod recurrence;
 pub mod table;
-mod times;
+pub mod times;

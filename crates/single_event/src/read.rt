@@ -1,18 +1,16 @@
 //! Reads events.
-ghost use Rattle.std.specs.Prelude.{◌≡◌, [], IfErr, IfOk, OnOk, codes, option_and_then, true};
+ghost use Rattle.std.specs.Prelude.{◌≡◌, [], IfErr, IfOk, OnOk, true};
 ghost use Rattle.single_event.specs.Reports.{Reports};
 ghost use Rattle.single_event.specs.declared.read.EventError.TheVariants.{NoMemory};
-ghost use Rattle.model_event.specs.Events.{bad_event_properties, event_in, has_word, is_occupying, length_in, participants_of, start_in};
+ghost use Rattle.model_event.specs.Events.{bad_event_properties, event_in, length_in, participants_of, start_in};
 ghost use Rattle.model_event.specs.Values.{is_short_length, is_showing};
-ghost use Rattle.model_json.specs.Parts.{text_at};
 ghost use Rattle.model_json.specs.TreeData.{data_of};
-ghost use Rattle.model_time.specs.Durations.{duration_in};
-ghost use Rattle.model_time.specs.LocalTimes.{local_in};
 
 use crate::calendars::calendars_of;
 use crate::event::Event;
+use crate::parts::{given_length, is_occupying, start_of};
 use crate::table::EventTable;
-use model_event::values::{copy_at, is_one_of};
+use model_event::values::copy_at;
 use model_json::lists::Texts;
 use model_json::text::Text;
 use model_json::tree::Tree;
@@ -22,7 +20,6 @@ use participants::people::People;
 use participants::read::people_in;
 use property_table::table::failing_names;
 use std::alloc::{AllocError, Global};
-use time_text::{read_duration, read_local};
 use zone_table::Zones;
 
 /// Why there is no event.
@@ -93,16 +90,7 @@ fn start(tree: &Tree, zones: &Zones) -> Wall
     ensures showing { is_showing result ≡ true }
 {
     let _ordered = tree.members_in();
-    match given_start(tree) {
-        Some(start) => start,
-        None => Wall::new(0),
-    }
-}
-
-fn given_start(tree: &Tree) -> Option<Wall>
-    ensures { result ≡ option_and_then local_in (text_at (codes "start") (data_of tree.now)) }
-{
-    read_local(tree.text_at("start")?.as_str().as_bytes())
+    start_of(tree)
 }
 
 #[tactic(auto, using(crate::proofs::TimeLemmas::length_is_short))]
@@ -118,27 +106,6 @@ fn length(tree: &Tree, zones: &Zones) -> Length
             days: 0,
             seconds: 0,
         },
-    }
-}
-
-fn given_length(tree: &Tree) -> Option<Length>
-    ensures { result ≡ option_and_then duration_in (text_at (codes "duration") (data_of tree.now)) }
-{
-    read_duration(tree.text_at("duration")?.as_str().as_bytes())
-}
-
-fn is_occupying(tree: &Tree) -> bool
-    ensures { result ≡ is_occupying (data_of tree.now) }
-{
-    !has_word(tree, "status", "cancelled") && !has_word(tree, "freeBusyStatus", "free")
-}
-
-fn has_word(tree: &Tree, key: &str, word: &str) -> bool
-    ensures { result ≡ has_word key.now word.now (data_of tree.now) }
-{
-    match tree.get(key) {
-        Some(value) => is_one_of(value, &[word]),
-        None => false,
     }
 }
 

@@ -11,8 +11,8 @@ use time_text::{read_duration, read_local};
 /// The seconds of a day.
 const DAY: u64 = 86_400;
 
-/// Whether a text is a LocalDateTime at which an event may start.
-pub(crate) fn is_start(text: &[u8]) -> bool
+/// Whether a text is a LocalDateTime at which an event may start. Takes no memory.
+pub fn is_start(text: &[u8]) -> bool
     ensures { result ≡ is_start text.now }
 {
     match read_local(text) {

@@ -7,34 +7,37 @@ mod time_zones;
 
 use configurations::{built_in, configured};
 use row_table::line::{tree_in, unrolled};
-use row_table::row::{Row, read_rows};
-use row_table::tally::RowTally;
+use row_table::row::Row;
+use row_table::trial::{NOT_READ, Trial, try_rows, unless_answered};
 use std::alloc::{AllocError, Global};
 use std::io;
 use time_zones::other_than_zones;
 
-/// What came of a row, where it isn't what the table has.
-///
-/// A line that begins with `zones` has a list of time zones, `built in` is the site without a configuration, and any other line is a
-/// configuration.
-fn other_than(alloc: Global, row: &Row) -> Result<Option<String>, AllocError> {
-    let asked = row.asked.as_str();
-    if let Some(list) = asked.strip_prefix("zones ") {
-        return other_than_listed(alloc, list, row.answer.as_str());
-    }
-    let came = if asked == "built in" {
-        built_in(alloc)?
-    } else {
-        match unrolled(alloc, asked)? {
-            Some(text) => configured(alloc, text.as_str().as_bytes())?,
-            None => String::from_str(alloc, "the row can't be read")?,
+/// Configurations, lists of time zones, and what comes of them.
+#[derive(Drop)]
+struct SiteRows;
+
+impl Trial for SiteRows {
+    // A line that begins with `zones` has a list of time zones, `built in` is the site without a configuration, and any other line
+    // is a configuration.
+    fn other_than(&self, alloc: Global, row: &Row) -> Result<Option<String>, AllocError> {
+        let asked = row.asked.as_str();
+        if let Some(list) = asked.strip_prefix("zones ") {
+            return other_than_listed(alloc, list, row.answer.as_str());
         }
-    };
-    let is_wanted = match unrolled(alloc, row.answer.as_str())? {
-        Some(wanted) => wanted.as_str() == came.as_str(),
-        None => false,
-    };
-    if is_wanted { Ok(None) } else { Ok(Some(came)) }
+        let came = if asked == "built in" {
+            Some(built_in(alloc)?)
+        } else {
+            match unrolled(alloc, asked)? {
+                Some(text) => Some(configured(alloc, text.as_str().as_bytes())?),
+                None => None,
+            }
+        };
+        match unrolled(alloc, row.answer.as_str())? {
+            Some(wanted) => unless_answered(alloc, came, wanted.as_str()),
+            None => Ok(Some(String::from_str(alloc, NOT_READ)?)),
+        }
+    }
 }
 
 fn other_than_listed(
@@ -44,18 +47,10 @@ fn other_than_listed(
 ) -> Result<Option<String>, AllocError> {
     match (tree_in(alloc, list)?, tree_in(alloc, answer)?) {
         (Some(list), Some(answer)) => other_than_zones(alloc, &list, &answer),
-        _ => Ok(Some(String::from_str(alloc, "the row can't be read")?)),
+        _ => Ok(Some(String::from_str(alloc, NOT_READ)?)),
     }
 }
 
 fn main(rt: HostRuntime) -> io::Result<()> {
-    let mut tally = RowTally::new();
-    for row in &read_rows(&rt)? {
-        let other = other_than(rt.alloc(), row)?;
-        if let Some(other) = &other {
-            row.tell(&rt, other.as_str())?;
-        }
-        tally.count(other.is_none());
-    }
-    println!(rt; "{tally}")
+    try_rows(&rt, &SiteRows)
 }

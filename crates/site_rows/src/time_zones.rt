@@ -5,6 +5,7 @@ ghost use Rattle.model_json.specs.TreeData.{data_of};
 
 use model_json::text::Text;
 use model_json::tree::{Tree, TreeList, TreeObject};
+use row_table::trial::NOT_READ;
 use std::alloc::{AllocError, Global};
 use zone_table::{ZoneError, Zones};
 
@@ -21,7 +22,7 @@ pub fn other_than_zones(
     answer: &Tree,
 ) -> Result<Option<String>, AllocError> {
     let Some(pairs) = pairs_in(alloc, list)? else {
-        return other(alloc, "the row can't be read");
+        return other(alloc, NOT_READ);
     };
     if pairs.len() > MOST_ZONES {
         return other(alloc, "the row has too many zones");

@@ -9,13 +9,11 @@ mod trials;
 mod words;
 
 use row_table::line::unrolled;
-use row_table::row::{Row, read_rows};
-use row_table::tally::RowTally;
+use row_table::row::Row;
+use row_table::trial::{NOT_READ, Trial, try_rows};
 use std::alloc::{AllocError, Global};
 use std::{env, io};
 use words::has_same_words;
-
-const NOT_READ: &str = "the row can't be read";
 
 /// What a row asks for, where it can be read.
 ///
@@ -32,31 +30,24 @@ fn came(alloc: Global, asked: &str) -> Result<Option<String>, AllocError> {
     }
 }
 
-/// What came of a row, where it isn't what the table has.
-fn other_than(alloc: Global, row: &Row) -> Result<Option<String>, AllocError> {
-    let (Some(asked), Some(answer)) = (
-        unrolled(alloc, row.asked.as_str())?,
-        unrolled(alloc, row.answer.as_str())?,
-    ) else {
-        return Ok(Some(String::from_str(alloc, NOT_READ)?));
-    };
-    match came(alloc, asked.as_str())? {
-        None => Ok(Some(String::from_str(alloc, NOT_READ)?)),
-        Some(came) if has_same_words(came.as_str(), answer.as_str()) => Ok(None),
-        other => Ok(other),
-    }
-}
+/// Tables of objects and journals, and what they tell.
+#[derive(Drop)]
+struct VersionRows;
 
-fn compare_rows(rt: &HostRuntime) -> io::Result<()> {
-    let mut tally = RowTally::new();
-    for row in &read_rows(rt)? {
-        let other = other_than(rt.alloc(), row)?;
-        if let Some(other) = &other {
-            row.tell(rt, other.as_str())?;
+impl Trial for VersionRows {
+    fn other_than(&self, alloc: Global, row: &Row) -> Result<Option<String>, AllocError> {
+        let (Some(asked), Some(answer)) = (
+            unrolled(alloc, row.asked.as_str())?,
+            unrolled(alloc, row.answer.as_str())?,
+        ) else {
+            return Ok(Some(String::from_str(alloc, NOT_READ)?));
+        };
+        match came(alloc, asked.as_str())? {
+            None => Ok(Some(String::from_str(alloc, NOT_READ)?)),
+            Some(came) if has_same_words(came.as_str(), answer.as_str()) => Ok(None),
+            other => Ok(other),
         }
-        tally.count(other.is_none());
     }
-    println!(rt; "{tally}")
 }
 
 fn main(rt: HostRuntime) -> io::Result<()> {
@@ -67,6 +58,6 @@ fn main(rt: HostRuntime) -> io::Result<()> {
     if words.len() > 1 {
         times::tell(&rt, &words[1..])
     } else {
-        compare_rows(&rt)
+        try_rows(&rt, &VersionRows)
     }
 }

@@ -42,8 +42,8 @@ fn merged(alloc: Global, own: Vec<Member>, others: Vec<Member>) -> Result<Vec<Me
     Ok(merged)
 }
 
-// Takes out the first member, where its key is below this one.
-fn pop_below(members: &mut VecDeque<Member>, key: &Text) -> Option<Member>
+/// Takes out the first member, where its key is below this one. Takes no memory.
+pub fn pop_below(members: &mut VecDeque<Member>, key: &Text) -> Option<Member>
     ensures { TakesBelow key.now (option_map pair_of result) (map pair_of members.old.items) (map pair_of members.new.items) }
 {
     let is_below = match members.front() {

@@ -149,6 +149,16 @@ impl Tree {
             _ => None,
         }
     }
+
+    /// Gives up the object that this is, or one without members where it is none. Takes no memory.
+    pub fn into_object_or_empty(self, alloc: Global) -> TreeObject
+        ensures { result ≡ members_in (data_of self) }
+    {
+        match self.into_object() {
+            Some(object) => object,
+            None => TreeObject::new(Vec::new(alloc)),
+        }
+    }
 }
 
 impl TreeList {

@@ -1,10 +1,8 @@
-//! When an event starts, how long it lasts, and whether it takes up the time.
-ghost use Rattle.std.specs.Prelude.{◌≡◌, ◌≤◌, [], IfSome, codes, option_and_then, true};
-ghost use Rattle.model_event.specs.Events.{has_word, is_occupying, length_in, start_in};
+//! When an event starts, how long it lasts, and whether it takes up the time, whatever else it has.
+ghost use Rattle.std.specs.Prelude.{◌≡◌, IfSome, codes, option_and_then, true};
+ghost use Rattle.model_event.specs.Events.{has_word, is_occupying, start_in};
 ghost use Rattle.model_json.specs.Parts.{text_at};
 ghost use Rattle.model_json.specs.TreeData.{data_of};
-ghost use Rattle.model_recurrence.specs.Recurrence.{bad_properties_of_event};
-ghost use Rattle.model_series.specs.SeriesLimits.{wall_seconds};
 ghost use Rattle.model_time.specs.Durations.{duration_in};
 ghost use Rattle.model_time.specs.LocalTimes.{local_in};
 ghost use Rattle.model_time.specs.Walls.{is_in_years};
@@ -14,10 +12,9 @@ use model_json::tree::Tree;
 use model_time::length::Length;
 use model_time::wall::Wall;
 use time_text::{read_duration, read_local};
-use zone_table::Zones;
 
-/// The wall second at which an event starts, or that of 1970-01-01T00:00:00 where it doesn't say.
-pub(crate) fn start_of(event: &Tree) -> Wall
+/// The wall second at which an event starts, or that of 1970-01-01T00:00:00 where it doesn't say (RFC 8984 section 5.1.1). Takes no memory.
+pub fn start_of(event: &Tree) -> Wall
     ensures value { result ≡ start_in (data_of event.now) }
     ensures years { is_in_years result ≡ true }
 {
@@ -34,30 +31,15 @@ fn given_start(event: &Tree) -> Option<Wall>
     read_local(event.text_at("start")?.as_str().as_bytes())
 }
 
-/// How long an event lasts that has no bad properties.
-#[tactic(auto, using(crate::proofs::EventLemmas::event_is_short))]
-pub(crate) fn length_of(event: &Tree, zones: &Zones) -> Length
-    requires { bad_properties_of_event zones.now (data_of event.now) ≡ [] }
-    ensures value { result ≡ length_in (data_of event.now) }
-    ensures short { wall_seconds result ≤ 31622400 }
-{
-    match given_length(event) {
-        Some(length) => length,
-        None => Length {
-            days: 0,
-            seconds: 0,
-        },
-    }
-}
-
-fn given_length(event: &Tree) -> Option<Length>
+/// How long an event lasts, where it says so (RFC 8984 section 5.1.2). Takes no memory.
+pub fn given_length(event: &Tree) -> Option<Length>
     ensures { result ≡ option_and_then duration_in (text_at (codes "duration") (data_of event.now)) }
 {
     read_duration(event.text_at("duration")?.as_str().as_bytes())
 }
 
-/// Whether an event takes up the time: it isn't cancelled, and isn't marked as free.
-pub(crate) fn is_occupying(event: &Tree) -> bool
+/// Whether an event takes up the time: it isn't cancelled (RFC 8984 section 5.1.3), and isn't marked as free (section 4.4.2). Takes no memory.
+pub fn is_occupying(event: &Tree) -> bool
     ensures { result ≡ is_occupying (data_of event.now) }
 {
     !has_word(event, "status", "cancelled") && !has_word(event, "freeBusyStatus", "free")

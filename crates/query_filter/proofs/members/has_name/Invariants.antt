@@ -1,6 +1,0 @@
-use Rattle.std.proofs.Common.{◌≡◌, drop, map}
-use Rattle.property_table.specs.Names.{has_name}
-use Rattle.query_filter.proofs.members.has_name.Given as goal
-
-abbrev pub invariant-loop-one : goal.invariant-loop-one
-invariant-loop-one l = has_name (map (λ n. n.now) (drop l.one-index l.names)) l.name ≡ has_name (map (λ n. n.now) l.names) l.name
