@@ -16,7 +16,7 @@ import sys
 
 TOP = os.path.dirname(os.path.dirname(os.path.abspath(__file__)))
 # Where the theorem stands: the clause on `serve_connection`, the one on `run`, and the law of what answers say of bookings.
-ROOTS = ["crates/model_connection/specs/Serving.antt", "crates/jmapd_run/specs/Runs.antt", "crates/clash_laws/specs/Storing.antt"]
+ROOTS = ["crates/spec_connection/specs/Serving.antt", "crates/jmapd_run/specs/Runs.antt", "crates/account_rooms/specs/Storing.antt"]
 CITES = re.compile(r"use Rattle\.(\w+)\.specs\.([\w.]+?)(?:\.\{|\s|$)")
 
 

@@ -5,12 +5,12 @@ use Rattle.std.proofs.lemmas.List.Sums.{sum_by-append}
 use Rattle.account_core.specs.Tally.{Tallies}
 use Rattle.account_core.specs.declared.tally.Tally.{Tally}
 use Rattle.cal_model.specs.Answer.{entries_from, entry_of}
-use Rattle.model_history.specs.History.{changes_of, object_from, state_at}
-use Rattle.model_history.specs.declared.entry.Change.{Change}
-use Rattle.model_history.specs.declared.entry.Entry.{Entry}
-use Rattle.model_history.specs.declared.entry.Kind.{Kind}
-use Rattle.model_history.specs.declared.stamp.Stamp.{Stamp}
-use Rattle.model_json.specs.declared.tree.Tree.{Tree}
+use Rattle.spec_history.specs.History.{changes_of, object_from, state_at}
+use Rattle.spec_history.specs.declared.entry.Change.{Change}
+use Rattle.spec_history.specs.declared.entry.Entry.{Entry}
+use Rattle.spec_history.specs.declared.entry.Kind.{Kind}
+use Rattle.spec_history.specs.declared.stamp.Stamp.{Stamp}
+use Rattle.spec_json.specs.declared.tree.Tree.{Tree}
 use Rattle.std.specs.Prelude.{Option}
 
 -- the changes of the entries that changes become

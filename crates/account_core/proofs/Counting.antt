@@ -9,12 +9,12 @@ use Rattle.account_rooms.proofs.Changes.{ids_from-push}
 use Rattle.account_core.specs.Tally.{Tallies, count_created}
 use Rattle.account_core.specs.declared.tally.Tally.{Tally}
 use Rattle.cal_model.specs.Quota.{size_of, size_of_object}
-use Rattle.model_history.specs.History.{ids_at, is_kind, live_object, next_number}
-use Rattle.model_history.specs.Pages.{is_in}
-use Rattle.model_history.specs.declared.entry.Change.{Change}
-use Rattle.model_history.specs.declared.entry.Kind.{Kind}
-use Rattle.model_history.specs.declared.entry.Kind.TheVariants.{Calendar, Event}
-use Rattle.model_resource.proofs.Numbered.{numbered_if_live}
+use Rattle.spec_history.specs.History.{ids_at, is_kind, live_object, next_number}
+use Rattle.spec_history.specs.Pages.{is_in}
+use Rattle.spec_history.specs.declared.entry.Change.{Change}
+use Rattle.spec_history.specs.declared.entry.Kind.{Kind}
+use Rattle.spec_history.specs.declared.entry.Kind.TheVariants.{Calendar, Event}
+use Rattle.spec_bookings.proofs.Numbered.{numbered_if_live}
 
 -- the change is of the next object or of one that is there
 abbrev pub IsNumbered : List Change → Change → Type 0

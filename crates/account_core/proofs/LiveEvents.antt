@@ -3,12 +3,12 @@ use Rattle.std.proofs.Common.{◌≡◌, ◌+◌, ◌-◌, ◌<◌, ◌++◌, �
 use Rattle.std.specs.List.{list_any, range_with_len}
 use Rattle.account_core.proofs.Committing.{object_from_append}
 use Rattle.account_core.specs.Uses.{has_staged_event, is_object_in_calendar}
-use Rattle.model_event.specs.Events.{names_calendar}
-use Rattle.model_history.specs.History.{is_kind, live_object, object_from, some_object}
-use Rattle.model_history.specs.declared.entry.Change.{Change}
-use Rattle.model_history.specs.declared.entry.Kind.TheVariants.{Event}
-use Rattle.model_json.specs.TreeData.{data_of}
-use Rattle.model_json.specs.declared.tree.Tree.{Tree}
+use Rattle.spec_events.specs.Events.{names_calendar}
+use Rattle.spec_history.specs.History.{is_kind, live_object, object_from, some_object}
+use Rattle.spec_history.specs.declared.entry.Change.{Change}
+use Rattle.spec_history.specs.declared.entry.Kind.TheVariants.{Event}
+use Rattle.spec_json.specs.TreeData.{data_of}
+use Rattle.spec_json.specs.declared.tree.Tree.{Tree}
 use Rattle.std.specs.Prelude.{◌&&◌, ◌==◌, if◌then◌else◌}
 
 kept_step : (before : Option Tree) (c : Change) (cs : List Change) (id : ℕ) (b : Bool) → is_kind Event c.kind ≡ b → (b || has_staged_event cs) ≡ false

@@ -3,12 +3,12 @@ use Rattle.std.proofs.Common.{◌≡◌, ℕ, ℤ, [], List, Bool, true, false, 
 use Rattle.account_core.specs.PageObject.{page_object}
 use Rattle.cal_model.specs.Answer.{answered, changes_answer}
 use Rattle.cal_model.specs.Changes.{page_response}
-use Rattle.model_queries.specs.States.{is_maximum}
-use Rattle.model_history.specs.History.{changes_of, state_at}
-use Rattle.model_history.specs.Pages.{is_retained, mentions, page_end}
-use Rattle.model_history.specs.declared.entry.Change.{Change}
-use Rattle.model_history.specs.declared.entry.Entry.{Entry}
-use Rattle.model_history.specs.declared.entry.Kind.{Kind}
+use Rattle.spec_queries.specs.States.{is_maximum}
+use Rattle.spec_history.specs.History.{changes_of, state_at}
+use Rattle.spec_history.specs.Pages.{is_retained, mentions, page_end}
+use Rattle.spec_history.specs.declared.entry.Change.{Change}
+use Rattle.spec_history.specs.declared.entry.Entry.{Entry}
+use Rattle.spec_history.specs.declared.entry.Kind.{Kind}
 use Rattle.state_log.specs.IsPage.{IsPage}
 use Rattle.state_log.specs.declared.page.Page.{Page}
 use Rattle.time_text.specs.State.{state_in}

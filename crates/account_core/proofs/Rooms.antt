@@ -6,15 +6,15 @@ use Rattle.account_rooms.specs.RoomChanges.{rooms_after}
 use Rattle.account_rooms.specs.Rooms.{AreRooms, BookedRoom, bookings_in, has_room}
 use Rattle.cal_model.specs.Answer.{entries_from}
 use Rattle.cal_model.specs.Fits.{IsFit}
-use Rattle.model_history.specs.History.{changes_of, ids_at, next_number}
-use Rattle.model_history.specs.Pages.{is_in}
-use Rattle.model_history.specs.declared.entry.Change.{Change}
-use Rattle.model_history.specs.declared.entry.Entry.{Entry}
-use Rattle.model_history.specs.declared.entry.Kind.TheVariants.{Calendar}
-use Rattle.model_history.specs.declared.stamp.Stamp.{Stamp}
-use Rattle.model_resource.specs.Bookings.{bookings_of}
-use Rattle.model_resource.specs.Resources.{is_resource, resources_at}
-use Rattle.model_site.specs.TimeZones.{ZoneText}
+use Rattle.spec_history.specs.History.{changes_of, ids_at, next_number}
+use Rattle.spec_history.specs.Pages.{is_in}
+use Rattle.spec_history.specs.declared.entry.Change.{Change}
+use Rattle.spec_history.specs.declared.entry.Entry.{Entry}
+use Rattle.spec_history.specs.declared.entry.Kind.TheVariants.{Calendar}
+use Rattle.spec_history.specs.declared.stamp.Stamp.{Stamp}
+use Rattle.spec_bookings.specs.BookedResources.{bookings_of}
+use Rattle.spec_bookings.specs.Resources.{is_resource, resources_at}
+use Rattle.spec_site.specs.TimeZones.{ZoneText}
 
 -- where nothing is staged
 pub none_staged : (zones : List ZoneText) (cs staged : List Change) (rs qs : List BookedRoom) → AreRooms zones cs rs → staged ≡ [] → qs ≡ rs → AreRooms zones (cs ++ staged) qs

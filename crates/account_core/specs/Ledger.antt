@@ -3,10 +3,10 @@ use Rattle.std.specs.Prelude.{List}
 use Rattle.std.specs.Arc.{arc_value}
 use Rattle.account_core.specs.declared.ledger.Ledger.{Ledger}
 use Rattle.account_store.specs.Store.{entries}
-use Rattle.model_history.specs.Base.{Base}
-use Rattle.model_history.specs.History.{changes_of}
-use Rattle.model_history.specs.declared.entry.Change.{Change}
-use Rattle.model_history.specs.declared.entry.Entry.{Entry}
+use Rattle.spec_history.specs.Base.{Base}
+use Rattle.spec_history.specs.History.{changes_of}
+use Rattle.spec_history.specs.declared.entry.Change.{Change}
+use Rattle.spec_history.specs.declared.entry.Entry.{Entry}
 
 -- the account's id and zones
 abbrev pub base : Ledger → Base

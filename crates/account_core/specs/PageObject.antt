@@ -1,10 +1,10 @@
 -- What a reply tells of a page.
 use Rattle.std.specs.Prelude.{ℕ, List, [], ◌∷◌, ◌==◌, not, codes, decimal}
-use Rattle.model_queries.specs.States.{id_list}
-use Rattle.model_history.specs.declared.entry.Kind.{Kind}
-use Rattle.model_json.specs.Data.{text, truth}
-use Rattle.model_json.specs.declared.tree.Tree.{Tree}
-use Rattle.model_json.specs.declared.tree.Tree.TheVariants.{Object}
+use Rattle.spec_queries.specs.States.{id_list}
+use Rattle.spec_history.specs.declared.entry.Kind.{Kind}
+use Rattle.spec_json.specs.Data.{text, truth}
+use Rattle.spec_json.specs.declared.tree.Tree.{Tree}
+use Rattle.spec_json.specs.declared.tree.Tree.TheVariants.{Object}
 use Rattle.state_log.specs.declared.page.Page.{Page}
 
 -- the arguments that tell this page, where the kind is in this state

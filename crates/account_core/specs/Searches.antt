@@ -1,7 +1,7 @@
 -- What calls ask that look for something in an account.
 use Rattle.std.specs.Prelude.{Bool, true, false}
-use Rattle.model_call.specs.declared.call.Asks.{Asks}
-use Rattle.model_call.specs.declared.call.Asks.TheVariants.{Availability, Query, QueryChanges}
+use Rattle.spec_calls.specs.declared.call.Asks.{Asks}
+use Rattle.spec_calls.specs.declared.call.Asks.TheVariants.{Availability, Query, QueryChanges}
 
 abbrev pub is_query : Asks → Bool
 is_query (Query filter sort position anchor anchor_offset limit calculate_total expand time_zone) = true

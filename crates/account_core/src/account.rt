@@ -8,13 +8,13 @@ use crate::get::get;
 use crate::ledger::Ledger;
 use crate::queries::{availability, query, query_changes};
 use crate::set::set;
-use model_call::call::{Asks, Call, Reply};
-use model_history::book::Book;
-use model_history::stamp::Stamp;
-use model_json::text::Text;
-use model_room::clash::Clash;
-use model_series::series::Series;
-use model_time::moment::Moment;
+use spec_calls::call::{Asks, Call, Reply};
+use spec_history::book::Book;
+use spec_history::stamp::Stamp;
+use spec_json::text::Text;
+use spec_bookings::clash::Clash;
+use spec_series::series::Series;
+use spec_time::moment::Moment;
 use set_methods::request::SetRequest;
 use std::alloc::{AllocError, Global};
 use std::marker::Model;
@@ -31,9 +31,9 @@ impl Model for Account {
     ghost use Rattle.std.specs.Prelude.{◌≡◌, List, []};
     ghost use Rattle.std.specs.Coded.{codes};
     ghost use Rattle.account_core.specs.Ledger.{base, ledger_entries, staged};
-    ghost use Rattle.model_history.specs.Base.{Base};
-    ghost use Rattle.model_json.specs.DataCode.{data_code};
-    ghost use Rattle.model_history.specs.declared.entry.Entry.{Entry};
+    ghost use Rattle.spec_history.specs.Base.{Base};
+    ghost use Rattle.spec_json.specs.DataCode.{data_code};
+    ghost use Rattle.spec_history.specs.declared.entry.Entry.{Entry};
 
     ghost Value = { Base × List Entry };
 
@@ -49,11 +49,11 @@ impl Account {
     ghost use Rattle.std.specs.Prelude.{IfNone, option_map, true};
     ghost use Rattle.account_rooms.specs.Covered.{AreCoveredOnce};
     ghost use Rattle.account_rooms.specs.Rooms.{AreFree};
-    ghost use Rattle.model_history.specs.History.{changes_of};
-    ghost use Rattle.model_resource.specs.Bookings.{other_bookings};
-    ghost use Rattle.model_resource.specs.Resources.{is_resource};
-    ghost use Rattle.model_room.specs.Clashes.{IsClash, IsClear, first_clash, second_of};
-    ghost use Rattle.model_series.specs.Lengths.{IsWeekLong};
+    ghost use Rattle.spec_history.specs.History.{changes_of};
+    ghost use Rattle.spec_bookings.specs.BookedResources.{other_bookings};
+    ghost use Rattle.spec_bookings.specs.Resources.{is_resource};
+    ghost use Rattle.spec_bookings.specs.Clashes.{IsClash, IsClear, first_clash, second_of};
+    ghost use Rattle.spec_series.specs.Lengths.{IsWeekLong};
     ghost use Rattle.rule_expand.specs.Least.{IsLeastOf};
 
     /// An account of this id, with these zones and no entries. Takes no memory.

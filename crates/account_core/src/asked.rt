@@ -4,11 +4,11 @@ ghost use Rattle.std.specs.BTreeSet.{contains_text};
 ghost use Rattle.std.specs.Str.{bytes_eq};
 ghost use Rattle.account_core.specs.AskedNames.{asks_by_name};
 ghost use Rattle.cal_model.specs.Gets.{is_asked_for};
-ghost use Rattle.model_json.specs.Data.{Data};
+ghost use Rattle.spec_json.specs.Data.{Data};
 ghost use Rattle.property_table.specs.Names.{has_name};
 
-use model_json::lists::Texts;
-use model_json::text::Text;
+use spec_json::lists::Texts;
+use spec_json::text::Text;
 use object_outcomes::texts::copies;
 use std::alloc::{AllocError, Global};
 use std::collections::BTreeSet;

@@ -3,17 +3,17 @@ ghost use Rattle.std.specs.Prelude.{◌≡◌, IfOk, option_map, true, unsigned_
 ghost use Rattle.account_core.specs.Ledger.{base, ledger_entries};
 ghost use Rattle.account_core.specs.PageObject.{page_object};
 ghost use Rattle.cal_model.specs.Answer.{changes_answer};
-ghost use Rattle.model_queries.specs.States.{is_maximum};
+ghost use Rattle.spec_queries.specs.States.{is_maximum};
 
 use crate::ledger::Ledger;
 use crate::reply::{refusal, reply};
-use model_call::call::{MethodError, Reply};
-use model_core::numbers::MAX_UNSIGNED_INT;
-use model_history::entry::Kind;
-use model_json::lists::Pairs;
-use model_json::num::Num;
-use model_json::text::Text;
-use model_json::tree::Tree;
+use spec_calls::call::{MethodError, Reply};
+use spec_core::numbers::MAX_UNSIGNED_INT;
+use spec_history::entry::Kind;
+use spec_json::lists::Pairs;
+use spec_json::num::Num;
+use spec_json::text::Text;
+use spec_json::tree::Tree;
 use query_methods::ids::id_list;
 use state_log::{ChangesError, Page};
 use std::alloc::{AllocError, Global};

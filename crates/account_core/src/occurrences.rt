@@ -2,17 +2,17 @@
 ghost use Rattle.std.specs.Prelude.{◌≡◌, IfOk, true};
 ghost use Rattle.account_store.specs.Store.{entries};
 ghost use Rattle.cal_model.specs.Occurrences.{occurrence_numbered, occurrence_named};
-ghost use Rattle.model_history.specs.History.{changes_of};
-ghost use Rattle.model_history.specs.declared.entry.Kind.TheVariants.{Event as event_kind};
-ghost use Rattle.model_time.specs.Walls.{is_in_years};
+ghost use Rattle.spec_history.specs.History.{changes_of};
+ghost use Rattle.spec_history.specs.declared.entry.Kind.TheVariants.{Event as event_kind};
+ghost use Rattle.spec_time.specs.Walls.{is_in_years};
 
 use account_store::Store;
 use event_model::ids::read_occurrence_id;
 use event_model::occurrence::occurrence;
-use model_history::entry::Kind;
-use model_json::text::Text;
-use model_json::tree::Tree;
-use model_time::wall::Wall;
+use spec_history::entry::Kind;
+use spec_json::text::Text;
+use spec_json::tree::Tree;
+use spec_time::wall::Wall;
 use std::alloc::{AllocError, Global};
 
 /// The occurrence of a live event that an id names.

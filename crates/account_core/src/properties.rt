@@ -3,14 +3,14 @@ ghost use Rattle.std.specs.Prelude.{◌≡◌, IfOk, filter, map};
 ghost use Rattle.std.specs.List.{list_all};
 ghost use Rattle.cal_model.specs.Calendar.{is_calendar_property};
 ghost use Rattle.cal_model.specs.Gets.{are_properties, is_asked_for, is_property, selected};
-ghost use Rattle.model_json.specs.TreeData.{data_of, pair_of};
+ghost use Rattle.spec_json.specs.TreeData.{data_of, pair_of};
 
 use crate::asked::Asked;
-use model_core::names::is_name;
-use model_history::entry::Kind;
-use model_json::lists::Texts;
-use model_json::text::Text;
-use model_json::tree::{Member, Tree, TreeObject};
+use spec_core::names::is_name;
+use spec_history::entry::Kind;
+use spec_json::lists::Texts;
+use spec_json::text::Text;
+use spec_json::tree::{Member, Tree, TreeObject};
 use std::alloc::{AllocError, Global};
 
 /// Whether this is the name of a property of calendars (draft JMAP for Calendars).

@@ -3,8 +3,8 @@ ghost use Rattle.std.specs.Prelude.{◌≡◌, ℕ, ℤ, List, [], IfErr, IfOk, 
 ghost use Rattle.account_core.specs.Ledger.{base, ledger_entries};
 ghost use Rattle.account_core.specs.Searches.{is_availability, is_query, is_query_changes};
 ghost use Rattle.cal_model.specs.Answer.{answer_to, answered, availability_answer, query_answer, query_changes_answer, unless_error};
-ghost use Rattle.model_call.specs.declared.call.MethodError.{MethodError as AnyError};
-ghost use Rattle.model_json.specs.declared.tree.Tree.{Tree as AnyTree};
+ghost use Rattle.spec_calls.specs.declared.call.MethodError.{MethodError as AnyError};
+ghost use Rattle.spec_json.specs.declared.tree.Tree.{Tree as AnyTree};
 ghost use Rattle.query_methods.specs.Reports.{Reports};
 ghost use Rattle.query_methods.specs.Requests.{criteria_in, paging_in, since_in};
 
@@ -12,9 +12,9 @@ use crate::ledger::Ledger;
 use crate::reply::{refusal, reply};
 use availability_method::AvailabilityRequest;
 use expanded_query::expanded_query;
-use model_call::call::{Asks, MethodError, Reply};
-use model_json::lists::Pairs;
-use model_json::tree::Tree;
+use spec_calls::call::{Asks, MethodError, Reply};
+use spec_json::lists::Pairs;
+use spec_json::tree::Tree;
 use query_methods::error::QueryError;
 use query_methods::request::{Criteria, Paging, Since};
 use std::alloc::AllocError;

@@ -4,9 +4,9 @@ ghost use Rattle.account_store.specs.Store.{entries};
 ghost use Rattle.cal_model.specs.Answer.{answered, refused};
 
 use account_store::Store;
-use model_call::call::{MethodError, Reply};
-use model_json::lists::Pairs;
-use model_json::tree::Tree;
+use spec_calls::call::{MethodError, Reply};
+use spec_json::lists::Pairs;
+use spec_json::tree::Tree;
 use std::alloc::Global;
 
 /// The reply to a call that is answered. Takes no memory.

@@ -10,10 +10,10 @@ ghost use Rattle.set_methods.specs.Requests.{ground_at, objects_in};
 
 use crate::ledger::Ledger;
 use crate::reply::{refusal, reply};
-use model_call::call::Reply;
-use model_history::stamp::Stamp;
-use model_json::lists::Pairs;
-use model_time::moment::Moment;
+use spec_calls::call::Reply;
+use spec_history::stamp::Stamp;
+use spec_json::lists::Pairs;
+use spec_time::moment::Moment;
 use set_methods::plan::plan;
 use set_methods::planned::PlanError;
 use set_methods::request::SetRequest;

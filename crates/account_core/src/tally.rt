@@ -1,10 +1,10 @@
 //! How much an account holds.
 ghost use Rattle.std.specs.Prelude.{◌≡◌, ◌+◌, ◌≤◌, ◌<◌, if◌then◌else◌, max};
 ghost use Rattle.cal_model.specs.declared.limits.TheConstants.{MAX_ENTRIES, MAX_OBJECT_BYTES};
-ghost use Rattle.model_history.specs.History.{is_kind};
-ghost use Rattle.model_history.specs.declared.entry.Kind.{Kind as AnyKind};
+ghost use Rattle.spec_history.specs.History.{is_kind};
+ghost use Rattle.spec_history.specs.declared.entry.Kind.{Kind as AnyKind};
 
-use model_history::entry::Kind;
+use spec_history::entry::Kind;
 
 /// How much an account holds, and how many objects of each kind it has had. It tells whether a change is within the quota,
 /// and the number of the next object, without going over the history.

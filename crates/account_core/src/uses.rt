@@ -3,13 +3,13 @@ ghost use Rattle.std.specs.Prelude.{◌≡◌, ◌++◌, option_map};
 ghost use Rattle.account_core.specs.Ledger.{history, staged};
 ghost use Rattle.account_core.specs.Uses.{has_staged_event, is_object_in_calendar};
 ghost use Rattle.cal_model.specs.EventObject.{has_event};
-ghost use Rattle.model_history.specs.History.{live_object};
-ghost use Rattle.model_history.specs.declared.entry.Kind.TheVariants.{Event as event_kind};
+ghost use Rattle.spec_history.specs.History.{live_object};
+ghost use Rattle.spec_history.specs.declared.entry.Kind.TheVariants.{Event as event_kind};
 
 use crate::ledger::Ledger;
 use cal_model::view::AccountView;
-use model_history::entry::{Change, Kind};
-use model_json::tree::Tree;
+use spec_history::entry::{Change, Kind};
+use spec_json::tree::Tree;
 use single_event::calendars::names_calendar;
 
 /// Whether a live event is in a calendar. Takes no memory, and time with the number of events.

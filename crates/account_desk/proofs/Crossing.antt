@@ -1,8 +1,8 @@
 -- An account may go to another thread, gated or not.
 use denote.Param.Send.{IsSend, sendable}
 use Rattle.std.proofs.Crossing.{crosses}
-use Rattle.model_json.proofs.Crossing.{text_sent}
-use Rattle.model_json.proofs.tree.TreeList.TheLaws.TheKnot as tree
+use Rattle.spec_json.proofs.Crossing.{text_sent}
+use Rattle.spec_json.proofs.tree.TreeList.TheLaws.TheKnot as tree
 use Rattle.resource_book.specs.contracts.room.Room as room
 use Rattle.account_rooms.specs.contracts.slot.Slot as slot
 use Rattle.account_rooms.specs.contracts.rooms.Rooms as rooms

@@ -3,11 +3,11 @@ use Rattle.std.proofs.Common.{◌≡◌, ℕ, ◌+◌, ◌<◌, ◌≤◌, ◌^�
 use Rattle.std.proofs.lemmas.List.{length-map, map_more, take_all, get_or-map as get_or-map_within}
 use Rattle.std.proofs.lemmas.List.Elements.{All-from_get_or}
 use Rattle.std.proofs.Math.ListN.{get_or-map}
-use Rattle.model_history.specs.Base.{Base, no_base}
+use Rattle.spec_history.specs.Base.{Base, no_base}
 use Rattle.account_desk.specs.FreshDesk.{account_rules, bases, fresh_desk}
-use Rattle.model_history.specs.Signed.{written_by}
-use Rattle.model_site.specs.Configuration.{Site, SiteAccount}
-use Rattle.model_history.specs.declared.entry.Entry.{Entry}
+use Rattle.spec_history.specs.Signed.{written_by}
+use Rattle.spec_site.specs.Configuration.{Site, SiteAccount}
+use Rattle.spec_history.specs.declared.entry.Entry.{Entry}
 use Rattle.account_desk.specs.SoleDesk.{IsSoleDesk, account_at, fresh_account, shown_of}
 
 abbrev pub opened : Base → Base × List Entry

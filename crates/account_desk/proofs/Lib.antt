@@ -2,3 +2,9 @@ pub mod Crossing
 pub mod FreshLemmas
 pub mod SharedLemmas
 pub mod SoleLemmas
+pub mod AnswerLemmas
+pub mod ConnectionLemmas
+pub mod FreshLaws
+pub mod PlayLemmas
+pub mod ReplyLemmas
+pub mod TurnLemmas

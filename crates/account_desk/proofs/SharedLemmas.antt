@@ -12,13 +12,13 @@ use Rattle.cal_model.specs.Answer.{answer, added}
 use Rattle.account_lock.specs.Passes.{PassState, IsAnswered, HasFailed}
 use Rattle.account_lock.specs.declared.locked.CallError.{CallError}
 use Rattle.account_lock.specs.declared.locked.CallError.TheVariants as pass
-use Rattle.model_history.specs.Base.{Base, no_base}
-use Rattle.model_batch.specs.Chain.{Answered, Called, Missed, StaysBeside}
-use Rattle.model_history.specs.Signed.{Extends}
-use Rattle.model_history.specs.MostTurns.{most_turns}
-use Rattle.model_call.specs.declared.call.Call.{Call}
-use Rattle.model_call.specs.declared.call.Reply.{Reply}
-use Rattle.model_history.specs.declared.entry.Entry.{Entry}
+use Rattle.spec_history.specs.Base.{Base, no_base}
+use Rattle.spec_batch.specs.Chain.{Answered, Called, Missed, StaysBeside}
+use Rattle.spec_history.specs.Signed.{Extends}
+use Rattle.spec_history.specs.MostTurns.{most_turns}
+use Rattle.spec_calls.specs.declared.call.Call.{Call}
+use Rattle.spec_calls.specs.declared.call.Reply.{Reply}
+use Rattle.spec_history.specs.declared.entry.Entry.{Entry}
 use Rattle.account_desk.specs.SharedDesk.{IsSharedDesk, greatest_turn, shown_by_passes, through_pass}
 
 -- ---- a list in which one element was replaced

@@ -4,17 +4,17 @@ use Rattle.std.proofs.lemmas.List.{get_or-set_same, get_or-set_other, length-set
 use Rattle.std.proofs.lemmas.List.Elements.{All-set, All-get_or, filter-append}
 use mathlib.Core.Logic.{dite}
 use native.Mathlib.Decide.{ℕ_discrete}
-use Rattle.model_batch.proofs.Chains.{all_written_by}
+use Rattle.spec_batch.proofs.Chains.{all_written_by}
 use Rattle.cal_model.specs.AddedEntries.{added_signed}
 use Rattle.cal_model.specs.Answer.{answer, added}
-use Rattle.model_history.specs.Base.{Base, no_base}
-use Rattle.model_batch.specs.Chain.{Called, StaysBeside}
-use Rattle.model_history.specs.MostTurns.{most_turns}
-use Rattle.model_history.specs.Signed.{written_by}
-use Rattle.model_call.specs.declared.call.Call.{Call}
-use Rattle.model_call.specs.declared.call.Reply.{Reply}
-use Rattle.model_history.specs.declared.entry.Entry.{Entry}
-use Rattle.model_history.specs.declared.stamp.Stamp.{Stamp}
+use Rattle.spec_history.specs.Base.{Base, no_base}
+use Rattle.spec_batch.specs.Chain.{Called, StaysBeside}
+use Rattle.spec_history.specs.MostTurns.{most_turns}
+use Rattle.spec_history.specs.Signed.{written_by}
+use Rattle.spec_calls.specs.declared.call.Call.{Call}
+use Rattle.spec_calls.specs.declared.call.Reply.{Reply}
+use Rattle.spec_history.specs.declared.entry.Entry.{Entry}
+use Rattle.spec_history.specs.declared.stamp.Stamp.{Stamp}
 use Rattle.account_desk.specs.SoleDesk.{IsSoleDesk, account_at, of_desk, shown_of}
 
 abbrev pub stamp_after : ℕ → ℤ → Stamp

@@ -3,10 +3,10 @@ use Rattle.std.specs.Prelude.{◌≡◌, ℕ, List, [], length, map, slice_index
 use Rattle.cal_model.specs.AddedEntries.{added_signed}
 use Rattle.cal_model.specs.Answer.{answer, added}
 use Rattle.cal_model.specs.AnswerPlaces.{answer_place}
-use Rattle.model_batch.specs.Chain.{Rules, Shown}
-use Rattle.model_history.specs.Base.{Base, no_base}
-use Rattle.model_history.specs.Signed.{written_by}
-use Rattle.model_site.specs.Configuration.{Site}
+use Rattle.spec_batch.specs.Chain.{Rules, Shown}
+use Rattle.spec_history.specs.Base.{Base, no_base}
+use Rattle.spec_history.specs.Signed.{written_by}
+use Rattle.spec_site.specs.Configuration.{Site}
 
 -- what each account of a site is opened with
 abbrev pub bases : Site → List Base

@@ -6,11 +6,11 @@ use Rattle.account_lock.specs.Passes.{PassState}
 use Rattle.account_lock.specs.declared.locked.CallError.{CallError}
 use Rattle.account_lock.specs.declared.locked.CallError.TheVariants as pass
 use Rattle.account_desk.specs.FreshDesk.{account_rules}
-use Rattle.model_batch.specs.Chain.{Shown}
-use Rattle.model_batch.specs.declared.desk.DeskError.{DeskError}
-use Rattle.model_batch.specs.declared.desk.DeskError.TheVariants.{NoMemory, PassSpent}
-use Rattle.model_history.specs.Base.{no_base}
-use Rattle.model_history.specs.MostTurns.{most_turns}
+use Rattle.spec_batch.specs.Chain.{Shown}
+use Rattle.spec_batch.specs.declared.desk.DeskError.{DeskError}
+use Rattle.spec_batch.specs.declared.desk.DeskError.TheVariants.{NoMemory, PassSpent}
+use Rattle.spec_history.specs.Base.{no_base}
+use Rattle.spec_history.specs.MostTurns.{most_turns}
 
 -- The desk signs with the numbers of its passes, knows what they have seen, and the last turn on an account is that of its pass.
 abbrev pub shown_by_passes : List PassState × ℕ → Shown

@@ -1,15 +1,15 @@
 -- What contracts see of a desk that has its accounts for itself.
 use Rattle.std.specs.Prelude.{◌≡◌, ◌≤◌, ◌<◌, ◌^◌, ℕ, List, [], All, Result, Ok, Err, length, slice_index_or}
-use Rattle.model_history.specs.Base.{Base, no_base}
-use Rattle.model_batch.specs.Chain.{Shown}
+use Rattle.spec_history.specs.Base.{Base, no_base}
+use Rattle.spec_batch.specs.Chain.{Shown}
 use Rattle.account_desk.specs.FreshDesk.{account_rules, bases}
-use Rattle.model_history.specs.MostTurns.{most_turns}
-use Rattle.model_history.specs.Signed.{written_by}
-use Rattle.model_site.specs.Configuration.{Site}
-use Rattle.model_call.specs.declared.call.Reply.{Reply}
-use Rattle.model_batch.specs.declared.desk.DeskError.{DeskError}
-use Rattle.model_batch.specs.declared.desk.DeskError.TheVariants.{NoMemory}
-use Rattle.model_history.specs.declared.entry.Entry.{Entry}
+use Rattle.spec_history.specs.MostTurns.{most_turns}
+use Rattle.spec_history.specs.Signed.{written_by}
+use Rattle.spec_site.specs.Configuration.{Site}
+use Rattle.spec_calls.specs.declared.call.Reply.{Reply}
+use Rattle.spec_batch.specs.declared.desk.DeskError.{DeskError}
+use Rattle.spec_batch.specs.declared.desk.DeskError.TheVariants.{NoMemory}
+use Rattle.spec_history.specs.declared.entry.Entry.{Entry}
 
 -- the base and the entries of the account of a number; none are there where it has no such account
 abbrev pub account_at : List (Base × List Entry) → ℕ → Base × List Entry

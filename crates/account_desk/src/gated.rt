@@ -3,9 +3,9 @@ ghost use Rattle.std.specs.Prelude.{◌≡◌};
 
 use crate::gate::Gate;
 use account_core::account::Account;
-use model_call::call::{Call, Reply};
-use model_history::book::Book;
-use model_time::moment::Moment;
+use spec_calls::call::{Call, Reply};
+use spec_history::book::Book;
+use spec_time::moment::Moment;
 use std::alloc::AllocError;
 use std::marker::Model;
 
@@ -20,9 +20,9 @@ pub struct Gated {
 impl Model for Gated {
     ghost use Rattle.std.specs.Prelude.{List};
     ghost use Rattle.std.specs.Coded.{codes};
-    ghost use Rattle.model_history.specs.Base.{Base};
-    ghost use Rattle.model_json.specs.DataCode.{data_code};
-    ghost use Rattle.model_history.specs.declared.entry.Entry.{Entry};
+    ghost use Rattle.spec_history.specs.Base.{Base};
+    ghost use Rattle.spec_json.specs.DataCode.{data_code};
+    ghost use Rattle.spec_history.specs.declared.entry.Entry.{Entry};
 
     ghost Value = { Base × List Entry };
 

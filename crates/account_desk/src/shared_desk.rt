@@ -6,9 +6,9 @@ ghost use Rattle.account_desk.specs.SharedDesk.{greatest_turn, through_pass};
 use crate::gated::Gated;
 use account_lock::locked::{CallError, Locked};
 use account_lock::pass::Pass;
-use model_batch::desk::{Desk, DeskError};
-use model_call::call::{Call, Reply};
-use model_time::moment::Moment;
+use spec_batch::desk::{Desk, DeskError};
+use spec_calls::call::{Call, Reply};
+use spec_time::moment::Moment;
 use std::marker::Model;
 use std::sync::{Arc, Wait};
 
@@ -34,7 +34,7 @@ impl<W: Wait> Model for SharedDesk<W> {
     ghost use Rattle.std.specs.Prelude.{ℕ, List};
     ghost use Rattle.std.specs.Arc.{arc_value};
     ghost use Rattle.std.specs.Coded.{codes};
-    ghost use Rattle.model_json.specs.DataCode.{data_code};
+    ghost use Rattle.spec_json.specs.DataCode.{data_code};
     ghost use Rattle.account_lock.specs.Passes.{PassState};
     ghost use Rattle.account_desk.specs.SharedDesk.{IsSharedDesk};
 

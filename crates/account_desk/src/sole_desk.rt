@@ -4,10 +4,10 @@ ghost use Rattle.account_desk.specs.SoleDesk.{fresh_account, of_desk, shown_of};
 ghost use Rattle.account_desk.specs.FreshDesk.{IsSole, fresh_desk};
 
 use account_core::account::Account;
-use model_batch::desk::{Desk, DeskError};
-use model_call::call::{Call, Reply};
-use model_history::book::Book;
-use model_time::moment::Moment;
+use spec_batch::desk::{Desk, DeskError};
+use spec_calls::call::{Call, Reply};
+use spec_history::book::Book;
+use spec_time::moment::Moment;
 use session_doc::Site;
 use std::alloc::{AllocError, Global};
 use std::marker::Model;
@@ -30,9 +30,9 @@ impl Model for SoleDesk {
     ghost use Rattle.std.specs.Prelude.{ℕ, List};
     ghost use Rattle.std.specs.Coded.{codes};
     ghost use Rattle.account_desk.specs.SoleDesk.{IsSoleDesk};
-    ghost use Rattle.model_history.specs.Base.{Base};
-    ghost use Rattle.model_json.specs.DataCode.{data_code};
-    ghost use Rattle.model_history.specs.declared.entry.Entry.{Entry};
+    ghost use Rattle.spec_history.specs.Base.{Base};
+    ghost use Rattle.spec_json.specs.DataCode.{data_code};
+    ghost use Rattle.spec_history.specs.declared.entry.Entry.{Entry};
 
     ghost Value = { List (Base × List Entry) × ℕ };
 

@@ -1,6 +1,6 @@
 -- Sums of the amounts of a counter book.
 use Rattle.std.proofs.Common.{◌≡◌, ◌+◌, List, [], ◌∷◌, ◌++◌, arith}
-use Rattle.model_history.specs.declared.entry.Entry.{Entry}
+use Rattle.spec_history.specs.declared.entry.Entry.{Entry}
 use Rattle.account_lock.specs.Counter.{sum_of_ids}
 
 pub sum_of_ids_append : (xs ys : List Entry) → sum_of_ids (xs ++ ys) ≡ sum_of_ids xs + sum_of_ids ys

@@ -1,9 +1,9 @@
 -- Entries of one author, their authors and their turns, where entries are added.
 use Rattle.std.proofs.Common.{◌≡◌, ◌≢◌, ℕ, ◌<◌, ◌≤◌, ◌==◌, List, [], ◌∷◌, ◌++◌, sym, refl, ap, ◌∙◌, arith, eq-eqb, ne_eqb}
 use Rattle.std.proofs.lemmas.List.Elements.{filter-append}
-use Rattle.model_history.specs.Signed.{written_by}
-use Rattle.model_history.specs.Signed.{AreSigned}
-use Rattle.model_history.specs.declared.entry.Entry.{Entry}
+use Rattle.spec_history.specs.Signed.{written_by}
+use Rattle.spec_history.specs.Signed.{AreSigned}
+use Rattle.spec_history.specs.declared.entry.Entry.{Entry}
 use Rattle.account_lock.specs.HistoryRule.{AuthorsBelow, TurnsUpTo, TurnsFrom, TurnsRise}
 
 pub written_by-append : (a : ℕ) (xs ys : List Entry) → written_by a (xs ++ ys) ≡ written_by a xs ++ written_by a ys

@@ -5,12 +5,12 @@ use Rattle.std.proofs.lemmas.List.{append_cancel_left}
 use mathlib.Core.Logic.{dite}
 use native.Mathlib.Decide.{ℕ_discrete}
 use Rattle.atomic_table.proofs.Lists.{at_longer, set_here, set_else}
-use Rattle.model_history.specs.Base.{Base}
+use Rattle.spec_history.specs.Base.{Base}
 use Rattle.account_lock.specs.Lock.{PassView, has_turn, has_read}
-use Rattle.model_history.specs.Signed.{written_by, Begins, Extends}
+use Rattle.spec_history.specs.Signed.{written_by, Begins, Extends}
 use Rattle.account_lock.specs.LockSteps.{having_read, having_added, having_split, split_off}
-use Rattle.model_history.specs.Signed.{AreSigned}
-use Rattle.model_history.specs.declared.entry.Entry.{Entry}
+use Rattle.spec_history.specs.Signed.{AreSigned}
+use Rattle.spec_history.specs.declared.entry.Entry.{Entry}
 use Rattle.account_lock.specs.declared.lock.Phase.{Phase}
 use Rattle.account_lock.specs.declared.lock.Phase.TheVariants.{Idle, Waits, Turn, Read, Done}
 use Rattle.account_lock.specs.TicketRule.{At}

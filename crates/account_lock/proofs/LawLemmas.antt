@@ -3,10 +3,10 @@ use Rattle.std.proofs.Common.{◌≡◌, ℕ, zero, suc, ◌<◌, ◌≤◌, Lis
 use Rattle.std.specs.Prelude.{slice_index_or}
 use mathlib.Core.Option.{some}
 use Rattle.atomic_table.specs.Table.{State}
-use Rattle.model_history.specs.Base.{Base}
+use Rattle.spec_history.specs.Base.{Base}
 use Rattle.account_lock.specs.Lock.{PassView, IsTicketLock}
-use Rattle.model_history.specs.Signed.{written_by}
-use Rattle.model_history.specs.declared.entry.Entry.{Entry}
+use Rattle.spec_history.specs.Signed.{written_by}
+use Rattle.spec_history.specs.declared.entry.Entry.{Entry}
 use Rattle.account_lock.specs.HistoryRule.{AuthorsBelow, TurnsUpTo, TurnsFrom, TurnsRise}
 use Rattle.account_lock.specs.Rule.{RuleHolds, lock_of, slot_of}
 use Rattle.account_lock.specs.LockSteps.{IsReached}

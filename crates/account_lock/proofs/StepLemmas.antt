@@ -6,13 +6,13 @@ use mathlib.Core.Logic.{dite}
 use native.Mathlib.Decide.{ℕ_discrete}
 use Rattle.atomic_table.specs.Table.{State, Me, Step, step, keeps, takes, gives, put_back, stepped, Allows, Splits, opening}
 use Rattle.atomic_table.proofs.Lists.{at_longer, set_here, set_else, set_again}
-use Rattle.model_history.specs.Base.{Base}
-use Rattle.model_history.specs.MostTurns.{most_turns}
+use Rattle.spec_history.specs.Base.{Base}
+use Rattle.spec_history.specs.MostTurns.{most_turns}
 use Rattle.account_lock.specs.Lock.{PassView, TicketLock, in_line, has_turn, has_read}
 use Rattle.account_lock.specs.LockSteps.{with_ticket, with_turn, having_read, having_added, out_of_line, new_pass, having_split, split_off, StepKind, MayCome, ChangesLock, IsReached}
 use Rattle.account_lock.specs.LockSteps as kind
-use Rattle.model_history.specs.Signed.{AreSigned, Extends}
-use Rattle.model_history.specs.declared.entry.Entry.{Entry}
+use Rattle.spec_history.specs.Signed.{AreSigned, Extends}
+use Rattle.spec_history.specs.declared.entry.Entry.{Entry}
 use Rattle.account_lock.specs.declared.lock.Phase.TheVariants.{Idle, Waits, Turn, Read, Done}
 use Rattle.account_lock.specs.HistoryRule.{Knows, TurnsUpTo, TurnsRise}
 use Rattle.account_lock.specs.Rule.{SlotHolds, RuleHolds, lock_at, slot_of}

@@ -5,7 +5,7 @@ use mathlib.Core.Logic.{dite}
 use native.Mathlib.Decide.{ℕ_discrete}
 use lib.ListN.{get_elem?}
 use Rattle.atomic_table.proofs.Lists.{at_longer, set_here, set_else}
-use Rattle.model_history.specs.MostTurns.{most_turns}
+use Rattle.spec_history.specs.MostTurns.{most_turns}
 use Rattle.account_lock.specs.Lock.{PassView, in_line, has_turn}
 use Rattle.account_lock.specs.LockSteps.{with_ticket, out_of_line, having_split, split_off}
 use Rattle.account_lock.specs.declared.lock.Phase.{Phase}

@@ -1,9 +1,9 @@
 -- A book of amounts, whose replies are their sum.
 use Rattle.std.specs.Prelude.{ℕ, ◌+◌, ◌==◌, ◌||◌, Bool, true, false, refl, List, [], ◌∷◌, length, min, None, if◌then◌else◌}
-use Rattle.model_history.specs.Signed.{AreSigned}
-use Rattle.model_history.specs.declared.entry.Entry.{Entry}
-use Rattle.model_history.specs.declared.entry.Kind.TheVariants.{Calendar}
-use Rattle.model_history.specs.declared.stamp.Stamp.{Stamp}
+use Rattle.spec_history.specs.Signed.{AreSigned}
+use Rattle.spec_history.specs.declared.entry.Entry.{Entry}
+use Rattle.spec_history.specs.declared.entry.Kind.TheVariants.{Calendar}
+use Rattle.spec_history.specs.declared.stamp.Stamp.{Stamp}
 
 abbrev pub sum_of_ids : List Entry → ℕ
 sum_of_ids [] = 0

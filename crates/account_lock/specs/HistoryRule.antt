@@ -1,9 +1,9 @@
 -- What the rule of the lock's table says of the history and of what passes know of it.
 use Rattle.std.specs.Prelude.{◌≡◌, ℕ, ◌<◌, ◌≤◌, IsTrue, List, [], ◌∷◌, ◌++◌, length}
-use Rattle.model_history.specs.Base.{Base}
+use Rattle.spec_history.specs.Base.{Base}
 use Rattle.account_lock.specs.Lock.{PassView, has_read}
-use Rattle.model_history.specs.Signed.{written_by, Begins}
-use Rattle.model_history.specs.declared.entry.Entry.{Entry}
+use Rattle.spec_history.specs.Signed.{written_by, Begins}
+use Rattle.spec_history.specs.declared.entry.Entry.{Entry}
 use Rattle.account_lock.specs.declared.lock.Phase.TheVariants.{Turn}
 use Rattle.account_lock.specs.TicketRule.{At}
 

@@ -1,9 +1,9 @@
 -- A ticket lock round a book, and what holds of it between any two steps of any threads.
 use Rattle.std.specs.Prelude.{◌≡◌, ◌≢◌, ℕ, ◌+◌, ◌<◌, ◌≤◌, Bool, true, false, IsTrue, List, ◌++◌, length, sum_by, count_by, All, slice_get, Option, Some, None}
 use Rattle.std.specs.List.Sorted.{IsNonDecreasingBy}
-use Rattle.model_history.specs.Base.{Base}
-use Rattle.model_history.specs.Signed.{written_by, Begins}
-use Rattle.model_history.specs.declared.entry.Entry.{Entry}
+use Rattle.spec_history.specs.Base.{Base}
+use Rattle.spec_history.specs.Signed.{written_by, Begins}
+use Rattle.spec_history.specs.declared.entry.Entry.{Entry}
 use Rattle.account_lock.specs.declared.lock.Phase.{Phase}
 use Rattle.account_lock.specs.declared.lock.Phase.TheVariants.{Idle, Waits, Turn, Read, Done}
 

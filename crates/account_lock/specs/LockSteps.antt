@@ -1,10 +1,10 @@
 -- The eight kinds of step of a ticket lock: what each makes of the view of the pass that steps, when it may come, and what it makes of the lock.
 use Rattle.std.specs.Prelude.{◌≡◌, ◌≢◌, ℕ, ◌+◌, ◌<◌, List, [], ◌∷◌, ◌++◌, length, slice_get, slice_set, Some, None}
-use Rattle.model_history.specs.Base.{Base}
-use Rattle.model_history.specs.MostTurns.{most_turns}
-use Rattle.model_history.specs.Signed.{AreSigned}
+use Rattle.spec_history.specs.Base.{Base}
+use Rattle.spec_history.specs.MostTurns.{most_turns}
+use Rattle.spec_history.specs.Signed.{AreSigned}
 use Rattle.account_lock.specs.Lock.{PassView, TicketLock}
-use Rattle.model_history.specs.declared.entry.Entry.{Entry}
+use Rattle.spec_history.specs.declared.entry.Entry.{Entry}
 use Rattle.account_lock.specs.declared.lock.Phase.TheVariants.{Idle, Waits, Turn, Read, Done}
 
 -- the view of a pass that took this ticket

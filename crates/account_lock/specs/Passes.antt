@@ -1,13 +1,13 @@
 -- What contracts see of a pass, and what a call makes of it.
 use Rattle.std.specs.Prelude.{◌≡◌, ℕ, ◌+◌, ℤ, List, [], ◌++◌}
 use Rattle.atomic_table.specs.Seated.{TableId}
-use Rattle.model_history.specs.Base.{Base}
+use Rattle.spec_history.specs.Base.{Base}
 use Rattle.account_lock.specs.Lock.{PassView}
 use Rattle.account_lock.specs.declared.lock.Phase.{Phase}
 use Rattle.account_lock.specs.declared.lock.Phase.TheVariants.{Idle}
-use Rattle.model_history.specs.declared.entry.Entry.{Entry}
-use Rattle.model_history.specs.declared.stamp.Stamp.{Stamp}
-use Rattle.model_history.specs.Signed.{Extends}
+use Rattle.spec_history.specs.declared.entry.Entry.{Entry}
+use Rattle.spec_history.specs.declared.stamp.Stamp.{Stamp}
+use Rattle.spec_history.specs.Signed.{Extends}
 
 -- a pass as its owner sees it
 pub record PassState : Type 0 where

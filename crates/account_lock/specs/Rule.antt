@@ -3,10 +3,10 @@ use Rattle.std.specs.Prelude.{◌≡◌, ℕ, ◌⊎◌, IsTrue, List, [], ◌�
 use mathlib.Core.Option.{none, some}
 use mathlib.Core.Option as table
 use Rattle.atomic_table.specs.Table.{State}
-use Rattle.model_history.specs.Base.{Base}
+use Rattle.spec_history.specs.Base.{Base}
 use Rattle.account_lock.specs.Lock.{PassView, TicketLock, has_turn}
 use Rattle.account_lock.specs.LockSteps.{IsReached}
-use Rattle.model_history.specs.declared.entry.Entry.{Entry}
+use Rattle.spec_history.specs.declared.entry.Entry.{Entry}
 use Rattle.account_lock.specs.TicketRule.{At, TicketsHold, PassesHold}
 use Rattle.account_lock.specs.HistoryRule.{HistoryHolds}
 

@@ -2,11 +2,11 @@
 use Rattle.std.specs.Prelude.{◌≡◌, ◌≢◌, ℕ, List, [], ◌∷◌, length, Option, Some, None}
 use Rattle.atomic_table.specs.Seated.{TableId}
 use Rattle.atomic_table.specs.Table.{Me, Step, rest}
-use Rattle.model_history.specs.Base.{Base}
+use Rattle.spec_history.specs.Base.{Base}
 use Rattle.account_lock.specs.Lock.{PassView}
 use Rattle.account_lock.specs.LockSteps.{with_ticket, with_turn, having_read, having_added, out_of_line}
-use Rattle.model_history.specs.declared.entry.Entry.{Entry}
-use Rattle.model_history.specs.Signed.{Extends}
+use Rattle.spec_history.specs.declared.entry.Entry.{Entry}
+use Rattle.spec_history.specs.Signed.{Extends}
 
 -- the seat is at this table, which has the three words of a lock
 abbrev pub IsSeatOf : TableId → TableId → Type 0

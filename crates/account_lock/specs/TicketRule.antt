@@ -2,7 +2,7 @@
 use Rattle.std.specs.Prelude.{◌≡◌, ℕ, ◌+◌, ◌<◌, ◌≤◌, IsTrue, List, length, sum_by, count_by}
 use mathlib.Core.Option.{some}
 use lib.ListN.{get_elem?}
-use Rattle.model_history.specs.MostTurns.{most_turns}
+use Rattle.spec_history.specs.MostTurns.{most_turns}
 use Rattle.account_lock.specs.Lock.{PassView, in_line, has_turn}
 
 -- the pass whose view stands at this place

@@ -1,9 +1,9 @@
 //! A book of amounts, for tests of the lock.
 ghost use Rattle.std.specs.Prelude.{◌≡◌, []};
 
-use model_history::book::Book;
-use model_history::entry::{Change, Entry, Kind};
-use model_time::moment::Moment;
+use spec_history::book::Book;
+use spec_history::entry::{Change, Entry, Kind};
+use spec_time::moment::Moment;
 use std::alloc::{AllocError, Global};
 use std::marker::Model;
 
@@ -27,8 +27,8 @@ pub struct CounterBook {
 impl Model for CounterBook {
     ghost use Rattle.std.specs.Prelude.{◌≡◌, ◌*◌, ◌≤◌, List, length};
     ghost use Rattle.std.specs.Coded.{codes};
-    ghost use Rattle.model_json.specs.DataCode.{data_code};
-    ghost use Rattle.model_history.specs.declared.entry.Entry.{Entry};
+    ghost use Rattle.spec_json.specs.DataCode.{data_code};
+    ghost use Rattle.spec_history.specs.declared.entry.Entry.{Entry};
     ghost use Rattle.account_lock.specs.Counter.{sum_of_ids, most_entries};
 
     ghost Value = { List Entry };
@@ -63,7 +63,7 @@ impl CounterBook {
 impl Book for CounterBook {
     ghost use Rattle.std.specs.Prelude.{◌+◌};
     ghost use Rattle.account_lock.specs.Counter.{sum_of_ids, amount_added, amount_added_signed, amount_counted};
-    ghost use Rattle.model_history.specs.Base.{no_base};
+    ghost use Rattle.spec_history.specs.Base.{no_base};
 
     type Call = Add;
 

@@ -1,6 +1,6 @@
 //! The lock, and the calls of its passes.
 ghost use Rattle.std.specs.Prelude.{◌≡◌, ◌↔◌, ℕ, ◌+◌, ◌<◌, ◌≤◌, [], Err, Some, IfOk, OnOk, OnErr, IfErr, vec_len, vec_capacity, slice_get};
-ghost use Rattle.model_history.specs.MostTurns.{most_turns};
+ghost use Rattle.spec_history.specs.MostTurns.{most_turns};
 ghost use Rattle.account_lock.specs.LockSteps.{having_read, having_added, new_pass};
 ghost use Rattle.account_lock.specs.declared.lock.Phase.TheVariants.{Idle, Turn};
 ghost use Rattle.account_lock.specs.Passes.{PassState, IsAnswered, HasFailed, state_of, opened_pass};
@@ -15,9 +15,9 @@ use crate::steps::{
 };
 use crate::view::View;
 use atomic_table::Table;
-use model_history::book::Book;
-use model_history::stamp::Stamp;
-use model_time::moment::Moment;
+use spec_history::book::Book;
+use spec_history::stamp::Stamp;
+use spec_time::moment::Moment;
 use std::alloc::{AllocError, Global};
 use std::marker::{Brand, Model};
 use std::snapshot::Snapshot;

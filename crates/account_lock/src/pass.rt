@@ -1,9 +1,9 @@
 //! A pass of a lock.
 ghost use Rattle.std.specs.Prelude.{◌≡◌, ◌≤◌};
-ghost use Rattle.model_history.specs.MostTurns.{most_turns};
+ghost use Rattle.spec_history.specs.MostTurns.{most_turns};
 
 use crate::steps::PassSeat;
-use model_history::book::Book;
+use spec_history::book::Book;
 use std::marker::Model;
 
 /// A thread's right to call the book of a lock. Contracts see which lock it is of, the lock's base, its number, the
@@ -18,8 +18,8 @@ pub struct Pass<B: Book> {
 impl<B: Book> Model for Pass<B> {
     ghost use Rattle.std.specs.Prelude.{◌≡◌, ◌≤◌, []};
     ghost use Rattle.std.specs.Coded.{codes};
-    ghost use Rattle.model_json.specs.DataCode.{data_code};
-    ghost use Rattle.model_history.specs.MostTurns.{most_turns};
+    ghost use Rattle.spec_json.specs.DataCode.{data_code};
+    ghost use Rattle.spec_history.specs.MostTurns.{most_turns};
     ghost use Rattle.account_lock.specs.declared.lock.Phase.TheVariants.{Idle};
     ghost use Rattle.account_lock.specs.Passes.{PassState, state_of};
 

@@ -1,13 +1,13 @@
 //! The rule of the lock's table, and what its steps tell.
 ghost use Rattle.std.specs.Prelude.{List, []};
 ghost use Rattle.account_lock.specs.LockSteps.{new_pass, having_split, split_off};
-ghost use Rattle.model_history.specs.declared.entry.Entry.{Entry};
+ghost use Rattle.spec_history.specs.declared.entry.Entry.{Entry};
 ghost use Rattle.account_lock.specs.Rule.{RuleHolds};
 ghost use Rattle.account_lock.specs.StepNews.{took_ticket, looked, read_count, added_entries, left_line};
 
 use crate::view::View;
 use atomic_table::{Play, Split, TableRule};
-use model_history::book::Book;
+use spec_history::book::Book;
 use std::marker::{Brand, PhantomData};
 use std::snapshot::Snapshot;
 

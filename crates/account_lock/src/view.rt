@@ -8,7 +8,7 @@ pub struct View {}
 impl Model for View {
     ghost use Rattle.std.specs.Prelude.{[]};
     ghost use Rattle.std.specs.Coded.{codes};
-    ghost use Rattle.model_json.specs.DataCode.{data_code};
+    ghost use Rattle.spec_json.specs.DataCode.{data_code};
     ghost use Rattle.account_lock.specs.Lock.{PassView};
     ghost use Rattle.account_lock.specs.LockSteps.{new_pass};
 

@@ -1,17 +1,17 @@
 -- What one change more says.
 use Rattle.std.proofs.Common.{◌≡◌, ◌==◌, Bool, true, false, cond, ℕ, List, [], ◌∷◌, ◌++◌, Option, None, is_some, option_and_then, if◌then◌else◌, refl, ap, ◌∙◌}
-use Rattle.model_history.specs.History.{ids_from, is_kind, live_object, names, object_from, with_id}
-use Rattle.model_history.specs.Pages.{is_in}
-use Rattle.model_history.specs.declared.entry.Change.{Change}
-use Rattle.model_history.specs.declared.entry.Kind.{Kind}
-use Rattle.model_history.specs.declared.entry.Kind.TheVariants.{Calendar, Event}
-use Rattle.model_json.specs.declared.tree.Tree.{Tree}
-use Rattle.model_resource.specs.Bookings.{booked_in, bookings_of}
-use Rattle.model_resource.specs.Resources.{is_resource, zone_of_resource}
-use Rattle.model_room.specs.Bookings.{without_booking}
-use Rattle.model_site.specs.TimeZones.{ZoneText}
-use Rattle.room_history.proofs.Folded.{from_more}
-use Rattle.room_history.specs.HistoryBookings.{booked_by, with_booked}
+use Rattle.spec_history.specs.History.{ids_from, is_kind, live_object, names, object_from, with_id}
+use Rattle.spec_history.specs.Pages.{is_in}
+use Rattle.spec_history.specs.declared.entry.Change.{Change}
+use Rattle.spec_history.specs.declared.entry.Kind.{Kind}
+use Rattle.spec_history.specs.declared.entry.Kind.TheVariants.{Calendar, Event}
+use Rattle.spec_json.specs.declared.tree.Tree.{Tree}
+use Rattle.spec_bookings.specs.BookedResources.{booked_in, bookings_of}
+use Rattle.spec_bookings.specs.Resources.{is_resource, zone_of_resource}
+use Rattle.spec_bookings.specs.Bookings.{without_booking}
+use Rattle.spec_site.specs.TimeZones.{ZoneText}
+use Rattle.spec_bookings.proofs.Folded.{from_more}
+use Rattle.spec_bookings.specs.HistoryBookings.{booked_by, with_booked}
 
 abbrev pub change : Kind → ℕ → Option Tree → Change
 change kind id o = record { kind = kind; id = id; object = o }

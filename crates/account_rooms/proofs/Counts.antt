@@ -1,9 +1,9 @@
 -- How many bookings there are with one more and with one less.
 use Rattle.std.proofs.Common.{◌≡◌, ◌≤◌, ◌+◌, ◌==◌, nat_lt, ℕ, List, [], ◌∷◌, length, arith, refl}
-use Rattle.model_room.specs.Bookings.{with_booking, without_booking}
-use Rattle.model_room.specs.declared.booking.Booking.{Booking}
-use Rattle.model_series.specs.declared.series.Series.{Series}
-use Rattle.room_history.proofs.Tables.{by_test}
+use Rattle.spec_bookings.specs.Bookings.{with_booking, without_booking}
+use Rattle.spec_bookings.specs.declared.booking.Booking.{Booking}
+use Rattle.spec_series.specs.declared.series.Series.{Series}
+use Rattle.spec_bookings.proofs.Tables.{by_test}
 
 pub length-without : (n : ℕ) (bs : List Booking) → length (without_booking n bs) ≤ length bs
 length-without n [] = omega arith

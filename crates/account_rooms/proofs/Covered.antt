@@ -3,12 +3,12 @@ use Rattle.std.proofs.Common.{◌≡◌, ◌<◌, ◌⊎◌, inl, inr, ◌&&◌,
 use Rattle.std.proofs.lemmas.Bool.{false≢true}
 use Rattle.std.proofs.lemmas.Option.{same_Some}
 use Rattle.account_rooms.specs.Covered.{IsCoveredTwice}
-use Rattle.model_room.specs.Clashes.{any_covers}
-use Rattle.model_room.specs.declared.booking.Booking.{Booking}
-use Rattle.model_series.specs.Occurrences.{IsOccurrence}
-use Rattle.model_series.specs.Shared.{covers, covers_twice}
+use Rattle.spec_bookings.specs.Clashes.{any_covers}
+use Rattle.spec_bookings.specs.declared.booking.Booking.{Booking}
+use Rattle.spec_series.specs.Occurrences.{IsOccurrence}
+use Rattle.spec_series.specs.Shared.{covers, covers_twice}
 use Rattle.residue_clash.proofs.Covering.{covers_is, covers_twice_is}
-use Rattle.room_history.specs.Free.{IsFree, is_double}
+use Rattle.spec_bookings.specs.Free.{IsFree, is_double}
 
 or_left : (a b : Bool) → a ≡ true → (a || b) ≡ true
 or_left a b h = rw h refl

@@ -10,28 +10,28 @@ use Rattle.account_rooms.specs.RoomChanges.{MayChange, booked_again, rooms_after
 use Rattle.account_rooms.specs.Rooms.{AreFree, AreRooms, BookedRoom, bookings_in, has_room, room_at, rooms_at}
 use Rattle.cal_model.specs.EventObject.{has_event, names_missing_calendar}
 use Rattle.cal_model.specs.Fits.{IsFit, IsObjectFit}
-use Rattle.model_event.specs.Events.{calendars_of, names_calendar}
-use Rattle.model_history.specs.History.{ids_at, live_object, next_number, with_id}
-use Rattle.model_history.specs.Pages.{is_in}
-use Rattle.model_history.specs.declared.entry.Change.{Change}
-use Rattle.model_history.specs.declared.entry.Kind.{Kind}
-use Rattle.model_history.specs.declared.entry.Kind.TheVariants.{Calendar, Event}
-use Rattle.model_json.specs.TreeData.{data_of}
-use Rattle.model_json.specs.declared.tree.Tree.{Tree}
-use Rattle.model_recurrence.specs.SeriesOf.{series_in}
-use Rattle.model_resource.proofs.Numbered.{in_filter, numbered_if_live, resource_is_live}
-use Rattle.model_resource.specs.Bookings.{booked_in, bookings_of}
-use Rattle.model_resource.specs.Resources.{is_resource, resources_at, zone_of_resource}
-use Rattle.model_resource.specs.declared.limits.TheConstants.{MAX_BOOKINGS}
-use Rattle.model_room.specs.Bookings.{without_booking}
-use Rattle.model_room.specs.declared.booking.Booking.{Booking}
-use Rattle.model_site.specs.TimeZones.{ZoneText}
-use Rattle.room_history.proofs.Doubles.{double-with, double-without}
-use Rattle.room_history.proofs.Folded.{each_is}
-use Rattle.room_history.proofs.Tables.{by_test, number_same, same_number}
-use Rattle.room_history.specs.Free.{IsFree}
-use Rattle.room_history.specs.HistoryBookings.{booked_by, with_booked}
-use Rattle.room_history.specs.Rising.{series_booked}
+use Rattle.spec_events.specs.Events.{calendars_of, names_calendar}
+use Rattle.spec_history.specs.History.{ids_at, live_object, next_number, with_id}
+use Rattle.spec_history.specs.Pages.{is_in}
+use Rattle.spec_history.specs.declared.entry.Change.{Change}
+use Rattle.spec_history.specs.declared.entry.Kind.{Kind}
+use Rattle.spec_history.specs.declared.entry.Kind.TheVariants.{Calendar, Event}
+use Rattle.spec_json.specs.TreeData.{data_of}
+use Rattle.spec_json.specs.declared.tree.Tree.{Tree}
+use Rattle.spec_recurrence.specs.SeriesOf.{series_in}
+use Rattle.spec_bookings.proofs.Numbered.{in_filter, numbered_if_live, resource_is_live}
+use Rattle.spec_bookings.specs.BookedResources.{booked_in, bookings_of}
+use Rattle.spec_bookings.specs.Resources.{is_resource, resources_at, zone_of_resource}
+use Rattle.spec_bookings.specs.declared.limits.TheConstants.{MAX_BOOKINGS}
+use Rattle.spec_bookings.specs.Bookings.{without_booking}
+use Rattle.spec_bookings.specs.declared.booking.Booking.{Booking}
+use Rattle.spec_site.specs.TimeZones.{ZoneText}
+use Rattle.spec_bookings.proofs.Doubles.{double-with, double-without}
+use Rattle.spec_bookings.proofs.Folded.{each_is}
+use Rattle.spec_bookings.proofs.Tables.{by_test, number_same, same_number}
+use Rattle.spec_bookings.specs.Free.{IsFree}
+use Rattle.spec_bookings.specs.HistoryBookings.{booked_by, with_booked}
+use Rattle.spec_bookings.specs.Rising.{series_booked}
 
 -- Rooms.
 

@@ -4,3 +4,8 @@ pub mod Counts
 pub mod Following
 pub mod Slots
 pub mod Covered
+pub mod Earlier
+pub mod Seconds
+pub mod Others
+pub mod Resources
+pub mod Outcomes

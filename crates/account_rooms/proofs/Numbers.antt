@@ -3,10 +3,10 @@ use Rattle.std.proofs.Common.{◌≡◌, ◌==◌, ◌||◌, Bool, true, false, 
 use Rattle.std.proofs.lemmas.Bool.{false≢true}
 use Rattle.std.proofs.lemmas.List.Folds.{list_any-append}
 use Rattle.std.specs.List.{list_any}
-use Rattle.model_history.specs.History.{some_object}
-use Rattle.model_history.specs.Pages.{is_in}
-use Rattle.model_json.specs.declared.tree.Tree.{Tree}
-use Rattle.room_history.proofs.Tables.{or_false, same_number}
+use Rattle.spec_history.specs.History.{some_object}
+use Rattle.spec_history.specs.Pages.{is_in}
+use Rattle.spec_json.specs.declared.tree.Tree.{Tree}
+use Rattle.spec_bookings.proofs.Tables.{or_false, same_number}
 
 pub filter_same : (p q : ℕ → Bool) (ns : List ℕ) → ((n : ℕ) → p n ≡ q n) → filter p ns ≡ filter q ns
 filter_same p q [] h = refl

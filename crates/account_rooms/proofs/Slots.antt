@@ -8,16 +8,16 @@ use Rattle.account_rooms.specs.Rooms.{BookedRoom, has_room}
 use Rattle.account_rooms.specs.RoomsView.{RoomsView}
 use Rattle.account_rooms.specs.Slots.{booked, closed, kept_slot, retired, room_kept, room_now, rooms_kept, rooms_now, is_booked_by, undone}
 use Rattle.account_rooms.specs.declared.slot.Slot.{Slot}
-use Rattle.model_event.specs.Events.{names_calendar}
-use Rattle.model_json.specs.TreeData.{data_of}
-use Rattle.model_json.specs.declared.tree.Tree.{Tree}
-use Rattle.model_recurrence.specs.SeriesOf.{series_in}
-use Rattle.model_room.specs.Bookings.{with_booking, without_booking}
-use Rattle.model_series.specs.Lengths.{IsWeekLong}
-use Rattle.model_series.specs.declared.series.Series.{Series}
-use Rattle.model_site.specs.TimeZones.{ZoneText}
+use Rattle.spec_events.specs.Events.{names_calendar}
+use Rattle.spec_json.specs.TreeData.{data_of}
+use Rattle.spec_json.specs.declared.tree.Tree.{Tree}
+use Rattle.spec_recurrence.specs.SeriesOf.{series_in}
+use Rattle.spec_bookings.specs.Bookings.{with_booking, without_booking}
+use Rattle.spec_series.specs.Lengths.{IsWeekLong}
+use Rattle.spec_series.specs.declared.series.Series.{Series}
+use Rattle.spec_site.specs.TimeZones.{ZoneText}
 use Rattle.resource_book.specs.RoomView.{RoomView}
-use Rattle.room_history.proofs.Tables.{by_test, number_same, or_false}
+use Rattle.spec_bookings.proofs.Tables.{by_test, number_same, or_false}
 
 module _ {X : Type 0} where
   head_same : (x y : X) (xs ys : List X) → x ∷ xs ≡ y ∷ ys → x ≡ y

@@ -1,12 +1,12 @@
 -- Seconds that bookings cover twice, as a fact over occurrences.
 use Rattle.std.specs.Prelude.{◌≡◌, ℕ, ℤ, List, Some, slice_get, true}
-use Rattle.model_history.specs.declared.entry.Change.{Change}
-use Rattle.model_resource.specs.Bookings.{bookings_of}
-use Rattle.model_resource.specs.Resources.{is_resource}
-use Rattle.model_room.specs.declared.booking.Booking.{Booking}
-use Rattle.model_series.specs.Occurrences.{Covers, IsOccurrence}
-use Rattle.model_series.specs.declared.occurrence.Occurrence.{Occurrence}
-use Rattle.model_site.specs.TimeZones.{ZoneText}
+use Rattle.spec_history.specs.declared.entry.Change.{Change}
+use Rattle.spec_bookings.specs.BookedResources.{bookings_of}
+use Rattle.spec_bookings.specs.Resources.{is_resource}
+use Rattle.spec_bookings.specs.declared.booking.Booking.{Booking}
+use Rattle.spec_series.specs.Occurrences.{Covers, IsOccurrence}
+use Rattle.spec_series.specs.declared.occurrence.Occurrence.{Occurrence}
+use Rattle.spec_site.specs.TimeZones.{ZoneText}
 
 -- an occurrence of one of the bookings covers x, and so does one that differs from it: of another booking, or with another recurrence id
 abbrev pub IsCoveredTwice : List Booking → ℤ → Type 0

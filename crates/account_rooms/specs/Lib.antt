@@ -3,3 +3,5 @@ pub mod Covered
 pub mod RoomChanges
 pub mod RoomsView
 pub mod Slots
+pub mod Twice
+pub mod Storing

@@ -1,21 +1,21 @@
 -- The rooms of an account after one change more.
 use Rattle.std.specs.Prelude.{◌≡◌, ◌==◌, ℕ, true, not, List, [], ◌∷◌, ◌++◌, Option, None, Some, filter, is_some, map, if◌then◌else◌}
 use Rattle.account_rooms.specs.Rooms.{BookedRoom, has_room}
-use Rattle.model_event.specs.Events.{names_calendar}
-use Rattle.model_history.specs.declared.entry.Change.{Change}
-use Rattle.model_history.specs.declared.entry.Kind.{Kind}
-use Rattle.model_history.specs.declared.entry.Kind.TheVariants.{Calendar, Event}
-use Rattle.model_json.specs.Data.{Data}
-use Rattle.model_json.specs.TreeData.{data_of}
-use Rattle.model_json.specs.declared.tree.Tree.{Tree}
-use Rattle.model_recurrence.specs.SeriesOf.{series_in}
-use Rattle.model_resource.specs.Bookings.{booked_in}
-use Rattle.model_resource.specs.Resources.{zone_of_resource}
-use Rattle.model_series.specs.Lengths.{IsWeekLong}
-use Rattle.model_series.specs.declared.series.Series.{Series}
-use Rattle.model_site.specs.TimeZones.{ZoneText}
-use Rattle.room_history.specs.HistoryBookings.{booked_by, with_booked}
-use Rattle.model_room.specs.Bookings.{without_booking}
+use Rattle.spec_events.specs.Events.{names_calendar}
+use Rattle.spec_history.specs.declared.entry.Change.{Change}
+use Rattle.spec_history.specs.declared.entry.Kind.{Kind}
+use Rattle.spec_history.specs.declared.entry.Kind.TheVariants.{Calendar, Event}
+use Rattle.spec_json.specs.Data.{Data}
+use Rattle.spec_json.specs.TreeData.{data_of}
+use Rattle.spec_json.specs.declared.tree.Tree.{Tree}
+use Rattle.spec_recurrence.specs.SeriesOf.{series_in}
+use Rattle.spec_bookings.specs.BookedResources.{booked_in}
+use Rattle.spec_bookings.specs.Resources.{zone_of_resource}
+use Rattle.spec_series.specs.Lengths.{IsWeekLong}
+use Rattle.spec_series.specs.declared.series.Series.{Series}
+use Rattle.spec_site.specs.TimeZones.{ZoneText}
+use Rattle.spec_bookings.specs.HistoryBookings.{booked_by, with_booked}
+use Rattle.spec_bookings.specs.Bookings.{without_booking}
 
 -- with a room that has no bookings, where the calendar has none
 abbrev pub with_room : ℕ → List BookedRoom → List BookedRoom

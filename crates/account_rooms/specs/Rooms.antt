@@ -1,15 +1,15 @@
 -- The rooms of an account: its live resource calendars, each with its bookings.
 use Rattle.std.specs.Prelude.{◌≡◌, ◌≤◌, ◌==◌, ℕ, Bool, true, List, [], ◌∷◌, None, length, map, if◌then◌else◌}
 use Rattle.std.specs.List.{list_any}
-use Rattle.model_history.specs.History.{live_object}
-use Rattle.model_history.specs.declared.entry.Change.{Change}
-use Rattle.model_history.specs.declared.entry.Kind.TheVariants.{Calendar}
-use Rattle.model_resource.specs.Bookings.{bookings_of}
-use Rattle.model_resource.specs.Resources.{is_resource, resources_at}
-use Rattle.model_resource.specs.declared.limits.TheConstants.{MAX_BOOKINGS}
-use Rattle.model_room.specs.declared.booking.Booking.{Booking}
-use Rattle.model_site.specs.TimeZones.{ZoneText}
-use Rattle.room_history.specs.Free.{IsFree}
+use Rattle.spec_history.specs.History.{live_object}
+use Rattle.spec_history.specs.declared.entry.Change.{Change}
+use Rattle.spec_history.specs.declared.entry.Kind.TheVariants.{Calendar}
+use Rattle.spec_bookings.specs.BookedResources.{bookings_of}
+use Rattle.spec_bookings.specs.Resources.{is_resource, resources_at}
+use Rattle.spec_bookings.specs.declared.limits.TheConstants.{MAX_BOOKINGS}
+use Rattle.spec_bookings.specs.declared.booking.Booking.{Booking}
+use Rattle.spec_site.specs.TimeZones.{ZoneText}
+use Rattle.spec_bookings.specs.Free.{IsFree}
 
 -- a resource calendar, by its number, with its bookings
 pub record BookedRoom : Type 0 where

@@ -2,11 +2,11 @@
 use Rattle.std.specs.Prelude.{ℕ, ◌==◌, ◌&&◌, Bool, true, false, List, None, filter, map, if◌then◌else◌}
 use Rattle.account_rooms.specs.Rooms.{BookedRoom}
 use Rattle.account_rooms.specs.declared.slot.Slot.{Slot}
-use Rattle.model_event.specs.Events.{names_calendar}
-use Rattle.model_json.specs.Data.{Data}
-use Rattle.model_room.specs.Bookings.{with_booking, without_booking}
-use Rattle.model_room.specs.declared.booking.Booking.{Booking}
-use Rattle.model_series.specs.declared.series.Series.{Series}
+use Rattle.spec_events.specs.Events.{names_calendar}
+use Rattle.spec_json.specs.Data.{Data}
+use Rattle.spec_bookings.specs.Bookings.{with_booking, without_booking}
+use Rattle.spec_bookings.specs.declared.booking.Booking.{Booking}
+use Rattle.spec_series.specs.declared.series.Series.{Series}
 
 abbrev pub room_now : Slot → BookedRoom
 room_now s = record { calendar = s.calendar; bookings = s.room.bookings }

@@ -4,13 +4,13 @@ ghost use Rattle.account_rooms.specs.RoomChanges.{MayChange, rooms_after};
 ghost use Rattle.account_rooms.specs.Covered.{AreCoveredOnce};
 ghost use Rattle.account_rooms.specs.Rooms.{AreFree, AreRooms, BookedRoom, bookings_in, has_room, rooms_at};
 ghost use Rattle.cal_model.specs.Fits.{IsFit};
-ghost use Rattle.model_history.specs.History.{ids_at, next_number};
-ghost use Rattle.model_history.specs.Pages.{is_in};
-ghost use Rattle.model_history.specs.declared.entry.Change.{Change};
-ghost use Rattle.model_history.specs.declared.entry.Kind.TheVariants.{Calendar};
-ghost use Rattle.model_resource.specs.Bookings.{bookings_of};
-ghost use Rattle.model_resource.specs.Resources.{is_resource, resources_at};
-ghost use Rattle.model_site.specs.TimeZones.{ZoneText};
+ghost use Rattle.spec_history.specs.History.{ids_at, next_number};
+ghost use Rattle.spec_history.specs.Pages.{is_in};
+ghost use Rattle.spec_history.specs.declared.entry.Change.{Change};
+ghost use Rattle.spec_history.specs.declared.entry.Kind.TheVariants.{Calendar};
+ghost use Rattle.spec_bookings.specs.BookedResources.{bookings_of};
+ghost use Rattle.spec_bookings.specs.Resources.{is_resource, resources_at};
+ghost use Rattle.spec_site.specs.TimeZones.{ZoneText};
 
 /// An account without changes has no rooms. A change that fits keeps what the rooms keep: among it, that no second of a resource is
 /// covered twice.

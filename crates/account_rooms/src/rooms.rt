@@ -3,10 +3,10 @@ ghost use Rattle.std.specs.Prelude.{◌≡◌, ◌≤◌, [], Some, IfNone, IfOk
 ghost use Rattle.account_rooms.specs.RoomChanges.{MayChange, booked_again, rooms_after, with_room, without_room};
 ghost use Rattle.account_rooms.specs.Rooms.{bookings_in, has_room};
 ghost use Rattle.account_rooms.specs.Slots.{rooms_kept, rooms_now};
-ghost use Rattle.model_history.specs.declared.entry.Kind.TheVariants.{Event as event_kind};
-ghost use Rattle.model_room.specs.Bookings.{without_booking};
-ghost use Rattle.model_room.specs.Clashes.{IsClash, IsClear, first_clash, second_of};
-ghost use Rattle.model_series.specs.Lengths.{IsWeekLong};
+ghost use Rattle.spec_history.specs.declared.entry.Kind.TheVariants.{Event as event_kind};
+ghost use Rattle.spec_bookings.specs.Bookings.{without_booking};
+ghost use Rattle.spec_bookings.specs.Clashes.{IsClash, IsClear, first_clash, second_of};
+ghost use Rattle.spec_series.specs.Lengths.{IsWeekLong};
 ghost use Rattle.rule_expand.specs.Least.{IsLeastOf};
 
 use crate::slot::{
@@ -14,10 +14,10 @@ use crate::slot::{
     slot_of, undo_all,
 };
 use event_series::read::series_of;
-use model_history::entry::{Change, Kind};
-use model_json::tree::Tree;
-use model_room::clash::Clash;
-use model_series::series::Series;
+use spec_history::entry::{Change, Kind};
+use spec_json::tree::Tree;
+use spec_bookings::clash::Clash;
+use spec_series::series::Series;
 use resource_book::Room;
 use std::alloc::{AllocError, Global};
 use std::marker::Model;

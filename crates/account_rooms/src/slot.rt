@@ -3,11 +3,11 @@ ghost use Rattle.std.specs.Prelude.{◌≡◌, IfNone, IfOk, IfSome, OnOk, false
 ghost use Rattle.std.specs.List.{list_any};
 ghost use Rattle.account_rooms.specs.Rooms.{bookings_in, has_room};
 ghost use Rattle.account_rooms.specs.Slots.{booked, closed, kept_slot, retired, room_kept, rooms_kept, rooms_now, is_booked_by, undone};
-ghost use Rattle.model_json.specs.TreeData.{data_of};
-ghost use Rattle.model_series.specs.Lengths.{IsWeekLong};
+ghost use Rattle.spec_json.specs.TreeData.{data_of};
+ghost use Rattle.spec_series.specs.Lengths.{IsWeekLong};
 
-use model_json::tree::Tree;
-use model_series::series::Series;
+use spec_json::tree::Tree;
+use spec_series::series::Series;
 use resource_book::Room;
 use single_event::calendars::names_calendar;
 use std::alloc::{AllocError, Global};

@@ -4,11 +4,11 @@ use Rattle.std.proofs.lemmas.Bool.{or_parts}
 use Rattle.std.proofs.lemmas.Grind.{common_steps}
 use Rattle.std.proofs.lemmas.List.{take-append-drop}
 use Rattle.std.proofs.lemmas.List.Elements.{filter-append}
-use Rattle.model_history.specs.History.{ids_at, ids_from, is_kind, live_object, names, object_from, with_id}
-use Rattle.model_history.specs.Pages.{is_in}
-use Rattle.model_history.specs.declared.entry.Change.{Change}
-use Rattle.model_history.specs.declared.entry.Kind.{Kind}
-use Rattle.model_json.specs.declared.tree.Tree.{Tree}
+use Rattle.spec_history.specs.History.{ids_at, ids_from, is_kind, live_object, names, object_from, with_id}
+use Rattle.spec_history.specs.Pages.{is_in}
+use Rattle.spec_history.specs.declared.entry.Change.{Change}
+use Rattle.spec_history.specs.declared.entry.Kind.{Kind}
+use Rattle.spec_json.specs.declared.tree.Tree.{Tree}
 use Rattle.state_log.proofs.SizeLemmas.{is_in-with_id}
 use Rattle.version_table.specs.Histories.{of_kind}
 

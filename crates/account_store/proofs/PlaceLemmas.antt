@@ -1,10 +1,10 @@
 -- What tables of places show.
 use Rattle.std.proofs.Common.{◌≡◌, ℕ, List, Option, None, Some, option_and_then, option_map, refl, sym, ap, ◌∙◌}
 use Rattle.std.specs.Option.{option_flatten}
-use Rattle.model_history.specs.History.{changes_of, ids_at, live_object}
-use Rattle.model_history.specs.declared.entry.Entry.{Entry}
-use Rattle.model_history.specs.declared.entry.Kind.{Kind}
-use Rattle.model_json.specs.declared.tree.Tree.{Tree}
+use Rattle.spec_history.specs.History.{changes_of, ids_at, live_object}
+use Rattle.spec_history.specs.declared.entry.Entry.{Entry}
+use Rattle.spec_history.specs.declared.entry.Kind.{Kind}
+use Rattle.spec_json.specs.declared.tree.Tree.{Tree}
 use Rattle.version_table.proofs.HistoryLemmas.{at_state, ids_are, live, newest}
 use Rattle.version_table.proofs.ReadingLemmas.{at_state_read, ids_read, latest_read, live_read}
 use Rattle.version_table.specs.Histories.{puts_in}

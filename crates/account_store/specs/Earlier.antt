@@ -1,9 +1,9 @@
 -- What an account held at an earlier state of a kind.
 use Rattle.std.specs.Prelude.{ℕ, List, filter, is_some, take}
-use Rattle.model_history.specs.History.{changes_of, ids_at, live_object}
-use Rattle.model_history.specs.declared.entry.Change.{Change}
-use Rattle.model_history.specs.declared.entry.Entry.{Entry}
-use Rattle.model_history.specs.declared.entry.Kind.{Kind}
+use Rattle.spec_history.specs.History.{changes_of, ids_at, live_object}
+use Rattle.spec_history.specs.declared.entry.Change.{Change}
+use Rattle.spec_history.specs.declared.entry.Entry.{Entry}
+use Rattle.spec_history.specs.declared.entry.Kind.{Kind}
 use Rattle.version_table.specs.Histories.{of_kind}
 
 -- the changes that led to state k of a kind (RFC 8620 section 5.1)

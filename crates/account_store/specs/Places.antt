@@ -1,9 +1,9 @@
 -- Where the objects of a history stand among its entries.
 use Rattle.std.specs.Prelude.{◌≡◌, ℕ, List, Option, Some, None, option_and_then, slice_get, if◌then◌else◌}
-use Rattle.model_history.specs.History.{changes_of, is_kind}
-use Rattle.model_history.specs.declared.entry.Entry.{Entry}
-use Rattle.model_history.specs.declared.entry.Kind.{Kind}
-use Rattle.model_json.specs.declared.tree.Tree.{Tree}
+use Rattle.spec_history.specs.History.{changes_of, is_kind}
+use Rattle.spec_history.specs.declared.entry.Entry.{Entry}
+use Rattle.spec_history.specs.declared.entry.Kind.{Kind}
+use Rattle.spec_json.specs.declared.tree.Tree.{Tree}
 use Rattle.version_table.specs.Histories.{puts_in, read_by}
 use Rattle.version_table.specs.Puts.{Put}
 

@@ -1,6 +1,6 @@
 -- What a store shows.
 use Rattle.std.specs.Prelude.{ℕ, min, List}
-use Rattle.model_history.specs.declared.entry.Entry.{Entry}
+use Rattle.spec_history.specs.declared.entry.Entry.{Entry}
 use Rattle.state_log.specs.Journal.{logged, spare_entries}
 use Rattle.account_store.specs.Tables.{spare_places}
 use Rattle.account_store.specs.declared.store.Store.{Store}

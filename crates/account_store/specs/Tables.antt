@@ -1,7 +1,7 @@
 -- What the tables of both kinds show.
 use Rattle.std.specs.Prelude.{ℕ, min, List}
-use Rattle.model_history.specs.declared.entry.Kind.{Kind}
-use Rattle.model_history.specs.declared.entry.Kind.TheVariants.{Calendar, Event}
+use Rattle.spec_history.specs.declared.entry.Kind.{Kind}
+use Rattle.spec_history.specs.declared.entry.Kind.TheVariants.{Calendar, Event}
 use Rattle.version_table.specs.Puts.{Put}
 use Rattle.version_table.specs.Table.{puts, spare_puts}
 use Rattle.account_store.specs.declared.tables.Tables.{Tables}

@@ -1,10 +1,10 @@
 //! The store of an account.
 ghost use Rattle.std.specs.Prelude.{◌≡◌, ◌<◌, ◌≤◌, ◌+◌, ◌++◌, ◌∷◌, ◌↔◌, [], false, is_some, length, map, None, option_and_then, option_copied, IfOk, IsErrOf, OnOk, if◌then◌else◌};
 ghost use Rattle.std.specs.Coded.{codes};
-ghost use Rattle.model_json.specs.DataCode.{data_code};
-ghost use Rattle.model_history.specs.History.{changes_of, ids_at, is_kind, live_at, live_object, state_at};
-ghost use Rattle.model_history.specs.Pages.{is_retained, mentions};
-ghost use Rattle.model_history.specs.declared.entry.Kind.{Kind};
+ghost use Rattle.spec_json.specs.DataCode.{data_code};
+ghost use Rattle.spec_history.specs.History.{changes_of, ids_at, is_kind, live_at, live_object, state_at};
+ghost use Rattle.spec_history.specs.Pages.{is_retained, mentions};
+ghost use Rattle.spec_history.specs.declared.entry.Kind.{Kind};
 ghost use Rattle.state_log.specs.IsPage.{IsPage};
 ghost use Rattle.state_log.specs.Journal.{logged};
 ghost use Rattle.state_log.specs.declared.journal.ChangesError;
@@ -13,9 +13,9 @@ ghost use Rattle.account_store.specs.Places.{ArePlaces, object_in};
 ghost use Rattle.account_store.specs.Tables.{told};
 
 use crate::tables::Tables;
-use model_history::entry::{Entry, Kind};
-use model_history::ids::Ids;
-use model_json::tree::Tree;
+use spec_history::entry::{Entry, Kind};
+use spec_history::ids::Ids;
+use spec_json::tree::Tree;
 use state_log::{ChangesError, Journal, Page};
 use std::alloc::{AllocError, Global};
 use version_table::Table;

@@ -1,10 +1,10 @@
 //! The tables of both kinds.
 ghost use Rattle.std.specs.Prelude.{◌≡◌, ◌<◌, ◌≤◌, ◌+◌, ◌++◌, ◌∷◌, [], OnOk, if◌then◌else◌};
-ghost use Rattle.model_history.specs.History.{is_kind};
-ghost use Rattle.model_history.specs.declared.entry.Kind.{Kind};
+ghost use Rattle.spec_history.specs.History.{is_kind};
+ghost use Rattle.spec_history.specs.declared.entry.Kind.{Kind};
 ghost use Rattle.version_table.specs.Table.{puts, spare_puts};
 
-use model_history::entry::Kind;
+use spec_history::entry::Kind;
 use std::alloc::{AllocError, Global};
 use version_table::Table;
 

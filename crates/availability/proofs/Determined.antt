@@ -3,8 +3,8 @@ use Rattle.std.proofs.Common.{◌≡◌, inl, inr, true, refl, sym, ◌∙◌, s
 use Rattle.std.proofs.lemmas.Int.{by_lt_z}
 use Rattle.jiff_core.proofs.SignedLemmas.{signed_arith}
 use Rattle.availability.proofs.Runs.{covers_is, is_covers, run_of}
-use Rattle.model_window.specs.declared.period.Period.{Period}
-use Rattle.model_window.specs.BusyPeriods.{are_runs, lies_in, is_busy}
+use Rattle.spec_windows.specs.declared.period.Period.{Period}
+use Rattle.spec_windows.specs.BusyPeriods.{are_runs, lies_in, is_busy}
 use Rattle.rule_expand.proofs.Sets.{or_cases, or_left, or_right, same_truth}
 
 busy_late : (low high u : ℤ) (ps : List Period) → are_runs low high ps ≡ true → is_busy ps u ≡ true → low <ℤ u

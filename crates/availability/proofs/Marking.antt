@@ -5,13 +5,13 @@ use Rattle.std.proofs.lemmas.List.Folds.{list_any_more}
 use Rattle.std.proofs.lemmas.Option.{get_or_from_slice_get, slice_get_within}
 use Rattle.jiff_core.proofs.SignedLemmas.{signed_arith}
 use Rattle.jiff_core.specs.Calendar.{IsWithin}
-use Rattle.model_series.specs.declared.occurrence.Occurrence.{Occurrence}
-use Rattle.model_series.specs.declared.series.Series.{Series}
-use Rattle.model_series.specs.Occurrences.{IsOccurrence}
-use Rattle.model_window.specs.declared.period.Period.{Period}
-use Rattle.model_window.specs.declared.window.Window.{Window}
-use Rattle.model_window.specs.BusyPeriods.{lies_in, is_busy, occupies, IsOccupied}
-use Rattle.model_window.specs.Windows.{keeps_limits, meets_window, span_at, IsMeeting}
+use Rattle.spec_series.specs.declared.occurrence.Occurrence.{Occurrence}
+use Rattle.spec_series.specs.declared.series.Series.{Series}
+use Rattle.spec_series.specs.Occurrences.{IsOccurrence}
+use Rattle.spec_windows.specs.declared.period.Period.{Period}
+use Rattle.spec_windows.specs.declared.window.Window.{Window}
+use Rattle.spec_windows.specs.BusyPeriods.{lies_in, is_busy, occupies, IsOccupied}
+use Rattle.spec_windows.specs.Windows.{keeps_limits, meets_window, span_at, IsMeeting}
 use Rattle.occurrence_windows.specs.Listing.{IsListOf}
 use Rattle.occurrence_windows.proofs.Meeting.{AreInstants, showing_near, shows, some_holds}
 use Rattle.rule_expand.proofs.Places.{and_both, is_late}

@@ -3,7 +3,7 @@ use Rattle.std.proofs.Common.{not, set, ◌≡◌, ℕ, zero, suc, ◌+◌, ◌<
 use Rattle.std.specs.Prelude.{remove}
 use Rattle.std.proofs.lemmas.List.{drop_all, drop_more, take_more, set_split}
 use Rattle.availability.specs.Merging.{hull, is_reached, touches_first, merged, with_period}
-use Rattle.model_window.specs.declared.period.Period.{Period}
+use Rattle.spec_windows.specs.declared.period.Period.{Period}
 use Rattle.rule_expand.proofs.Places.{late_is}
 use Rattle.availability.proofs.Runs.{int_lt_not, merged_last, merged_more, merged_stop, period_here, period_last, period_pass}
 

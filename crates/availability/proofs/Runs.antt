@@ -4,8 +4,8 @@ use Rattle.std.specs.Prelude.{Result, Ok, Err, OnOk, OnErr}
 use Rattle.std.proofs.lemmas.Int.{by_lt_z, ints, clamps}
 use Rattle.jiff_core.proofs.SignedLemmas.{signed_arith}
 use Rattle.availability.specs.Merging.{common, hull, merged, with_period}
-use Rattle.model_window.specs.declared.period.Period.{Period}
-use Rattle.model_window.specs.BusyPeriods.{are_runs, lies_in, is_busy}
+use Rattle.spec_windows.specs.declared.period.Period.{Period}
+use Rattle.spec_windows.specs.BusyPeriods.{are_runs, lies_in, is_busy}
 use Rattle.rule_expand.proofs.Places.{and_both, is_late, late_is}
 use Rattle.rule_expand.proofs.Sets.{both_and, int_le_is, is_int_le, not_true, or_cases, or_left, or_right, same_truth}
 

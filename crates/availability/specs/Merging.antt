@@ -1,8 +1,8 @@
 -- Lists of periods that don't touch, and one more period.
 use Rattle.std.specs.Prelude.{not, Bool, true, false, int_lt, List, [], ◌∷◌, Some, if◌then◌else◌}
 use Rattle.std.specs.Int.{int_max, int_min}
-use Rattle.model_window.specs.declared.period.Period.{Period}
-use Rattle.model_window.specs.declared.window.Window.{Window}
+use Rattle.spec_windows.specs.declared.period.Period.{Period}
+use Rattle.spec_windows.specs.declared.window.Window.{Window}
 
 -- both periods and what is between them
 abbrev pub hull : Period → Period → Period

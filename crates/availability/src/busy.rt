@@ -3,16 +3,16 @@ ghost use Rattle.std.specs.Prelude.{◌≡◌, ◌↔◌, ◌⊎◌, ◌≤◌, 
 ghost use Rattle.jiff_core.specs.Calendar.{IsWithin};
 ghost use Rattle.jiff_tz.specs.PosixText.{tz_view};
 ghost use Rattle.availability.specs.Merging.{limits};
-ghost use Rattle.model_series.specs.SeriesLimits.{wall_seconds};
-ghost use Rattle.model_window.specs.BusyPeriods.{are_runs, lies_in, is_busy, occupies, IsOccupied};
-ghost use Rattle.model_window.specs.Clocks.{instant_in};
+ghost use Rattle.spec_series.specs.SeriesLimits.{wall_seconds};
+ghost use Rattle.spec_windows.specs.BusyPeriods.{are_runs, lies_in, is_busy, occupies, IsOccupied};
+ghost use Rattle.spec_windows.specs.Clocks.{instant_in};
 
 use crate::periods::{add_period, common_of, is_empty};
 use jiff_tz::posix::TimeZone;
-use model_series::occurrence::Occurrence;
-use model_series::series::Series;
-use model_window::period::Period;
-use model_window::window::Window;
+use spec_series::occurrence::Occurrence;
+use spec_series::series::Series;
+use spec_windows::period::Period;
+use spec_windows::window::Window;
 use occurrence_windows::{expanded, span_of};
 use std::alloc::{AllocError, Global};
 

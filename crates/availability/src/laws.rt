@@ -1,7 +1,7 @@
 //! The law of busy periods, the contract of a function that does nothing.
 ghost use Rattle.std.specs.Prelude.{◌≡◌, ℤ, List, true};
-ghost use Rattle.model_window.specs.BusyPeriods.{are_runs, is_busy};
-ghost use Rattle.model_window.specs.declared.period.Period.{Period};
+ghost use Rattle.spec_windows.specs.BusyPeriods.{are_runs, is_busy};
+ghost use Rattle.spec_windows.specs.declared.period.Period.{Period};
 
 /// The maximal runs of busy instants are determined by which instants are busy.
 pub fn runs_are_determined()

@@ -2,7 +2,7 @@
 ghost use Rattle.std.specs.Prelude.{◌≡◌, ◌++◌, ◌<◌, ◌≤◌, int_le, int_lt, true, OnErr, OnOk, drop, take, length};
 ghost use Rattle.availability.specs.Merging.{common, hull, is_reached, touches_first, merged, with_period};
 
-use model_window::period::Period;
+use spec_windows::period::Period;
 use std::alloc::AllocError;
 
 // Both periods and what is between them.

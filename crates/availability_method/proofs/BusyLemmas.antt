@@ -4,16 +4,16 @@ use Rattle.std.specs.Prelude.{◌↔◌, Result, Ok, Err, OnOk}
 use Rattle.jiff_tz.specs.PosixText.{TzText}
 use Rattle.availability_method.proofs.RunLemmas.{busy_in_years, runs_are}
 use Rattle.availability_method.specs.Periods.{AreInYears}
-use Rattle.model_availability.specs.Runs.{runs_in}
-use Rattle.model_event.specs.Values.{is_showing}
-use Rattle.model_availability.specs.BusyInstants.{is_occupied, is_occupied_by, is_taken_up}
-use Rattle.model_json.specs.declared.tree.Tree.{Tree}
-use Rattle.model_site.specs.TimeZones.{ZoneText}
-use Rattle.model_series.specs.declared.series.Series.{Series}
-use Rattle.model_window.specs.declared.period.Period.{Period}
-use Rattle.model_window.specs.BusyPeriods.{are_runs, is_busy, lies_in, occupies, IsOccupied}
-use Rattle.model_window.specs.Clocks.{instant_in}
-use Rattle.model_window.specs.Windows.{span_at}
+use Rattle.spec_availability.specs.Runs.{runs_in}
+use Rattle.spec_events.specs.Values.{is_showing}
+use Rattle.spec_availability.specs.BusyInstants.{is_occupied, is_occupied_by, is_taken_up}
+use Rattle.spec_json.specs.declared.tree.Tree.{Tree}
+use Rattle.spec_site.specs.TimeZones.{ZoneText}
+use Rattle.spec_series.specs.declared.series.Series.{Series}
+use Rattle.spec_windows.specs.declared.period.Period.{Period}
+use Rattle.spec_windows.specs.BusyPeriods.{are_runs, is_busy, lies_in, occupies, IsOccupied}
+use Rattle.spec_windows.specs.Clocks.{instant_in}
+use Rattle.spec_windows.specs.Windows.{span_at}
 use Rattle.occurrence_windows.proofs.Meeting.{has_span, some_holds}
 use Rattle.occurrence_windows.proofs.Passing.{passing_is, rid_near}
 use Rattle.rule_expand.proofs.Places.{and_both}

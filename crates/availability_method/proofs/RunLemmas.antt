@@ -9,12 +9,12 @@ use Rattle.jiff_core.specs.Calendar.{IsWithin}
 use Rattle.availability.proofs.Determined.{determined}
 use Rattle.availability.proofs.Runs.{run_of}
 use Rattle.availability_method.specs.Periods.{AreInYears, IsInYears}
-use Rattle.model_availability.specs.Runs.{begins_run, instants_from, run_at, run_end, runs_in}
-use Rattle.model_event.specs.Values.{is_showing}
-use Rattle.model_series.specs.Shared.{first_from}
-use Rattle.model_time.specs.Walls.{is_in_years}
-use Rattle.model_window.specs.declared.period.Period.{Period}
-use Rattle.model_window.specs.BusyPeriods.{are_runs, lies_in, is_busy}
+use Rattle.spec_availability.specs.Runs.{begins_run, instants_from, run_at, run_end, runs_in}
+use Rattle.spec_events.specs.Values.{is_showing}
+use Rattle.spec_series.specs.Shared.{first_from}
+use Rattle.spec_time.specs.Walls.{is_in_years}
+use Rattle.spec_windows.specs.declared.period.Period.{Period}
+use Rattle.spec_windows.specs.BusyPeriods.{are_runs, lies_in, is_busy}
 use Rattle.rule_expand.proofs.Places.{and_both, is_late, late_is}
 use Rattle.rule_expand.proofs.Sets.{both_and, int_le_is, is_int_le, or_cases, or_left, or_right, same_truth}
 

@@ -1,7 +1,7 @@
 -- Periods that UTCDates can tell.
 use Rattle.std.specs.Prelude.{◌≡◌, ℕ, List, true, slice_get, Some}
-use Rattle.model_time.specs.Walls.{is_in_years}
-use Rattle.model_window.specs.declared.period.Period.{Period}
+use Rattle.spec_time.specs.Walls.{is_in_years}
+use Rattle.spec_windows.specs.declared.period.Period.{Period}
 
 -- both ends lie in the years 0 to 9999
 pub record IsInYears (p : Period) : Type 0 where

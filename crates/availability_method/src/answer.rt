@@ -1,18 +1,18 @@
 //! The answer of `Principal/getAvailability` (draft JMAP for Calendars).
 ghost use Rattle.std.specs.Prelude.{◌≡◌, IfOk, MatchOption, None, Some};
 ghost use Rattle.account_store.specs.Store.{entries};
-ghost use Rattle.model_availability.specs.Availability.{availability_refusal, availability_response};
-ghost use Rattle.model_call.specs.declared.call.MethodError.TheVariants.{InvalidArguments};
-ghost use Rattle.model_history.specs.Base.{Base};
-ghost use Rattle.model_history.specs.History.{changes_of};
+ghost use Rattle.spec_availability.specs.Availability.{availability_refusal, availability_response};
+ghost use Rattle.spec_calls.specs.declared.call.MethodError.TheVariants.{InvalidArguments};
+ghost use Rattle.spec_history.specs.Base.{Base};
+ghost use Rattle.spec_history.specs.History.{changes_of};
 
 use crate::events::busy_of;
 use crate::request::AvailabilityRequest;
 use crate::response::response;
 use crate::window::read_window;
 use event_store::StoredEvents;
-use model_json::text::Text;
-use model_json::tree::Tree;
+use spec_json::text::Text;
+use spec_json::tree::Tree;
 use std::alloc::{AllocError, Global};
 
 /// The arguments of the response that tells when the owner of an account is busy, or `None` where an argument of the call isn't one

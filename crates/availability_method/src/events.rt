@@ -2,16 +2,16 @@
 ghost use Rattle.std.specs.Prelude.{◌≡◌, ◌&&◌, ◌||◌, ◌<ℤ◌, ℤ, All, IfOk, OnOk, map, true};
 ghost use Rattle.availability_method.specs.Periods.{AreInYears};
 ghost use Rattle.event_store.specs.StoredEvents.{HasItsSeries};
-ghost use Rattle.model_availability.specs.BusyInstants.{is_taken_up, takes_up};
-ghost use Rattle.model_availability.specs.Runs.{runs_in};
-ghost use Rattle.model_event.specs.Values.{is_showing};
-ghost use Rattle.model_json.specs.TreeData.{data_of};
-ghost use Rattle.model_window.specs.BusyPeriods.{is_busy, lies_in};
+ghost use Rattle.spec_availability.specs.BusyInstants.{is_taken_up, takes_up};
+ghost use Rattle.spec_availability.specs.Runs.{runs_in};
+ghost use Rattle.spec_events.specs.Values.{is_showing};
+ghost use Rattle.spec_json.specs.TreeData.{data_of};
+ghost use Rattle.spec_windows.specs.BusyPeriods.{is_busy, lies_in};
 
 use availability::Busy;
 use event_store::StoredEvent;
-use model_json::text::Text;
-use model_window::period::Period;
+use spec_json::text::Text;
+use spec_windows::period::Period;
 use std::alloc::{AllocError, Global};
 use zone_instants::rule_of_event;
 use zone_table::Zones;

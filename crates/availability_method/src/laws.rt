@@ -1,12 +1,12 @@
 //! The laws of availability, the contracts of functions that do nothing.
 ghost use Rattle.std.specs.Prelude.{◌≡◌, ◌&&◌, ◌↔◌, ℤ, pos, ◌-ℤ◌, ◌≤ℤ◌, Bool, true};
 ghost use Rattle.jiff_tz.specs.PosixText.{TzText};
-ghost use Rattle.model_availability.specs.BusyInstants.{is_occupied};
-ghost use Rattle.model_availability.specs.Runs.{runs_in};
-ghost use Rattle.model_series.specs.declared.series.Series.{Series};
-ghost use Rattle.model_window.specs.BusyPeriods.{are_runs, is_busy, lies_in, IsOccupied};
-ghost use Rattle.model_window.specs.Clocks.{instant_in};
-ghost use Rattle.model_window.specs.declared.period.Period.{Period};
+ghost use Rattle.spec_availability.specs.BusyInstants.{is_occupied};
+ghost use Rattle.spec_availability.specs.Runs.{runs_in};
+ghost use Rattle.spec_series.specs.declared.series.Series.{Series};
+ghost use Rattle.spec_windows.specs.BusyPeriods.{are_runs, is_busy, lies_in, IsOccupied};
+ghost use Rattle.spec_windows.specs.Clocks.{instant_in};
+ghost use Rattle.spec_windows.specs.declared.period.Period.{Period};
 
 /// The search over recurrence ids finds what takes an instant up exactly where an occurrence of the series takes it up, in every zone.
 pub fn events_take_up_their_occurrences()

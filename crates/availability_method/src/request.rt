@@ -1,6 +1,6 @@
 //! What a call asks for.
 
-use model_json::text::Text;
+use spec_json::text::Text;
 
 /// The arguments of `Principal/getAvailability` (draft JMAP for Calendars).
 #[derive(Clone, Copy)]

@@ -1,13 +1,13 @@
 //! The response that tells busy periods.
 ghost use Rattle.std.specs.Prelude.{◌≡◌, IfOk, map};
 ghost use Rattle.availability_method.specs.Periods.{AreInYears, IsInYears};
-ghost use Rattle.model_availability.specs.Availability.{period_data, periods_object};
-ghost use Rattle.model_json.specs.Data.{items_of, list};
-ghost use Rattle.model_json.specs.TreeData.{data_of};
+ghost use Rattle.spec_availability.specs.Availability.{period_data, periods_object};
+ghost use Rattle.spec_json.specs.Data.{items_of, list};
+ghost use Rattle.spec_json.specs.TreeData.{data_of};
 
-use model_json::text::Text;
-use model_json::tree::{Tree, TreeList};
-use model_window::period::Period;
+use spec_json::text::Text;
+use spec_json::tree::{Tree, TreeList};
+use spec_windows::period::Period;
 use std::alloc::{AllocError, Global};
 use time_text::utc_text;
 

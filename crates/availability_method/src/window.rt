@@ -1,12 +1,12 @@
 //! The window that a call asks for.
 ghost use Rattle.std.specs.Prelude.{◌≡◌, ◌<ℤ◌, IfSome, true};
-ghost use Rattle.model_availability.specs.Availability.{showing_instant, window_in};
-ghost use Rattle.model_event.specs.Values.{is_showing};
+ghost use Rattle.spec_availability.specs.Availability.{showing_instant, window_in};
+ghost use Rattle.spec_events.specs.Values.{is_showing};
 
-use model_availability::window::window_between;
-use model_event::limits::{FIRST_START, LAST_START};
-use model_json::text::Text;
-use model_window::period::Period;
+use spec_availability::window::window_between;
+use spec_events::limits::{FIRST_START, LAST_START};
+use spec_json::text::Text;
+use spec_windows::period::Period;
 use time_text::read_utc;
 
 /// The window between two UTCDates, or `None` where a call may not ask for it. Takes no memory.

@@ -1,11 +1,11 @@
 -- A call on an account is one more call of a chain.
 use Rattle.std.proofs.Common.{◌≡◌, ℕ, ℤ, List, [], ◌∷◌, ◌++◌, Ok, Err, inr, refl, sym, ◌∙◌, append-nil}
-use Rattle.model_batch.proofs.Chains.{made_of}
-use Rattle.model_batch.specs.Chain.{Called, Shown}
-use Rattle.model_call.specs.declared.call.Call.{Call}
-use Rattle.model_call.specs.declared.call.Reply.{Reply}
-use Rattle.model_batch.specs.declared.desk.DeskError.{DeskError}
-use Rattle.model_batch.specs.declared.desk.Front.{Front}
+use Rattle.spec_batch.proofs.Chains.{made_of}
+use Rattle.spec_batch.specs.Chain.{Called, Shown}
+use Rattle.spec_calls.specs.declared.call.Call.{Call}
+use Rattle.spec_calls.specs.declared.call.Reply.{Reply}
+use Rattle.spec_batch.specs.declared.desk.DeskError.{DeskError}
+use Rattle.spec_batch.specs.declared.desk.Front.{Front}
 use Rattle.batch_exec.specs.Stepping.{IsDeskReply, Makes}
 
 pub asking_ok : {fronts fronts' : List Front} {s t : Shown} {account : ℕ} {call : Call} {reply : Reply} (moment : ℤ) → Called s t account call moment (Ok reply)

@@ -2,19 +2,19 @@
 use Rattle.std.proofs.Common.{◌≡◌, ℕ, ℤ, ◌≤◌, inr, List, [], length, drop, unwrap_or, Result, Ok, Err, sym, ap, ◌∙◌, arith, length-append}
 use Rattle.std.proofs.lemmas.List.{length-map}
 use Rattle.std.proofs.Math.Seq.{drop-append_seam}
-use Rattle.model_batch.specs.Asked.{asked, asked_by}
-use Rattle.model_batch.specs.Batch.{Step, IsBatch, IsBegun, Progress, created_after, created_by, given_ids, response_with_ids, response_object, responses_in}
-use Rattle.model_json.specs.Data.{Data}
-use Rattle.model_batch.specs.Requests.{id_pair_of}
-use Rattle.model_batch.specs.Chain.{Shown}
-use Rattle.model_batch.specs.declared.desk.Front.{Front}
-use Rattle.model_batch.specs.declared.request.BatchError.{BatchError}
-use Rattle.model_batch.specs.declared.request.BatchError.TheVariants.{Refused, PassSpent, NoMemory}
-use Rattle.model_batch.specs.declared.request.Invocation.{Invocation}
-use Rattle.model_batch.specs.declared.request.Request.{Request}
-use Rattle.model_batch.specs.declared.method_response.MethodResponse.{MethodResponse}
-use Rattle.model_json.specs.declared.tree.Tree.{Tree}
-use Rattle.model_core.specs.declared.user.User.{User}
+use Rattle.spec_batch.specs.Asked.{asked, asked_by}
+use Rattle.spec_batch.specs.Batch.{Step, IsBatch, IsBegun, Progress, created_after, created_by, given_ids, response_with_ids, response_object, responses_in}
+use Rattle.spec_json.specs.Data.{Data}
+use Rattle.spec_batch.specs.Requests.{id_pair_of}
+use Rattle.spec_batch.specs.Chain.{Shown}
+use Rattle.spec_batch.specs.declared.desk.Front.{Front}
+use Rattle.spec_batch.specs.declared.request.BatchError.{BatchError}
+use Rattle.spec_batch.specs.declared.request.BatchError.TheVariants.{Refused, PassSpent, NoMemory}
+use Rattle.spec_batch.specs.declared.request.Invocation.{Invocation}
+use Rattle.spec_batch.specs.declared.request.Request.{Request}
+use Rattle.spec_batch.specs.declared.method_response.MethodResponse.{MethodResponse}
+use Rattle.spec_json.specs.declared.tree.Tree.{Tree}
+use Rattle.spec_core.specs.declared.user.User.{User}
 use Rattle.batch_exec.specs.Answering.{IsRequestAnswered}
 
 -- the created ids behind those that the request gives are the ones that the calls added

@@ -1,8 +1,8 @@
 -- A grant of a user is one of the user's grants.
 use Rattle.std.proofs.Common.{◌≡◌, ℕ, suc, ◌<◌, List, [], ◌∷◌, Bool, true, false, Option, Some, None, All, arith, sym, subst, cond}
 use Rattle.std.specs.Str.{bytes_eq}
-use Rattle.model_batch.specs.Meaning.{grant_of}
-use Rattle.model_core.specs.declared.user.Grant.{Grant}
+use Rattle.spec_batch.specs.Meaning.{grant_of}
+use Rattle.spec_core.specs.declared.user.Grant.{Grant}
 
 module _ (accounts : ℕ) where
   abbrev pub IsBelow : Option Grant → Type 0

@@ -2,19 +2,19 @@
 use Rattle.std.proofs.Common.{◌≡◌, ℕ, ℤ, inl, inr, List, [], ◌∷◌, ◌++◌, map, flat_map, Result, Ok, Err, refl, sym, ap, ◌∙◌, subst, append-nil, append_assoc}
 use Rattle.std.proofs.lemmas.Grind.{flat_map-append}
 use Rattle.std.proofs.lemmas.List.{map-append}
-use Rattle.model_batch.proofs.Chains.{join, still, stop_of}
-use Rattle.model_batch.specs.Batch.{Step, Fit, FollowsFrom, Progress, NextMeans, created_by, given_ids, made_in, meaning_after}
-use Rattle.model_batch.specs.Meaning.{Meaning, calls, meaning_of_method}
-use Rattle.model_call.specs.Methods.{method_used}
-use Rattle.model_json.specs.Parts.{some_of}
-use Rattle.model_batch.specs.Chain.{Made, Chain, Shown, front_of}
-use Rattle.model_batch.specs.declared.desk.DeskError.{DeskError}
-use Rattle.model_batch.specs.declared.desk.DeskError.TheVariants.{NoMemory, PassSpent}
-use Rattle.model_batch.specs.declared.desk.Front.{Front}
-use Rattle.model_batch.specs.declared.request.Invocation.{Invocation}
-use Rattle.model_batch.specs.declared.request.Request.{Request}
-use Rattle.model_batch.specs.declared.method_response.MethodResponse.{MethodResponse}
-use Rattle.model_core.specs.declared.user.User.{User}
+use Rattle.spec_batch.proofs.Chains.{join, still, stop_of}
+use Rattle.spec_batch.specs.Batch.{Step, Fit, FollowsFrom, Progress, NextMeans, created_by, given_ids, made_in, meaning_after}
+use Rattle.spec_batch.specs.Meaning.{Meaning, calls, meaning_of_method}
+use Rattle.spec_calls.specs.Methods.{method_used}
+use Rattle.spec_json.specs.Parts.{some_of}
+use Rattle.spec_batch.specs.Chain.{Made, Chain, Shown, front_of}
+use Rattle.spec_batch.specs.declared.desk.DeskError.{DeskError}
+use Rattle.spec_batch.specs.declared.desk.DeskError.TheVariants.{NoMemory, PassSpent}
+use Rattle.spec_batch.specs.declared.desk.Front.{Front}
+use Rattle.spec_batch.specs.declared.request.Invocation.{Invocation}
+use Rattle.spec_batch.specs.declared.request.Request.{Request}
+use Rattle.spec_batch.specs.declared.method_response.MethodResponse.{MethodResponse}
+use Rattle.spec_core.specs.declared.user.User.{User}
 use Rattle.batch_exec.specs.Answering.{Going, HasStopped, HasAnswered}
 use Rattle.batch_exec.specs.Stepping.{IsResponse, HasNoStep, Takes, meant}
 

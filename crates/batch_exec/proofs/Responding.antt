@@ -1,16 +1,16 @@
 -- What an invocation means, and what came of it, are a step.
 use Rattle.std.proofs.Common.{◌≡◌, ℕ, ℤ, inl, inr, List, ◌++◌, Some, None, Result, Ok, Err, refl, sym, ◌∙◌, subst, append-nil}
-use Rattle.model_batch.specs.Batch.{Step, FollowsFrom, reply_response}
-use Rattle.model_batch.proofs.Chains.{stop_of}
-use Rattle.model_batch.specs.Meaning.{Meaning, calls}
-use Rattle.model_batch.specs.Chain.{Made, Shown}
-use Rattle.model_call.specs.declared.call.Call.{Call}
-use Rattle.model_batch.specs.declared.desk.DeskError.{DeskError}
-use Rattle.model_batch.specs.declared.desk.DeskError.TheVariants.{NoMemory, PassSpent}
-use Rattle.model_batch.specs.declared.desk.Front.{Front}
-use Rattle.model_batch.specs.declared.request.Invocation.{Invocation}
-use Rattle.model_batch.specs.declared.method_response.MethodResponse.{MethodResponse}
-use Rattle.model_core.specs.declared.user.Grant.{Grant}
+use Rattle.spec_batch.specs.Batch.{Step, FollowsFrom, reply_response}
+use Rattle.spec_batch.proofs.Chains.{stop_of}
+use Rattle.spec_batch.specs.Meaning.{Meaning, calls}
+use Rattle.spec_batch.specs.Chain.{Made, Shown}
+use Rattle.spec_calls.specs.declared.call.Call.{Call}
+use Rattle.spec_batch.specs.declared.desk.DeskError.{DeskError}
+use Rattle.spec_batch.specs.declared.desk.DeskError.TheVariants.{NoMemory, PassSpent}
+use Rattle.spec_batch.specs.declared.desk.Front.{Front}
+use Rattle.spec_batch.specs.declared.request.Invocation.{Invocation}
+use Rattle.spec_batch.specs.declared.method_response.MethodResponse.{MethodResponse}
+use Rattle.spec_core.specs.declared.user.Grant.{Grant}
 use Rattle.batch_exec.specs.Stepping.{AnswersCall, HasNoStep, IsCallResponse, IsNotAnswered, IsResponse, Takes, meant}
 use Rattle.batch_exec.proofs.Asking.{unasked}
 

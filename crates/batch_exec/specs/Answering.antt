@@ -1,18 +1,18 @@
 -- What the invocations of a request lead to, one after the other.
 use Rattle.std.specs.Prelude.{◌≡◌, ℕ, ℤ, List, [], Result, Ok, Err}
-use Rattle.model_batch.specs.Batch.{Step, NextMeans, Progress, created_after, response_object, responses_in}
-use Rattle.model_batch.specs.Chain.{Shown, Stops}
-use Rattle.model_json.specs.TreeData.{data_of}
-use Rattle.model_batch.specs.declared.desk.DeskError.{DeskError}
-use Rattle.model_batch.specs.declared.desk.DeskError.TheVariants.{PassSpent, NoMemory}
-use Rattle.model_batch.specs.declared.desk.Front.{Front}
-use Rattle.model_batch.specs.declared.request.BatchError.{BatchError}
-use Rattle.model_batch.specs.declared.request.BatchError.TheVariants.{Refused, PassSpent as PassSpent', NoMemory as NoMemory'}
-use Rattle.model_batch.specs.declared.request.Invocation.{Invocation}
-use Rattle.model_batch.specs.declared.request.Request.{Request}
-use Rattle.model_batch.specs.declared.method_response.MethodResponse.{MethodResponse}
-use Rattle.model_json.specs.declared.tree.Tree.{Tree}
-use Rattle.model_core.specs.declared.user.User.{User}
+use Rattle.spec_batch.specs.Batch.{Step, NextMeans, Progress, created_after, response_object, responses_in}
+use Rattle.spec_batch.specs.Chain.{Shown, Stops}
+use Rattle.spec_json.specs.TreeData.{data_of}
+use Rattle.spec_batch.specs.declared.desk.DeskError.{DeskError}
+use Rattle.spec_batch.specs.declared.desk.DeskError.TheVariants.{PassSpent, NoMemory}
+use Rattle.spec_batch.specs.declared.desk.Front.{Front}
+use Rattle.spec_batch.specs.declared.request.BatchError.{BatchError}
+use Rattle.spec_batch.specs.declared.request.BatchError.TheVariants.{Refused, PassSpent as PassSpent', NoMemory as NoMemory'}
+use Rattle.spec_batch.specs.declared.request.Invocation.{Invocation}
+use Rattle.spec_batch.specs.declared.request.Request.{Request}
+use Rattle.spec_batch.specs.declared.method_response.MethodResponse.{MethodResponse}
+use Rattle.spec_json.specs.declared.tree.Tree.{Tree}
+use Rattle.spec_core.specs.declared.user.User.{User}
 use Rattle.batch_exec.specs.declared.batch.Answers.{Answers}
 
 module _ (user : User) (request : Request) (moment : ℤ) (fronts fronts' : List Front) (s t : Shown) where

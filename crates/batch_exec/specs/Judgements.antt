@@ -1,6 +1,6 @@
 -- What an invocation was found to mean, as a definition sees it.
 use Rattle.std.specs.Prelude.{ℕ, ◌<◌, List}
-use Rattle.model_batch.specs.Meaning.{Meaning, refuses, echoes, calls}
+use Rattle.spec_batch.specs.Meaning.{Meaning, refuses, echoes, calls}
 use Rattle.batch_exec.specs.declared.meaning.Judgement.{Judgement}
 use Rattle.batch_exec.specs.declared.meaning.Judgement.TheVariants.{Refused, Echo, Call}
 

@@ -1,8 +1,8 @@
 -- Why a JSON value is answered no request.
 use Rattle.std.specs.Prelude.{◌≡◌}
-use Rattle.model_batch.specs.Asked.{Asked, refused}
-use Rattle.model_batch.specs.declared.request.BatchError.{BatchError}
-use Rattle.model_batch.specs.declared.request.BatchError.TheVariants.{Refused, PassSpent, NoMemory}
+use Rattle.spec_batch.specs.Asked.{Asked, refused}
+use Rattle.spec_batch.specs.declared.request.BatchError.{BatchError}
+use Rattle.spec_batch.specs.declared.request.BatchError.TheVariants.{Refused, PassSpent, NoMemory}
 
 -- a value that asks for this is refused so; want of memory says nothing of it
 abbrev pub Refuses : BatchError → Asked → Type 0

@@ -1,18 +1,18 @@
 -- What one invocation of a request leads to.
 use Rattle.std.specs.Prelude.{◌≡◌, ℕ, ◌⊎◌, ℤ, List, [], ◌∷◌, ◌++◌, map, Result, Ok, Err}
-use Rattle.model_batch.specs.Batch.{Step, FollowsFrom, created_by, reply_response}
-use Rattle.model_batch.specs.Meaning.{Meaning, calls, meaning_of_method}
-use Rattle.model_call.specs.Methods.{method_used}
-use Rattle.model_json.specs.Parts.{some_of}
-use Rattle.model_batch.specs.Chain.{Made, Shown, Chain, Stops, front_of}
-use Rattle.model_call.specs.declared.call.Call.{Call}
-use Rattle.model_call.specs.declared.call.Reply.{Reply}
-use Rattle.model_batch.specs.declared.desk.DeskError.{DeskError}
-use Rattle.model_batch.specs.declared.desk.DeskError.TheVariants.{PassSpent, NoMemory}
-use Rattle.model_batch.specs.declared.desk.Front.{Front}
-use Rattle.model_batch.specs.declared.request.Invocation.{Invocation}
-use Rattle.model_batch.specs.declared.method_response.MethodResponse.{MethodResponse}
-use Rattle.model_core.specs.declared.user.Grant.{Grant}
+use Rattle.spec_batch.specs.Batch.{Step, FollowsFrom, created_by, reply_response}
+use Rattle.spec_batch.specs.Meaning.{Meaning, calls, meaning_of_method}
+use Rattle.spec_calls.specs.Methods.{method_used}
+use Rattle.spec_json.specs.Parts.{some_of}
+use Rattle.spec_batch.specs.Chain.{Made, Shown, Chain, Stops, front_of}
+use Rattle.spec_calls.specs.declared.call.Call.{Call}
+use Rattle.spec_calls.specs.declared.call.Reply.{Reply}
+use Rattle.spec_batch.specs.declared.desk.DeskError.{DeskError}
+use Rattle.spec_batch.specs.declared.desk.DeskError.TheVariants.{PassSpent, NoMemory}
+use Rattle.spec_batch.specs.declared.desk.Front.{Front}
+use Rattle.spec_batch.specs.declared.request.Invocation.{Invocation}
+use Rattle.spec_batch.specs.declared.method_response.MethodResponse.{MethodResponse}
+use Rattle.spec_core.specs.declared.user.Grant.{Grant}
 
 -- what an invocation means, by the responses and the created ids before it
 abbrev pub meant : List Grant → List (List ℕ) → List MethodResponse → List (List ℕ × List ℕ) → Invocation → Meaning

@@ -1,13 +1,13 @@
 //! The arguments that calls give to methods.
 ghost use Rattle.std.specs.Prelude.{◌≡◌, is_some, map};
-ghost use Rattle.model_call.specs.Arguments.{argument_of, has_shape, is_well_given};
-ghost use Rattle.model_call.specs.Methods.{are_well_given};
-ghost use Rattle.model_json.specs.Data.{lookup};
-ghost use Rattle.model_json.specs.Parts.{all_some, as_object, as_text};
-ghost use Rattle.model_json.specs.TreeData.{data_of};
+ghost use Rattle.spec_calls.specs.Arguments.{argument_of, has_shape, is_well_given};
+ghost use Rattle.spec_calls.specs.Methods.{are_well_given};
+ghost use Rattle.spec_json.specs.Data.{lookup};
+ghost use Rattle.spec_json.specs.Parts.{all_some, as_object, as_text};
+ghost use Rattle.spec_json.specs.TreeData.{data_of};
 
-use model_call::method::{Argument, Method, Shape};
-use model_json::tree::{Tree, TreeObject};
+use spec_calls::method::{Argument, Method, Shape};
+use spec_json::tree::{Tree, TreeObject};
 
 /// Whether each argument that calls of a method have to give is there, and each that is there has its shape
 /// (RFC 8620 section 3.6.2).
@@ -39,7 +39,7 @@ fn is_well_given(argument: &Argument, arguments: &TreeObject) -> bool
     }
 }
 
-#[tactic(auto, using(model_json::specs::Data::items_back))]
+#[tactic(auto, using(spec_json::specs::Data::items_back))]
 fn has_shape(shape: Shape, value: &Tree) -> bool
     ensures { result ≡ has_shape shape (data_of value.now) }
 {

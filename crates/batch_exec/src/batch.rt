@@ -1,22 +1,22 @@
 //! The invocations of a request, one after the other, on the accounts of a desk.
 ghost use Rattle.std.specs.Prelude.{◌≡◌, ◌<◌, ◌++◌, [], All, IfOk, map, unwrap_or};
-ghost use Rattle.model_batch.specs.Batch.{error_response, error_type, reply_response};
-ghost use Rattle.model_json.specs.Parts.{as_text};
-ghost use Rattle.model_batch.specs.Requests.{id_pair_of};
-ghost use Rattle.model_json.specs.TreeData.{data_of, pair_of};
+ghost use Rattle.spec_batch.specs.Batch.{error_response, error_type, reply_response};
+ghost use Rattle.spec_json.specs.Parts.{as_text};
+ghost use Rattle.spec_batch.specs.Requests.{id_pair_of};
+ghost use Rattle.spec_json.specs.TreeData.{data_of, pair_of};
 ghost use Rattle.batch_exec.specs.Answering.{HasAnswered};
 ghost use Rattle.batch_exec.specs.Stepping.{IsCallResponse, IsDeskReply, IsResponse};
 
 use crate::meaning::{Judgement, judge};
-use model_batch::desk::{Desk, DeskError, Front};
-use model_batch::method_response::MethodResponse;
-use model_batch::request::{Invocation, Invocations};
-use model_call::call::{Call, MethodError, Reply};
-use model_core::user::User;
-use model_json::lists::{Pairs, Texts};
-use model_json::text::Text;
-use model_json::tree::{Member, Tree, TreeObject};
-use model_time::moment::Moment;
+use spec_batch::desk::{Desk, DeskError, Front};
+use spec_batch::method_response::MethodResponse;
+use spec_batch::request::{Invocation, Invocations};
+use spec_calls::call::{Call, MethodError, Reply};
+use spec_core::user::User;
+use spec_json::lists::{Pairs, Texts};
+use spec_json::text::Text;
+use spec_json::tree::{Member, Tree, TreeObject};
+use spec_time::moment::Moment;
 use std::alloc::{AllocError, Global};
 
 fn error_name(error: MethodError) -> &'static str

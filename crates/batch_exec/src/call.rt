@@ -1,19 +1,19 @@
 //! The calls on accounts that methods make of their arguments.
 ghost use Rattle.std.specs.Prelude.{◌≡◌, ◌≢◌, IfOk, Some, codes, option_map};
-ghost use Rattle.model_call.specs.Asking.{argument, availability_asks, changes_asks, get_asks, list_tree, number_argument, object_tree, query_asks, query_changes_asks, set_asks, text_argument, truth_argument, zone_argument};
-ghost use Rattle.model_call.specs.Methods.{call_of, row};
-ghost use Rattle.model_json.specs.Edit.{ChangesOnlyAt};
-ghost use Rattle.model_batch.specs.Meaning.{grant_of};
-ghost use Rattle.model_json.specs.Parts.{as_object, as_text, as_texts};
+ghost use Rattle.spec_calls.specs.Asking.{argument, availability_asks, changes_asks, get_asks, list_tree, number_argument, object_tree, query_asks, query_changes_asks, set_asks, text_argument, truth_argument, zone_argument};
+ghost use Rattle.spec_calls.specs.Methods.{call_of, row};
+ghost use Rattle.spec_json.specs.Edit.{ChangesOnlyAt};
+ghost use Rattle.spec_batch.specs.Meaning.{grant_of};
+ghost use Rattle.spec_json.specs.Parts.{as_object, as_text, as_texts};
 
-use model_call::call::{Asks, Call};
-use model_call::method::Method;
-use model_core::user::{Grant, Grants};
-use model_history::entry::Kind;
-use model_json::lists::{Pairs, Texts};
-use model_json::num::Num;
-use model_json::text::Text;
-use model_json::tree::{Tree, TreeObject};
+use spec_calls::call::{Asks, Call};
+use spec_calls::method::Method;
+use spec_core::user::{Grant, Grants};
+use spec_history::entry::Kind;
+use spec_json::lists::{Pairs, Texts};
+use spec_json::num::Num;
+use spec_json::text::Text;
+use spec_json::tree::{Tree, TreeObject};
 use std::alloc::{AllocError, Global};
 
 /// The time zone where a call names none.

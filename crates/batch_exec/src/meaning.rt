@@ -1,19 +1,19 @@
 //! What an invocation means: an error, an answer without an account, or a call on an account.
 ghost use Rattle.std.specs.Prelude.{◌≡◌, ◌≢◌, All, ◌<◌, IfOk, ℕ};
-ghost use Rattle.model_batch.specs.Meaning.{meaning_of_arguments, meaning_of_call, meaning_of_method};
-ghost use Rattle.model_call.specs.Methods.{call_of, method_used, row, uses};
-ghost use Rattle.model_batch.specs.References.{resolved};
+ghost use Rattle.spec_batch.specs.Meaning.{meaning_of_arguments, meaning_of_call, meaning_of_method};
+ghost use Rattle.spec_calls.specs.Methods.{call_of, method_used, row, uses};
+ghost use Rattle.spec_batch.specs.References.{resolved};
 ghost use Rattle.batch_exec.specs.Judgements.{account_is_below, created_with, meaning_in};
 
 use crate::arguments::are_well_given;
 use crate::call::{call_from, grant_of};
-use model_batch::method_response::MethodResponse;
-use model_call::call::{Call, MethodError};
-use model_call::method::Method;
-use model_core::user::User;
-use model_json::lists::Pairs;
-use model_json::text::Text;
-use model_json::tree::TreeObject;
+use spec_batch::method_response::MethodResponse;
+use spec_calls::call::{Call, MethodError};
+use spec_calls::method::Method;
+use spec_core::user::User;
+use spec_json::lists::Pairs;
+use spec_json::text::Text;
+use spec_json::tree::TreeObject;
 use result_refs::{ReferenceError, resolve};
 use std::alloc::{AllocError, Global};
 

@@ -1,13 +1,13 @@
 //! Problems that tell why a whole request was refused.
 ghost use Rattle.std.specs.Prelude.{◌≡◌, IfOk};
-ghost use Rattle.model_json.specs.Data.{text};
-ghost use Rattle.model_batch.specs.Problem.{limit_name, problem, problem_detail, problem_type};
-ghost use Rattle.model_json.specs.TreeData.{data_of};
+ghost use Rattle.spec_json.specs.Data.{text};
+ghost use Rattle.spec_batch.specs.Problem.{limit_name, problem, problem_detail, problem_type};
+ghost use Rattle.spec_json.specs.TreeData.{data_of};
 
-use model_batch::request::{Limit, RequestError};
-use model_json::num::Num;
-use model_json::text::Text;
-use model_json::tree::Tree;
+use spec_batch::request::{Limit, RequestError};
+use spec_json::num::Num;
+use spec_json::text::Text;
+use spec_json::tree::Tree;
 use std::alloc::{AllocError, Global};
 
 /// The problem of a refused request (RFC 8620 section 3.6.1).

@@ -2,18 +2,18 @@
 ghost use Rattle.std.specs.Prelude.{◌≡◌, ◌≢◌, [], ◌∷◌, IfErr, IfNone, IfOk, IfSome, length, map, option_and_then, option_map};
 ghost use Rattle.std.specs.List.{list_all};
 ghost use Rattle.batch_exec.specs.Refusal.{Refuses};
-ghost use Rattle.model_batch.specs.Asked.{asked, asked_by};
-ghost use Rattle.model_core.specs.Capabilities.{is_capability};
-ghost use Rattle.model_json.specs.Parts.{all_some, as_list, as_text};
-ghost use Rattle.model_batch.specs.Requests.{created_ids_of, invocation_of, invocation_with, is_id_pair, request_of, request_with};
-ghost use Rattle.model_json.specs.TreeData.{data_of, pair_of};
+ghost use Rattle.spec_batch.specs.Asked.{asked, asked_by};
+ghost use Rattle.spec_core.specs.Capabilities.{is_capability};
+ghost use Rattle.spec_json.specs.Parts.{all_some, as_list, as_text};
+ghost use Rattle.spec_batch.specs.Requests.{created_ids_of, invocation_of, invocation_with, is_id_pair, request_of, request_with};
+ghost use Rattle.spec_json.specs.TreeData.{data_of, pair_of};
 
-use model_batch::request::{BatchError, Invocation, Invocations, Limit, Request, RequestError};
-use model_core::capability::{AVAILABILITY, CALENDARS, CORE};
-use model_core::limits::MAX_CALLS_IN_REQUEST;
-use model_json::lists::Texts;
-use model_json::text::Text;
-use model_json::tree::{Member, Tree, TreeObject};
+use spec_batch::request::{BatchError, Invocation, Invocations, Limit, Request, RequestError};
+use spec_core::capability::{AVAILABILITY, CALENDARS, CORE};
+use spec_core::limits::MAX_CALLS_IN_REQUEST;
+use spec_json::lists::Texts;
+use spec_json::text::Text;
+use spec_json::tree::{Member, Tree, TreeObject};
 use std::alloc::{AllocError, Global};
 use time_text::read_id;
 
@@ -40,7 +40,7 @@ pub fn request_from(alloc: Global, tree: Tree) -> Result<Request, BatchError>
 }
 
 // The request that a tree is, where it has the shape of one.
-#[tactic(auto, using(model_json::specs::Data::pairs_back))]
+#[tactic(auto, using(spec_json::specs::Data::pairs_back))]
 fn read_request(alloc: Global, tree: Tree) -> Result<Option<Request>, AllocError>
     ensures { IfOk result (λ r. r ≡ request_of (data_of tree)) }
 {
@@ -78,7 +78,7 @@ fn capabilities_from(alloc: Global, member: Option<Tree>) -> Result<Option<Texts
 }
 
 // All calls of the member `methodCalls`, where it is a list of calls.
-#[tactic(auto, using(model_json::proofs::Appending::push_option))]
+#[tactic(auto, using(spec_json::proofs::Appending::push_option))]
 fn calls_from(alloc: Global, member: Option<Tree>) -> Result<Option<Invocations>, AllocError>
     ensures { IfOk result (λ o. o ≡ option_and_then (all_some invocation_of) (option_and_then as_list (option_map data_of member))) }
 {
@@ -137,7 +137,7 @@ fn invocation(
 }
 
 // The member `createdIds`: `None` is a member of another shape, `Some(None)` is an absent or null one.
-#[tactic(auto, using(model_json::specs::Data::pairs_back))]
+#[tactic(auto, using(spec_json::specs::Data::pairs_back))]
 fn created_ids_from(member: Option<Tree>) -> Option<Option<TreeObject>>
     ensures { result ≡ created_ids_of (option_map data_of member) }
 {

@@ -1,13 +1,13 @@
 //! The response to a request, as JSON.
 ghost use Rattle.std.specs.Prelude.{◌≡◌, [], IfOk, map};
-ghost use Rattle.model_batch.specs.Batch.{id_member, response_data, response_with_ids};
-ghost use Rattle.model_json.specs.Edit.{put_all};
-ghost use Rattle.model_json.specs.TreeData.{data_of};
-ghost use Rattle.model_json.specs.declared.tree.Tree.TheVariants.{Object};
+ghost use Rattle.spec_batch.specs.Batch.{id_member, response_data, response_with_ids};
+ghost use Rattle.spec_json.specs.Edit.{put_all};
+ghost use Rattle.spec_json.specs.TreeData.{data_of};
+ghost use Rattle.spec_json.specs.declared.tree.Tree.TheVariants.{Object};
 
-use model_batch::method_response::MethodResponse;
-use model_json::text::Text;
-use model_json::tree::{Tree, TreeList, TreeObject};
+use spec_batch::method_response::MethodResponse;
+use spec_json::text::Text;
+use spec_json::tree::{Tree, TreeList, TreeObject};
 use std::alloc::{AllocError, Global};
 
 /// One response: a name, arguments and the call's id (RFC 8620 section 3.4).

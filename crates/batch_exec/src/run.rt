@@ -1,17 +1,17 @@
 //! A request, from its JSON to its response.
 ghost use Rattle.std.specs.Prelude.{◌≡◌, ◌<◌, ◌≤◌, [], All, IfOk, drop, length, unwrap_or};
 ghost use Rattle.batch_exec.specs.Answering.{IsRequestAnswered};
-ghost use Rattle.model_batch.specs.Batch.{IsBatch, response_with_ids};
-ghost use Rattle.model_json.specs.TreeData.{data_of};
+ghost use Rattle.spec_batch.specs.Batch.{IsBatch, response_with_ids};
+ghost use Rattle.spec_json.specs.TreeData.{data_of};
 
 use crate::batch::{Answers, answer_all};
 use crate::request::request_from;
 use crate::response::response_tree;
-use model_batch::desk::{Desk, DeskError, Front};
-use model_batch::request::{BatchError, Request};
-use model_core::user::User;
-use model_json::tree::{Tree, TreeObject};
-use model_time::moment::Moment;
+use spec_batch::desk::{Desk, DeskError, Front};
+use spec_batch::request::{BatchError, Request};
+use spec_core::user::User;
+use spec_json::tree::{Tree, TreeObject};
+use spec_time::moment::Moment;
 use std::alloc::{AllocError, Global};
 
 /// Answers a request, given as JSON, for a user, on the accounts of a desk, at a moment

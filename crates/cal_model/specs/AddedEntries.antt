@@ -2,12 +2,12 @@
 use Rattle.std.specs.Prelude.{ℕ, suc, List, [], ◌∷◌}
 use Rattle.std.proofs.Common.{refl}
 use Rattle.cal_model.specs.Answer.{added, entries_from}
-use Rattle.model_history.specs.Base.{Base}
-use Rattle.model_history.specs.Signed.{AreSigned}
-use Rattle.model_call.specs.declared.call.Call.{Call}
-use Rattle.model_history.specs.declared.entry.Change.{Change}
-use Rattle.model_history.specs.declared.entry.Entry.{Entry}
-use Rattle.model_history.specs.declared.stamp.Stamp.{Stamp}
+use Rattle.spec_history.specs.Base.{Base}
+use Rattle.spec_history.specs.Signed.{AreSigned}
+use Rattle.spec_calls.specs.declared.call.Call.{Call}
+use Rattle.spec_history.specs.declared.entry.Change.{Change}
+use Rattle.spec_history.specs.declared.entry.Entry.{Entry}
+use Rattle.spec_history.specs.declared.stamp.Stamp.{Stamp}
 
 signed_from : (s : Stamp) (cs : List Change) (n : ℕ) → AreSigned s.author s.turn (entries_from s n cs)
 signed_from s [] n = tt

@@ -5,24 +5,24 @@ use Rattle.cal_model.specs.Gets.{get_response, get_error, ids_not_found, objects
 use Rattle.cal_model.specs.Operations.{Ground}
 use Rattle.cal_model.specs.SetReply.{set_arguments}
 use Rattle.cal_model.specs.Sets.{Objects, new_ids, objects, set_changes, set_refusal}
-use Rattle.model_availability.specs.Availability.{availability_refusal, availability_response}
-use Rattle.model_call.specs.declared.call.Asks.{Asks}
-use Rattle.model_call.specs.declared.call.Asks.TheVariants.{Availability, Changes, Get, Query, QueryChanges, Set}
-use Rattle.model_call.specs.declared.call.Call.{Call}
-use Rattle.model_call.specs.declared.call.MethodError.{MethodError}
-use Rattle.model_call.specs.declared.call.Reply.{Reply}
-use Rattle.model_history.specs.Base.{Base}
-use Rattle.model_history.specs.History.{changes_of}
-use Rattle.model_history.specs.declared.entry.Change.{Change}
-use Rattle.model_history.specs.declared.entry.Entry.{Entry}
-use Rattle.model_history.specs.declared.entry.Kind.{Kind}
-use Rattle.model_history.specs.declared.stamp.Stamp.{Stamp}
-use Rattle.model_json.specs.declared.tree.Tree.{Tree}
-use Rattle.model_json.specs.declared.tree.Tree.TheVariants.{Null}
-use Rattle.model_queries.specs.Changed.{Since}
-use Rattle.model_queries.specs.Criteria.{Criteria}
-use Rattle.model_queries.specs.Found.{Paging}
-use Rattle.model_queries.specs.Queries.{query_changes_refusal, query_changes_response, query_refusal, query_response}
+use Rattle.spec_availability.specs.Availability.{availability_refusal, availability_response}
+use Rattle.spec_calls.specs.declared.call.Asks.{Asks}
+use Rattle.spec_calls.specs.declared.call.Asks.TheVariants.{Availability, Changes, Get, Query, QueryChanges, Set}
+use Rattle.spec_calls.specs.declared.call.Call.{Call}
+use Rattle.spec_calls.specs.declared.call.MethodError.{MethodError}
+use Rattle.spec_calls.specs.declared.call.Reply.{Reply}
+use Rattle.spec_history.specs.Base.{Base}
+use Rattle.spec_history.specs.History.{changes_of}
+use Rattle.spec_history.specs.declared.entry.Change.{Change}
+use Rattle.spec_history.specs.declared.entry.Entry.{Entry}
+use Rattle.spec_history.specs.declared.entry.Kind.{Kind}
+use Rattle.spec_history.specs.declared.stamp.Stamp.{Stamp}
+use Rattle.spec_json.specs.declared.tree.Tree.{Tree}
+use Rattle.spec_json.specs.declared.tree.Tree.TheVariants.{Null}
+use Rattle.spec_queries.specs.Changed.{Since}
+use Rattle.spec_queries.specs.Criteria.{Criteria}
+use Rattle.spec_queries.specs.Found.{Paging}
+use Rattle.spec_queries.specs.Queries.{query_changes_refusal, query_changes_response, query_refusal, query_response}
 use Rattle.time_text.specs.State.{state_in}
 
 abbrev pub answered : List Entry → Tree → List (List ℕ × List ℕ) → Reply

@@ -1,13 +1,13 @@
 -- A reply says how many entries went before it.
 use Rattle.std.proofs.Common.{◌≡◌, ℕ, ℤ, List, Option, Some, None, length, refl}
 use Rattle.cal_model.specs.Answer.{answer, answer_to, unless_error}
-use Rattle.model_history.specs.Base.{Base}
-use Rattle.model_call.specs.declared.call.Asks.{Asks}
-use Rattle.model_call.specs.declared.call.Asks.TheVariants.{Availability, Changes, Get, Query, QueryChanges, Set}
-use Rattle.model_call.specs.declared.call.Call.{Call}
-use Rattle.model_call.specs.declared.call.MethodError.{MethodError}
-use Rattle.model_call.specs.declared.call.Reply.{Reply}
-use Rattle.model_history.specs.declared.entry.Entry.{Entry}
+use Rattle.spec_history.specs.Base.{Base}
+use Rattle.spec_calls.specs.declared.call.Asks.{Asks}
+use Rattle.spec_calls.specs.declared.call.Asks.TheVariants.{Availability, Changes, Get, Query, QueryChanges, Set}
+use Rattle.spec_calls.specs.declared.call.Call.{Call}
+use Rattle.spec_calls.specs.declared.call.MethodError.{MethodError}
+use Rattle.spec_calls.specs.declared.call.Reply.{Reply}
+use Rattle.spec_history.specs.declared.entry.Entry.{Entry}
 
 placed_unless : (h : List Entry) (e : Option MethodError) (r : Reply) → r.place ≡ length h → (unless_error h e r).place ≡ length h
 placed_unless h None r is = is

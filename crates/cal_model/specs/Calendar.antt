@@ -1,11 +1,11 @@
 -- Calendars (draft JMAP for Calendars): what may stand in an object, and what it means.
 use Rattle.std.specs.Prelude.{ℕ, ℤ, pos, List, [], ◌∷◌, Bool, true, Option, Some, None, is_some, codes, unwrap_or}
-use Rattle.model_json.specs.Data.{Data, Pair, null, truth, whole, text}
-use Rattle.model_json.specs.Parts.{number_at, text_at, truth_at}
-use Rattle.model_core.specs.Names.{is_name}
-use Rattle.model_history.specs.ObjectId.{object_number}
-use Rattle.model_history.specs.declared.entry.Kind.TheVariants.{Calendar}
-use Rattle.model_site.specs.TimeZones.{ZoneText, has_zone}
+use Rattle.spec_json.specs.Data.{Data, Pair, null, truth, whole, text}
+use Rattle.spec_json.specs.Parts.{number_at, text_at, truth_at}
+use Rattle.spec_core.specs.Names.{is_name}
+use Rattle.spec_history.specs.ObjectId.{object_number}
+use Rattle.spec_history.specs.declared.entry.Kind.TheVariants.{Calendar}
+use Rattle.spec_site.specs.TimeZones.{ZoneText, has_zone}
 use Rattle.property_table.specs.Names.{has_name}
 use Rattle.property_table.specs.Table.{Table, failing_of, names_of, never, optional, required}
 use Rattle.property_table.specs.Values.{is_text, is_text_that, is_truth, is_unsigned_int}

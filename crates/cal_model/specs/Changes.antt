@@ -1,15 +1,15 @@
 -- What changed since a state (RFC 8620 section 5.2).
 use Rattle.std.specs.Prelude.{ℕ, ℤ, List, [], ◌∷◌, ◌==◌, not, Option, Some, None, codes, decimal, option_map, unsigned_abs, if◌then◌else◌}
-use Rattle.model_call.specs.declared.call.MethodError.{MethodError}
-use Rattle.model_call.specs.declared.call.MethodError.TheVariants.{CannotCalculateChanges, InvalidArguments}
-use Rattle.model_history.specs.History.{state_at}
-use Rattle.model_history.specs.Pages.{created, destroyed, mentions, page_end, updated}
-use Rattle.model_history.specs.declared.entry.Change.{Change}
-use Rattle.model_history.specs.declared.entry.Kind.{Kind}
-use Rattle.model_json.specs.Data.{text, truth}
-use Rattle.model_json.specs.declared.tree.Tree.{Tree}
-use Rattle.model_json.specs.declared.tree.Tree.TheVariants.{Object}
-use Rattle.model_queries.specs.States.{id_list, is_known_state, is_maximum}
+use Rattle.spec_calls.specs.declared.call.MethodError.{MethodError}
+use Rattle.spec_calls.specs.declared.call.MethodError.TheVariants.{CannotCalculateChanges, InvalidArguments}
+use Rattle.spec_history.specs.History.{state_at}
+use Rattle.spec_history.specs.Pages.{created, destroyed, mentions, page_end, updated}
+use Rattle.spec_history.specs.declared.entry.Change.{Change}
+use Rattle.spec_history.specs.declared.entry.Kind.{Kind}
+use Rattle.spec_json.specs.Data.{text, truth}
+use Rattle.spec_json.specs.declared.tree.Tree.{Tree}
+use Rattle.spec_json.specs.declared.tree.Tree.TheVariants.{Object}
+use Rattle.spec_queries.specs.States.{id_list, is_known_state, is_maximum}
 
 abbrev pub changes_refusal : Kind → List Change → List ℕ → Option ℤ → Option MethodError
 changes_refusal kind cs since most =

@@ -3,15 +3,15 @@ use Rattle.std.specs.Prelude.{ℕ, List, [], ◌∷◌, ◌++◌, Option, Some, 
 use Rattle.std.specs.Option.{option_map_or}
 use Rattle.std.specs.List.{list_any}
 use Rattle.std.specs.Str.{bytes_eq}
-use Rattle.model_history.specs.History.{live_object}
-use Rattle.model_history.specs.ObjectId.{object_number}
-use Rattle.model_json.specs.Data.{Data, Pair, members_of, object}
-use Rattle.model_json.specs.Edit.{put_all}
-use Rattle.model_json.specs.Parts.{as_object, behind_hash}
-use Rattle.model_history.specs.declared.entry.Change.{Change}
-use Rattle.model_history.specs.declared.entry.Kind.{Kind}
-use Rattle.model_history.specs.declared.entry.Kind.TheVariants.{Calendar, Event}
-use Rattle.model_json.specs.declared.tree.Tree.{Tree}
+use Rattle.spec_history.specs.History.{live_object}
+use Rattle.spec_history.specs.ObjectId.{object_number}
+use Rattle.spec_json.specs.Data.{Data, Pair, members_of, object}
+use Rattle.spec_json.specs.Edit.{put_all}
+use Rattle.spec_json.specs.Parts.{as_object, behind_hash}
+use Rattle.spec_history.specs.declared.entry.Change.{Change}
+use Rattle.spec_history.specs.declared.entry.Kind.{Kind}
+use Rattle.spec_history.specs.declared.entry.Kind.TheVariants.{Calendar, Event}
+use Rattle.spec_json.specs.declared.tree.Tree.{Tree}
 
 -- the id of the object that was last created under a key
 abbrev pub created_id_at : List (List ℕ × List ℕ) → List ℕ → Option (List ℕ)

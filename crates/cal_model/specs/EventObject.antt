@@ -1,17 +1,17 @@
 -- What is stored of an event, and what of it depends on its account (draft JMAP for Calendars; RFC 8984 section 4).
 use Rattle.std.specs.Prelude.{ℕ, ℤ, List, ◌∷◌, ◌++◌, Bool, false, not, Option, Some, None, codes, is_some, take, unwrap_or, if◌then◌else◌}
 use Rattle.std.specs.List.{list_all, list_any}
-use Rattle.model_event.specs.Events.{calendars_of, names_calendar}
-use Rattle.model_history.specs.History.{live_at, live_object}
-use Rattle.model_history.specs.ObjectId.{id_text}
-use Rattle.model_history.specs.declared.entry.Change.{Change}
-use Rattle.model_history.specs.declared.entry.Kind.TheVariants.{Calendar, Event}
-use Rattle.model_json.specs.Data.{Data, Pair, field, lookup, null, text}
-use Rattle.model_json.specs.Edit.{with_pair}
-use Rattle.model_json.specs.SameData.{same_data}
-use Rattle.model_json.specs.TreeData.{data_of}
-use Rattle.model_json.specs.declared.tree.Tree.{Tree}
-use Rattle.model_time.specs.LocalTimes.{utc_text}
+use Rattle.spec_events.specs.Events.{calendars_of, names_calendar}
+use Rattle.spec_history.specs.History.{live_at, live_object}
+use Rattle.spec_history.specs.ObjectId.{id_text}
+use Rattle.spec_history.specs.declared.entry.Change.{Change}
+use Rattle.spec_history.specs.declared.entry.Kind.TheVariants.{Calendar, Event}
+use Rattle.spec_json.specs.Data.{Data, Pair, field, lookup, null, text}
+use Rattle.spec_json.specs.Edit.{with_pair}
+use Rattle.spec_json.specs.SameData.{same_data}
+use Rattle.spec_json.specs.TreeData.{data_of}
+use Rattle.spec_json.specs.declared.tree.Tree.{Tree}
+use Rattle.spec_time.specs.LocalTimes.{utc_text}
 use Rattle.property_table.specs.Table.{given}
 use Rattle.sha1.specs.Sha1.{sha1}
 use Rattle.uuid.specs.Parts.{with_variant, with_version}

@@ -2,22 +2,22 @@
 use Rattle.std.specs.Prelude.{◌≡◌, ◌⊎◌, ◌<◌, ℕ, List, false, true, Option, Some, None, is_some, length}
 use Rattle.cal_model.specs.EventObject.{has_event, names_missing_calendar}
 use Rattle.cal_model.specs.Quota.{exceeds_quota, size_of_object}
-use Rattle.model_event.specs.Events.{names_calendar}
-use Rattle.model_history.specs.History.{live_object, next_number}
-use Rattle.model_history.specs.declared.entry.Change.{Change}
-use Rattle.model_history.specs.declared.entry.Kind.{Kind}
-use Rattle.model_history.specs.declared.entry.Kind.TheVariants.{Calendar, Event}
-use Rattle.model_json.specs.Data.{Data}
-use Rattle.model_json.specs.TreeData.{data_of}
-use Rattle.model_json.specs.declared.tree.Tree.{Tree}
-use Rattle.model_recurrence.specs.SeriesOf.{series_in}
-use Rattle.model_resource.specs.Bookings.{other_bookings}
-use Rattle.model_resource.specs.Resources.{is_resource, zone_of_resource}
-use Rattle.model_resource.specs.declared.limits.TheConstants.{MAX_BOOKINGS}
-use Rattle.model_room.specs.Clashes.{IsClear}
-use Rattle.model_series.specs.Lengths.{IsWeekLong}
-use Rattle.model_series.specs.declared.series.Series.{Series}
-use Rattle.model_site.specs.TimeZones.{ZoneText}
+use Rattle.spec_events.specs.Events.{names_calendar}
+use Rattle.spec_history.specs.History.{live_object, next_number}
+use Rattle.spec_history.specs.declared.entry.Change.{Change}
+use Rattle.spec_history.specs.declared.entry.Kind.{Kind}
+use Rattle.spec_history.specs.declared.entry.Kind.TheVariants.{Calendar, Event}
+use Rattle.spec_json.specs.Data.{Data}
+use Rattle.spec_json.specs.TreeData.{data_of}
+use Rattle.spec_json.specs.declared.tree.Tree.{Tree}
+use Rattle.spec_recurrence.specs.SeriesOf.{series_in}
+use Rattle.spec_bookings.specs.BookedResources.{other_bookings}
+use Rattle.spec_bookings.specs.Resources.{is_resource, zone_of_resource}
+use Rattle.spec_bookings.specs.declared.limits.TheConstants.{MAX_BOOKINGS}
+use Rattle.spec_bookings.specs.Clashes.{IsClear}
+use Rattle.spec_series.specs.Lengths.{IsWeekLong}
+use Rattle.spec_series.specs.declared.series.Series.{Series}
+use Rattle.spec_site.specs.TimeZones.{ZoneText}
 
 -- The resource calendar of a number takes the booking of an event: the event is valid, no occurrence of it is longer than 7 days, the resource
 -- has room, and no second of all days would be covered twice.

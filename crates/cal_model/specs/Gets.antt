@@ -6,20 +6,20 @@ use Rattle.std.specs.Str.{bytes_eq}
 use Rattle.cal_model.specs.Calendar.{is_calendar_property}
 use Rattle.cal_model.specs.CreatedIds.{different, object_with_id, resolved_id}
 use Rattle.cal_model.specs.Occurrences.{occurrence_named}
-use Rattle.model_json.specs.Data.{Data, text, list, object, Pair, items_of, members_of}
-use Rattle.model_core.specs.Names.{is_name}
-use Rattle.model_core.specs.declared.limits.TheConstants.{MAX_OBJECTS_IN_GET}
-use Rattle.model_history.specs.History.{live_at}
-use Rattle.model_history.specs.ObjectId.{state_text}
-use Rattle.model_json.specs.Parts.{members_in, some_of}
-use Rattle.model_json.specs.TreeData.{data_of}
-use Rattle.model_call.specs.declared.call.MethodError.{MethodError}
-use Rattle.model_call.specs.declared.call.MethodError.TheVariants.{InvalidArguments, RequestTooLarge}
-use Rattle.model_history.specs.declared.entry.Change.{Change}
-use Rattle.model_history.specs.declared.entry.Kind.{Kind}
-use Rattle.model_history.specs.declared.entry.Kind.TheVariants.{Calendar, Event}
-use Rattle.model_json.specs.declared.tree.Tree.{Tree}
-use Rattle.model_json.specs.declared.tree.Tree.TheVariants.{Object}
+use Rattle.spec_json.specs.Data.{Data, text, list, object, Pair, items_of, members_of}
+use Rattle.spec_core.specs.Names.{is_name}
+use Rattle.spec_core.specs.declared.limits.TheConstants.{MAX_OBJECTS_IN_GET}
+use Rattle.spec_history.specs.History.{live_at}
+use Rattle.spec_history.specs.ObjectId.{state_text}
+use Rattle.spec_json.specs.Parts.{members_in, some_of}
+use Rattle.spec_json.specs.TreeData.{data_of}
+use Rattle.spec_calls.specs.declared.call.MethodError.{MethodError}
+use Rattle.spec_calls.specs.declared.call.MethodError.TheVariants.{InvalidArguments, RequestTooLarge}
+use Rattle.spec_history.specs.declared.entry.Change.{Change}
+use Rattle.spec_history.specs.declared.entry.Kind.{Kind}
+use Rattle.spec_history.specs.declared.entry.Kind.TheVariants.{Calendar, Event}
+use Rattle.spec_json.specs.declared.tree.Tree.{Tree}
+use Rattle.spec_json.specs.declared.tree.Tree.TheVariants.{Object}
 
 -- a property that is asked for; `id` always is
 abbrev pub is_asked_for : Option (List (List ℕ)) → Pair → Bool

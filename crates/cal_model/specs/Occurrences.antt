@@ -1,14 +1,14 @@
 -- Occurrences of events, which clients name by synthetic ids (draft JMAP for Calendars).
 use Rattle.std.specs.Prelude.{ℕ, ℤ, List, Option, None, option_and_then, option_map}
-use Rattle.model_history.specs.History.{live_object}
-use Rattle.model_history.specs.declared.entry.Change.{Change}
-use Rattle.model_history.specs.declared.entry.Kind.{Kind}
-use Rattle.model_history.specs.declared.entry.Kind.TheVariants.{Calendar, Event}
-use Rattle.model_json.specs.TreeData.{data_of}
-use Rattle.model_json.specs.declared.tree.Tree.{Tree}
-use Rattle.model_json.specs.declared.tree.Tree.TheVariants.{Object}
-use Rattle.model_recurrence.specs.OccurrenceIds.{occurrence_id_in}
-use Rattle.model_recurrence.specs.Recurrence.{occurrence_members}
+use Rattle.spec_history.specs.History.{live_object}
+use Rattle.spec_history.specs.declared.entry.Change.{Change}
+use Rattle.spec_history.specs.declared.entry.Kind.{Kind}
+use Rattle.spec_history.specs.declared.entry.Kind.TheVariants.{Calendar, Event}
+use Rattle.spec_json.specs.TreeData.{data_of}
+use Rattle.spec_json.specs.declared.tree.Tree.{Tree}
+use Rattle.spec_json.specs.declared.tree.Tree.TheVariants.{Object}
+use Rattle.spec_recurrence.specs.OccurrenceIds.{occurrence_id_in}
+use Rattle.spec_recurrence.specs.Recurrence.{occurrence_members}
 
 -- the occurrence of an event with this number and recurrence id
 abbrev pub occurrence_of : ℕ → ℤ → Tree → Option Tree

@@ -10,26 +10,26 @@ use Rattle.cal_model.specs.Quota.{exceeds_quota, size_of_object}
 use Rattle.cal_model.specs.declared.outcome.Outcome.{Outcome}
 use Rattle.cal_model.specs.declared.outcome.Outcome.TheVariants.{Accepted, Refused}
 use Rattle.cal_model.specs.declared.set_error.SetError.TheVariants.{CalendarHasEvent, Clashes, Forbidden, InvalidPatch, InvalidProperties, NotFound, OverQuota, WillDestroy}
-use Rattle.model_history.specs.Base.{Base}
-use Rattle.model_history.specs.History.{next_number}
-use Rattle.model_history.specs.ObjectId.{id_text}
-use Rattle.model_history.specs.declared.entry.Change.{Change}
-use Rattle.model_history.specs.declared.entry.Kind.{Kind}
-use Rattle.model_history.specs.declared.entry.Kind.TheVariants.{Calendar, Event}
-use Rattle.model_json.specs.Data.{Data, Pair, lookup, members_of, object, text}
-use Rattle.model_json.specs.Edit.{with_pair}
-use Rattle.model_json.specs.Parts.{as_text, members_in, text_at}
-use Rattle.model_json.specs.Patch.{patched}
-use Rattle.model_json.specs.SameData.{same_data}
-use Rattle.model_json.specs.TreeData.{data_of}
-use Rattle.model_json.specs.declared.tree.Tree.{Tree}
-use Rattle.model_json.specs.declared.tree.Tree.TheVariants.{Object}
-use Rattle.model_recurrence.specs.Recurrence.{bad_properties_of_event}
-use Rattle.model_resource.specs.BookingRules.{has_long_override, is_in_other_zone, is_long_booking}
-use Rattle.model_resource.specs.Bookings.{clash_of_event, has_full_resource}
-use Rattle.model_resource.specs.Resources.{resources_at, zone_of_resource}
-use Rattle.model_resource.specs.declared.limits.TheConstants.{MAX_RESOURCES}
-use Rattle.model_room.specs.declared.clash.Clash.{Clash}
+use Rattle.spec_history.specs.Base.{Base}
+use Rattle.spec_history.specs.History.{next_number}
+use Rattle.spec_history.specs.ObjectId.{id_text}
+use Rattle.spec_history.specs.declared.entry.Change.{Change}
+use Rattle.spec_history.specs.declared.entry.Kind.{Kind}
+use Rattle.spec_history.specs.declared.entry.Kind.TheVariants.{Calendar, Event}
+use Rattle.spec_json.specs.Data.{Data, Pair, lookup, members_of, object, text}
+use Rattle.spec_json.specs.Edit.{with_pair}
+use Rattle.spec_json.specs.Parts.{as_text, members_in, text_at}
+use Rattle.spec_json.specs.Patch.{patched}
+use Rattle.spec_json.specs.SameData.{same_data}
+use Rattle.spec_json.specs.TreeData.{data_of}
+use Rattle.spec_json.specs.declared.tree.Tree.{Tree}
+use Rattle.spec_json.specs.declared.tree.Tree.TheVariants.{Object}
+use Rattle.spec_recurrence.specs.Recurrence.{bad_properties_of_event}
+use Rattle.spec_bookings.specs.BookingRules.{has_long_override, is_in_other_zone, is_long_booking}
+use Rattle.spec_bookings.specs.BookedResources.{clash_of_event, has_full_resource}
+use Rattle.spec_bookings.specs.Resources.{resources_at, zone_of_resource}
+use Rattle.spec_bookings.specs.declared.limits.TheConstants.{MAX_RESOURCES}
+use Rattle.spec_bookings.specs.declared.clash.Clash.{Clash}
 use Rattle.property_table.specs.Names.{put_name}
 use Rattle.property_table.specs.Table.{given}
 

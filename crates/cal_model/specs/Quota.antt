@@ -1,10 +1,10 @@
 -- How much an account may hold.
 use Rattle.std.specs.Prelude.{ℕ, ◌+◌, List, ◌||◌, Bool, not, Option, Some, None, length, sum_by, nat_lt}
-use Rattle.model_json.specs.Json.{text_of}
-use Rattle.model_json.specs.TreeData.{data_of}
+use Rattle.spec_json.specs.Json.{text_of}
+use Rattle.spec_json.specs.TreeData.{data_of}
 use Rattle.cal_model.specs.declared.limits.TheConstants.{MAX_ENTRIES, MAX_OBJECT_BYTES}
-use Rattle.model_history.specs.declared.entry.Change.{Change}
-use Rattle.model_json.specs.declared.tree.Tree.{Tree}
+use Rattle.spec_history.specs.declared.entry.Change.{Change}
+use Rattle.spec_json.specs.declared.tree.Tree.{Tree}
 
 -- the bytes of an object's compact text; a removal has none
 abbrev pub size_of_object : Option Tree → ℕ

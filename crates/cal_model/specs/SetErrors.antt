@@ -1,9 +1,9 @@
 -- Why one object of a set was refused, as clients see it (RFC 8620 section 5.3).
 use Rattle.std.specs.Prelude.{ℕ, pos, List, [], ◌∷◌, ◌++◌, codes, map}
 use Rattle.std.specs.Option.{option_map_or}
-use Rattle.model_history.specs.ObjectId.{id_text}
-use Rattle.model_history.specs.declared.entry.Kind.TheVariants.{Calendar, Event}
-use Rattle.model_json.specs.Data.{Data, Pair, null, text, whole, list, object, items_of, members_of}
+use Rattle.spec_history.specs.ObjectId.{id_text}
+use Rattle.spec_history.specs.declared.entry.Kind.TheVariants.{Calendar, Event}
+use Rattle.spec_json.specs.Data.{Data, Pair, null, text, whole, list, object, items_of, members_of}
 use Rattle.cal_model.specs.declared.set_error.SetError.{SetError}
 use Rattle.cal_model.specs.declared.set_error.SetError.TheVariants.{NotFound, WillDestroy, InvalidPatch, InvalidProperties, CalendarHasEvent, Forbidden, OverQuota, Clashes}
 

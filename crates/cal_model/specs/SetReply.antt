@@ -6,17 +6,17 @@ use Rattle.cal_model.specs.SetErrors.{set_error}
 use Rattle.cal_model.specs.Sets.{Objects, create_outcomes, destroy_outcomes, ids_to_destroy, of_each, set_changes, update_outcomes}
 use Rattle.cal_model.specs.declared.outcome.Outcome.{Outcome}
 use Rattle.cal_model.specs.declared.outcome.Outcome.TheVariants.{Accepted, Refused}
-use Rattle.model_history.specs.ObjectId.{id_text, state_text}
-use Rattle.model_history.specs.declared.entry.Change.{Change}
-use Rattle.model_history.specs.declared.entry.Kind.{Kind}
-use Rattle.model_history.specs.declared.entry.Kind.TheVariants.{Calendar, Event}
-use Rattle.model_json.specs.Data.{Data, Pair, items_of, list, lookup, members_of, null, object, text}
-use Rattle.model_json.specs.Edit.{put_all}
-use Rattle.model_json.specs.Parts.{members_in}
-use Rattle.model_json.specs.SameData.{same_data}
-use Rattle.model_json.specs.TreeData.{data_of}
-use Rattle.model_json.specs.declared.tree.Tree.{Tree}
-use Rattle.model_json.specs.declared.tree.Tree.TheVariants.{Object}
+use Rattle.spec_history.specs.ObjectId.{id_text, state_text}
+use Rattle.spec_history.specs.declared.entry.Change.{Change}
+use Rattle.spec_history.specs.declared.entry.Kind.{Kind}
+use Rattle.spec_history.specs.declared.entry.Kind.TheVariants.{Calendar, Event}
+use Rattle.spec_json.specs.Data.{Data, Pair, items_of, list, lookup, members_of, null, object, text}
+use Rattle.spec_json.specs.Edit.{put_all}
+use Rattle.spec_json.specs.Parts.{members_in}
+use Rattle.spec_json.specs.SameData.{same_data}
+use Rattle.spec_json.specs.TreeData.{data_of}
+use Rattle.spec_json.specs.declared.tree.Tree.{Tree}
+use Rattle.spec_json.specs.declared.tree.Tree.TheVariants.{Object}
 
 abbrev pub is_value : Data → Option Data → Bool
 is_value d None = false

@@ -5,16 +5,16 @@ use Rattle.std.specs.Str.{bytes_eq}
 use Rattle.cal_model.specs.CreatedIds.{resolved_id}
 use Rattle.cal_model.specs.Operations.{Ground, Operation, changes_in, created_id, destroy, outcomes, outcomes_of_creates, update}
 use Rattle.cal_model.specs.declared.outcome.Outcome.{Outcome}
-use Rattle.model_call.specs.declared.call.MethodError.{MethodError}
-use Rattle.model_call.specs.declared.call.MethodError.TheVariants.{InvalidArguments, RequestTooLarge, StateMismatch}
-use Rattle.model_core.specs.Id.{is_id}
-use Rattle.model_core.specs.declared.limits.TheConstants.{MAX_OBJECTS_IN_SET}
-use Rattle.model_history.specs.ObjectId.{state_text}
-use Rattle.model_history.specs.declared.entry.Change.{Change}
-use Rattle.model_history.specs.declared.entry.Kind.{Kind}
-use Rattle.model_json.specs.Data.{Pair}
-use Rattle.model_json.specs.Parts.{members_in}
-use Rattle.model_json.specs.Patch.{is_object}
+use Rattle.spec_calls.specs.declared.call.MethodError.{MethodError}
+use Rattle.spec_calls.specs.declared.call.MethodError.TheVariants.{InvalidArguments, RequestTooLarge, StateMismatch}
+use Rattle.spec_core.specs.Id.{is_id}
+use Rattle.spec_core.specs.declared.limits.TheConstants.{MAX_OBJECTS_IN_SET}
+use Rattle.spec_history.specs.ObjectId.{state_text}
+use Rattle.spec_history.specs.declared.entry.Change.{Change}
+use Rattle.spec_history.specs.declared.entry.Kind.{Kind}
+use Rattle.spec_json.specs.Data.{Pair}
+use Rattle.spec_json.specs.Parts.{members_in}
+use Rattle.spec_json.specs.Patch.{is_object}
 
 -- the objects that a set names: creation ids, each with an object; ids, each with a patch; and ids
 pub record Objects : Type 0 where

@@ -1,7 +1,7 @@
 //! What comes of one object of a set.
 
 use crate::set_error::SetError;
-use model_history::entry::Change;
+use spec_history::entry::Change;
 
 /// What comes of creating, updating or destroying one object (RFC 8620 section 5.3).
 #[derive(Drop)]

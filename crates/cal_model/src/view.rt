@@ -4,19 +4,19 @@ ghost use Rattle.cal_model.specs.EventObject.{has_event};
 ghost use Rattle.cal_model.specs.Fits.{IsFit};
 ghost use Rattle.cal_model.specs.Quota.{size_of, size_of_object};
 ghost use Rattle.cal_model.specs.declared.limits.TheConstants.{MAX_ENTRIES, MAX_OBJECT_BYTES};
-ghost use Rattle.model_history.specs.Base.{Base};
-ghost use Rattle.model_history.specs.History.{ids_at, live_object, state_at};
-ghost use Rattle.model_history.specs.declared.entry.Change.{Change as AnyChange};
-ghost use Rattle.model_history.specs.declared.entry.Entry.{Entry};
-ghost use Rattle.model_resource.specs.Bookings.{other_bookings};
-ghost use Rattle.model_resource.specs.Resources.{is_resource, resources_at};
-ghost use Rattle.model_room.specs.Clashes.{IsClear, first_clash};
-ghost use Rattle.model_series.specs.Lengths.{IsWeekLong};
+ghost use Rattle.spec_history.specs.Base.{Base};
+ghost use Rattle.spec_history.specs.History.{ids_at, live_object, state_at};
+ghost use Rattle.spec_history.specs.declared.entry.Change.{Change as AnyChange};
+ghost use Rattle.spec_history.specs.declared.entry.Entry.{Entry};
+ghost use Rattle.spec_bookings.specs.BookedResources.{other_bookings};
+ghost use Rattle.spec_bookings.specs.Resources.{is_resource, resources_at};
+ghost use Rattle.spec_bookings.specs.Clashes.{IsClear, first_clash};
+ghost use Rattle.spec_series.specs.Lengths.{IsWeekLong};
 
-use model_history::entry::{Change, Kind};
-use model_json::tree::Tree;
-use model_room::clash::Clash;
-use model_series::series::Series;
+use spec_history::entry::{Change, Kind};
+use spec_json::tree::Tree;
+use spec_bookings::clash::Clash;
+use spec_series::series::Series;
 use std::alloc::{AllocError, Global};
 
 /// What a set sees of an account: its history, with the changes of this call that were accepted so far.

@@ -1,8 +1,8 @@
 -- What is stored of a calendar is read back.
 use Rattle.std.proofs.Common.{◌≡◌, ℕ, List, Option, Some, None, refl}
 use Rattle.cal_model.specs.Calendar.{CalendarProperties, calendar_in, stored, text_or_null}
-use Rattle.model_json.specs.Data.{members_of, object}
-use Rattle.model_json.specs.Parts.{as_text}
+use Rattle.spec_json.specs.Data.{members_of, object}
+use Rattle.spec_json.specs.Parts.{as_text}
 
 text_back : (t : Option (List ℕ)) → as_text (text_or_null t) ≡ t
 text_back None = refl

@@ -1,12 +1,12 @@
 //! A calendar.
 ghost use Rattle.std.specs.Prelude.{◌≡◌, IfOk, option_map};
 ghost use Rattle.cal_model.specs.Calendar.{stored, text_or_null};
-ghost use Rattle.model_json.specs.TreeData.{data_of};
-ghost use Rattle.model_json.specs.declared.tree.Tree.TheVariants.{Object};
+ghost use Rattle.spec_json.specs.TreeData.{data_of};
+ghost use Rattle.spec_json.specs.declared.tree.Tree.TheVariants.{Object};
 
-use model_json::num::Num;
-use model_json::text::Text;
-use model_json::tree::Tree;
+use spec_json::num::Num;
+use spec_json::text::Text;
+use spec_json::tree::Tree;
 use std::alloc::{AllocError, Global};
 use std::marker::Model;
 

@@ -3,16 +3,16 @@ ghost use Rattle.std.specs.Prelude.{◌≡◌, [], IfErr, IfOk, OnOk, pos, true,
 ghost use Rattle.cal_model.specs.Calendar.{bad_properties, calendar_in};
 ghost use Rattle.calendar_model.specs.Reports.{Reports};
 ghost use Rattle.calendar_model.specs.declared.read.CalendarError.TheVariants.{NoMemory};
-ghost use Rattle.model_json.specs.Parts.{number_at, text_at, truth_at};
-ghost use Rattle.model_json.specs.TreeData.{data_of};
+ghost use Rattle.spec_json.specs.Parts.{number_at, text_at, truth_at};
+ghost use Rattle.spec_json.specs.TreeData.{data_of};
 
 use crate::calendar::Calendar;
 use crate::table::CalendarTable;
-use model_event::values::copy_at;
-use model_json::lists::Texts;
-use model_json::num::Num;
-use model_json::text::Text;
-use model_json::tree::Tree;
+use spec_events::values::copy_at;
+use spec_json::lists::Texts;
+use spec_json::num::Num;
+use spec_json::text::Text;
+use spec_json::tree::Tree;
 use property_table::table::failing_names;
 use std::alloc::{AllocError, Global};
 use zone_table::Zones;

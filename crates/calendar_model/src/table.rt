@@ -1,13 +1,13 @@
 //! The table of a calendar's properties.
 ghost use Rattle.std.specs.Prelude.{◌≡◌, Some};
 ghost use Rattle.cal_model.specs.Calendar.{calendar_table, is_calendar_id};
-ghost use Rattle.model_json.specs.TreeData.{data_of};
-ghost use Rattle.model_site.specs.TimeZones.{has_zone};
+ghost use Rattle.spec_json.specs.TreeData.{data_of};
+ghost use Rattle.spec_site.specs.TimeZones.{has_zone};
 ghost use Rattle.property_table.specs.Table.{test_at};
 ghost use Rattle.property_table.specs.Values.{is_text_that};
 
-use model_history::entry::Kind;
-use model_json::tree::Tree;
+use spec_history::entry::Kind;
+use spec_json::tree::Tree;
 use property_table::table::PropertyTable;
 use property_table::values::{is_name, is_text, is_truth, is_unsigned_int};
 use std::alloc::AllocError;

@@ -1,8 +1,8 @@
 -- The calendar repeats itself after 400 years, which have 146097 days.
 use Rattle.std.proofs.Common.{◌≡◌, ℕ, zero, suc, ◌-◌, arith, refl, ℤ, pos, ◌+ℤ◌, ◌*ℤ◌}
 use Rattle.jiff_core.proofs.SignedLemmas.{signed_arith}
-use Rattle.model_time.specs.Floor.{modulo}
-use Rattle.model_time.specs.CivilDay.{is_leap, month_length, days_through_month, days_before_year, day_number, weekday_of, IsDate, cycles_later}
+use Rattle.spec_time.specs.Floor.{modulo}
+use Rattle.spec_time.specs.CivilDay.{is_leap, month_length, days_through_month, days_before_year, day_number, weekday_of, IsDate, cycles_later}
 
 pub days_before_year-cycle : (y q : ℤ) → days_before_year (y +ℤ q *ℤ pos 400) ≡ cycles_later (days_before_year y) q
 unfolding days_before_year

@@ -2,7 +2,7 @@
 use Rattle.std.proofs.Common.{◌≡◌, ℕ, ◌+◌, ◌-◌, ◌*◌, ◌<◌, ◌≤◌, arith, refl, sym, ap, ◌∙◌, ℤ, pos, ◌+ℤ◌, ◌-ℤ◌, ◌*ℤ◌}
 use Rattle.std.specs.Prelude.{unsigned_abs}
 use Rattle.jiff_core.proofs.SignedLemmas.{one_part, signed_arith}
-use Rattle.model_time.specs.CivilDay.{days_through_month, day_number, IsDate, IsDateOf, year_of, days_into_year, month_of, day_of_month, HasOneDate, cycles_later, HasSameDateLater}
+use Rattle.spec_time.specs.CivilDay.{days_through_month, day_number, IsDate, IsDateOf, year_of, days_into_year, month_of, day_of_month, HasOneDate, cycles_later, HasSameDateLater}
 use Rattle.civil_days.proofs.CycleLemmas.{IsDate-cycle, day_number-cycle, weekday_of-cycle}
 use Rattle.civil_days.proofs.YearLemmas.{IsInYear, IsInYear_only, new_year-next, year_of-in_year, in_year_size}
 use Rattle.civil_days.proofs.MonthLemmas.{IsInMonth, IsInMonth_only, days_through_month-next, days_through_month_mono, last_begun-in_month}

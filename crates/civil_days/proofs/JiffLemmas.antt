@@ -7,7 +7,7 @@ use Rattle.jiff_core.specs.Calendar.{IsYear, IsDate as IsJiffDate, is_leap_year,
 use Rattle.jiff_core.proofs.SignedLemmas.{signed_arith}
 use Rattle.jiff_core.proofs.MarchLemmas.{days_of_years-suc, days_of_years-march_days}
 use Rattle.jiff_core.proofs.CalendarLemmas.{days_from_civil-day_count}
-use Rattle.model_time.specs.CivilDay.{is_leap, month_length, days_through_month, days_before_year, day_number, IsDate, IsDateOf, cycles_later}
+use Rattle.spec_time.specs.CivilDay.{is_leap, month_length, days_through_month, days_before_year, day_number, IsDate, IsDateOf, cycles_later}
 use Rattle.civil_days.proofs.CycleLemmas.{month_length-cycle, IsDate-cycle, day_number-cycle}
 use borrow.Author.Differences.{up, down}
 

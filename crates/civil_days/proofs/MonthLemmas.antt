@@ -2,7 +2,7 @@
 use Rattle.std.proofs.Common.{◌≡◌, ℕ, zero, suc, ◌+◌, ◌-◌, ◌<◌, ◌≤◌, inl, inr, Bool, true, false, if◌then◌else◌, arith, refl, ℤ}
 use Rattle.std.specs.Prelude.{nat_le}
 use Rattle.std.proofs.lemmas.Bool.{leb-true, leb-false, cases_lt, cases_order}
-use Rattle.model_time.specs.CivilDay.{month_length, days_through_month, last_begun}
+use Rattle.spec_time.specs.CivilDay.{month_length, days_through_month, last_begun}
 
 pub month_length_bound : (y : ℤ) (m : ℕ) → month_length y m ≤ 31
 unfolding month_length

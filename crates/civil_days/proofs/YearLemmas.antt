@@ -4,8 +4,8 @@ use Rattle.std.specs.Prelude.{int_lt, unsigned_abs}
 use Rattle.std.proofs.lemmas.Bool.{eqb-true, eqb-false}
 use Rattle.std.proofs.lemmas.Int.{by_lt_z}
 use Rattle.jiff_core.proofs.SignedLemmas.{one_part, signed_arith}
-use Rattle.model_time.specs.Floor.{floor_div, modulo}
-use Rattle.model_time.specs.CivilDay.{is_leap, month_length, days_through_month, days_before_year, day_number, year_of}
+use Rattle.spec_time.specs.Floor.{floor_div, modulo}
+use Rattle.spec_time.specs.CivilDay.{is_leap, month_length, days_through_month, days_before_year, day_number, year_of}
 
 -- 1 in a leap year
 abbrev pub leap_day : ℤ → ℕ

@@ -2,7 +2,7 @@
 ghost use Rattle.std.specs.Prelude.{◌≡◌, ◌+◌, ◌/◌, ◌<◌, ◌≤◌, ◌^◌, ◌-ℤ◌, unsigned_abs, IfSome};
 ghost use Rattle.std.specs.Int.{int_rem_euclid};
 ghost use Rattle.std.specs.Option.{SomeIff};
-ghost use Rattle.model_time.specs.CivilDay.{IsDate, IsDateOf, day_number, year_of, month_of, day_of_month, weekday_of};
+ghost use Rattle.spec_time.specs.CivilDay.{IsDate, IsDateOf, day_number, year_of, month_of, day_of_month, weekday_of};
 
 use crate::Civil;
 use jiff_core::civil::Date;

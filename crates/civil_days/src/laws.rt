@@ -1,6 +1,6 @@
 //! The laws of the calendar, each the contract of a function that does nothing.
 ghost use Rattle.std.specs.Prelude.{ℤ};
-ghost use Rattle.model_time.specs.CivilDay.{HasOneDate, HasSameDateLater};
+ghost use Rattle.spec_time.specs.CivilDay.{HasOneDate, HasSameDateLater};
 
 /// Every day number has exactly one date.
 pub fn one_date_a_day()

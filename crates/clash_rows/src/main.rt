@@ -2,7 +2,7 @@
 //! decision is made, for `bench/clashes.py` to time.
 #![tactic(auto)]
 
-use model_json::tree::Tree;
+use spec_json::tree::Tree;
 use residue_clash::{Shared, first_self_shared, first_shared};
 use row_series::series_in;
 use row_table::line::tree_in;

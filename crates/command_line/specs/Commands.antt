@@ -6,7 +6,7 @@ use Rattle.clap.specs.Words.{App, Rule, fault_of, first_of, matches_of, new_app,
 use Rattle.clap.specs.Simple.{on_top}
 use Rattle.clap.specs.Walk.{is_empty}
 use Rattle.clap.specs.declared.builder.action.ArgAction.TheVariants.{Set}
-use Rattle.model_json.specs.Number.{number_in}
+use Rattle.spec_json.specs.Number.{number_in}
 use Rattle.command_line.specs.declared.listen.TheConstants.{DEFAULT_CONNECTIONS, DEFAULT_WORKERS, MOST_CONNECTIONS, MOST_PORT, MOST_WORKERS}
 use Rattle.command_line.specs.declared.workload.TheConstants.{MOST_NUMBER, MOST_SIZE}
 

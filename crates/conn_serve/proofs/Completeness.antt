@@ -4,21 +4,21 @@ use Rattle.std.proofs.KnownBytes.{Consumes-whole}
 use Rattle.std.proofs.lemmas.List.{length-map}
 use Rattle.std.specs.Io.KnownBytes.{Consumes, IsAtEnd}
 use Rattle.std.specs.Prelude.{◌⊎◌, IfSome}
-use Rattle.model_batch.proofs.Chains.{spent_stop}
-use Rattle.model_batch.specs.Batch.{NextMeans}
-use Rattle.model_batch.specs.Chain.{Shown}
-use Rattle.model_http.specs.Messages.{Message}
-use Rattle.model_http.specs.Pipeline.{Ending, EndsAs, Reads, undecided, bad_head, close_asked, quota_spent}
-use Rattle.model_connection.specs.Serving.{EndHow, IsUnanswered, Rests, Serves, Setting, Whole}
-use Rattle.model_connection.specs.Exchanges.{Begun, Told, Exchange, all_bytes, called, messages_of, uncalled}
-use Rattle.model_history.specs.MostTurns.{most_turns}
+use Rattle.spec_batch.proofs.Chains.{spent_stop}
+use Rattle.spec_batch.specs.Batch.{NextMeans}
+use Rattle.spec_batch.specs.Chain.{Shown}
+use Rattle.spec_http.specs.Messages.{Message}
+use Rattle.spec_http.specs.Pipeline.{Ending, EndsAs, Reads, undecided, bad_head, close_asked, quota_spent}
+use Rattle.spec_connection.specs.Serving.{EndHow, IsUnanswered, Rests, Serves, Setting, Whole}
+use Rattle.spec_connection.specs.Exchanges.{Begun, Told, Exchange, all_bytes, called, messages_of, uncalled}
+use Rattle.spec_history.specs.MostTurns.{most_turns}
 use Rattle.io_edge.specs.Outside.{Grows}
-use Rattle.model_site.specs.Configuration.{Site, user_at}
-use Rattle.model_time.specs.Moments.{clamped}
-use Rattle.model_batch.specs.declared.desk.DeskError.TheVariants as reason
-use Rattle.model_connection.specs.declared.served.ConnEnd.{ConnEnd}
-use Rattle.model_connection.specs.declared.served.ConnEnd.TheVariants as end
-use Rattle.model_connection.specs.declared.served.Served.{Served}
+use Rattle.spec_site.specs.Configuration.{Site, user_at}
+use Rattle.spec_time.specs.Moments.{clamped}
+use Rattle.spec_batch.specs.declared.desk.DeskError.TheVariants as reason
+use Rattle.spec_connection.specs.declared.served.ConnEnd.{ConnEnd}
+use Rattle.spec_connection.specs.declared.served.ConnEnd.TheVariants as end
+use Rattle.spec_connection.specs.declared.served.Served.{Served}
 use Rattle.conn_serve.specs.Complete.{AllAnswered, EndsWithBytes, FaultlessConnectionsAreAnswered, FaultlessConnectionsAreDetermined, Holds, IsFaultless, IsUnharmed, ReadFaultsComeLast}
 use Rattle.http_edge.proofs.Pipelines.{determined, reads_more}
 use Rattle.http_edge.proofs.Stays.{refused_more}

@@ -2,11 +2,11 @@
 use Rattle.std.proofs.Common.{◌≡◌, ℕ, ℤ, zero, suc, ◌+◌, List, [], ◌∷◌, ◌++◌, length, length-append, map, sym, refl, ap, ◌∙◌, subst, arith, append-nil, append_assoc, Option, Some, None}
 use Rattle.std.proofs.lemmas.List.{map-append}
 use Rattle.std.proofs.lemmas.Grind.{flat_map-append}
-use Rattle.model_batch.proofs.Chains.{join, still}
-use Rattle.model_batch.specs.Chain.{Chain, Shown, front_of}
-use Rattle.model_connection.specs.Exchanges.{AllFit, Fits, Ticked, Told, Exchange, all_made, all_moments, closes, moment_behind}
-use Rattle.model_site.specs.Configuration.{Site}
-use Rattle.model_batch.specs.declared.desk.Front.{Front}
+use Rattle.spec_batch.proofs.Chains.{join, still}
+use Rattle.spec_batch.specs.Chain.{Chain, Shown, front_of}
+use Rattle.spec_connection.specs.Exchanges.{AllFit, Fits, Ticked, Told, Exchange, all_made, all_moments, closes, moment_behind}
+use Rattle.spec_site.specs.Configuration.{Site}
+use Rattle.spec_batch.specs.declared.desk.Front.{Front}
 
 behind_append : (ts us : List ℤ) (b c : ℕ → ℤ) → ((n : ℕ) → b n ≡ moment_behind us c n) → (n : ℕ) → moment_behind ts b n ≡ moment_behind (ts ++ us) c n
 behind_append [] us b c h n = h n

@@ -2,23 +2,23 @@
 use Rattle.std.proofs.Common.{◌≡◌, ℕ, ℤ, zero, suc, ◌+◌, ◌≤◌, List, [], ◌∷◌, ◌++◌, Bool, Option, Some, None, Result, Ok, Err, inl, inr, Vec, length, map, refl, sym, ap, ◌∙◌, subst, arith, append-nil}
 use Rattle.std.specs.Prelude.{◌⊎◌}
 use Rattle.std.specs.declared.alloc.Global.{Global}
-use Rattle.model_batch.proofs.Chains.{still}
-use Rattle.model_batch.specs.Asked.{Asked, asked, is_refused, refused}
-use Rattle.model_time.specs.Moments.{clamped}
-use Rattle.model_batch.specs.Reply.{BeginsReply, Replies, asked_in}
-use Rattle.model_batch.specs.Chain.{Made, Chain, Shown, front_of}
-use Rattle.model_json.specs.Data.{Data}
-use Rattle.model_http.specs.Messages.{Message}
-use Rattle.model_http.specs.Responses.{Response, response_text}
-use Rattle.model_connection.specs.Routes.{Route, api, direct, route}
-use Rattle.model_connection.specs.Exchanges.{Told, Ticked, Exchange, api_response, at_once, by_calls, called, moment_behind, moments_for, uncalled}
+use Rattle.spec_batch.proofs.Chains.{still}
+use Rattle.spec_batch.specs.Asked.{Asked, asked, is_refused, refused}
+use Rattle.spec_time.specs.Moments.{clamped}
+use Rattle.spec_batch.specs.Reply.{BeginsReply, Replies, asked_in}
+use Rattle.spec_batch.specs.Chain.{Made, Chain, Shown, front_of}
+use Rattle.spec_json.specs.Data.{Data}
+use Rattle.spec_http.specs.Messages.{Message}
+use Rattle.spec_http.specs.Responses.{Response, response_text}
+use Rattle.spec_connection.specs.Routes.{Route, api, direct, route}
+use Rattle.spec_connection.specs.Exchanges.{Told, Ticked, Exchange, api_response, at_once, by_calls, called, moment_behind, moments_for, uncalled}
 use Rattle.io_edge.specs.Outside.{Ticks}
-use Rattle.model_site.specs.Configuration.{Site, user_at}
-use Rattle.model_json.specs.TreeData.{data_of}
-use Rattle.model_batch.specs.declared.desk.DeskError.{DeskError}
-use Rattle.model_batch.specs.declared.desk.DeskError.TheVariants.{NoMemory}
-use Rattle.model_batch.specs.declared.desk.Front.{Front}
-use Rattle.model_core.specs.declared.user.User.{User}
+use Rattle.spec_site.specs.Configuration.{Site, user_at}
+use Rattle.spec_json.specs.TreeData.{data_of}
+use Rattle.spec_batch.specs.declared.desk.DeskError.{DeskError}
+use Rattle.spec_batch.specs.declared.desk.DeskError.TheVariants.{NoMemory}
+use Rattle.spec_batch.specs.declared.desk.Front.{Front}
+use Rattle.spec_core.specs.declared.user.User.{User}
 use Rattle.conn_serve.proofs.Exchanging.{told_none}
 use Rattle.conn_serve.specs.Answering.{AnswerHow, AnswersMessage, IsOutcome, OutcomeHow, outcome_response}
 use Rattle.conn_serve.specs.declared.reply.RequestOutcome.{RequestOutcome}

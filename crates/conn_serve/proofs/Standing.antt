@@ -7,21 +7,21 @@ use Rattle.std.proofs.lemmas.List.{map-append}
 use Rattle.std.specs.Io.KnownBytes.{Consumes}
 use Rattle.std.specs.declared.alloc.Global.{Global}
 use Rattle.io_edge.proofs.OutsideLemmas.{Grows-nil, Grows-trans}
-use Rattle.model_batch.proofs.Chains.{accounts_stay}
-use Rattle.model_batch.specs.Chain.{Shown}
-use Rattle.model_http.specs.Messages.{Message, whole, BeginsWith, IsUndecided}
-use Rattle.model_http.specs.Pipeline.{AllOpen, Reads, bad_head, undecided}
-use Rattle.model_http.specs.declared.limits.TheConstants.{PIECE}
-use Rattle.model_connection.specs.Serving.{AskedLast, EndHow, IsUnanswered, Rests, Serves, Setting, Whole, end_for, refusal_cut, refusal_text, response_cut}
-use Rattle.model_connection.specs.Exchanges.{AllFit, Begun, Fits, Told, Exchange, all_bytes, closes, messages_of}
+use Rattle.spec_batch.proofs.Chains.{accounts_stay}
+use Rattle.spec_batch.specs.Chain.{Shown}
+use Rattle.spec_http.specs.Messages.{Message, whole, BeginsWith, IsUndecided}
+use Rattle.spec_http.specs.Pipeline.{AllOpen, Reads, bad_head, undecided}
+use Rattle.spec_http.specs.declared.limits.TheConstants.{PIECE}
+use Rattle.spec_connection.specs.Serving.{AskedLast, EndHow, IsUnanswered, Rests, Serves, Setting, Whole, end_for, refusal_cut, refusal_text, response_cut}
+use Rattle.spec_connection.specs.Exchanges.{AllFit, Begun, Fits, Told, Exchange, all_bytes, closes, messages_of}
 use Rattle.io_edge.specs.Outside.{Grows, GrowsByPrefix, Rose, SinkShown, SourceShown}
-use Rattle.model_site.specs.Configuration.{Site}
-use Rattle.model_batch.specs.declared.desk.DeskError.{DeskError}
-use Rattle.model_batch.specs.declared.desk.DeskError.TheVariants as desk
-use Rattle.model_batch.specs.declared.desk.Front.{Front}
-use Rattle.model_connection.specs.declared.served.ConnEnd.{ConnEnd}
-use Rattle.model_connection.specs.declared.served.ConnEnd.TheVariants as end
-use Rattle.model_connection.specs.declared.served.Served.{Served}
+use Rattle.spec_site.specs.Configuration.{Site}
+use Rattle.spec_batch.specs.declared.desk.DeskError.{DeskError}
+use Rattle.spec_batch.specs.declared.desk.DeskError.TheVariants as desk
+use Rattle.spec_batch.specs.declared.desk.Front.{Front}
+use Rattle.spec_connection.specs.declared.served.ConnEnd.{ConnEnd}
+use Rattle.spec_connection.specs.declared.served.ConnEnd.TheVariants as end
+use Rattle.spec_connection.specs.declared.served.Served.{Served}
 use Rattle.conn_serve.proofs.Exchanging.{fit_more, told_join, told_none}
 use Rattle.conn_serve.specs.Answering.{AnswerHow, AnswersMessage}
 use Rattle.conn_serve.specs.Ending.{IsRefusalEnd, RefusalHow}

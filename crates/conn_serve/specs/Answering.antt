@@ -1,22 +1,22 @@
 -- How one body and one message are answered.
 use Rattle.std.specs.Prelude.{◌≡◌, ℕ, ◌<◌, ◌≤◌, length, if◌then◌else◌, ◌⊎◌, ℤ, List, [], ◌∷◌, ◌++◌, Bool, true, Option, Result, Ok, Err, Vec, map}
 use Rattle.std.specs.declared.alloc.Global.{Global}
-use Rattle.model_batch.specs.Asked.{Asked, is_refused}
-use Rattle.model_batch.specs.Reply.{BeginsReply, Replies}
-use Rattle.model_batch.specs.Problem.{problem}
-use Rattle.model_batch.specs.Chain.{Made, Chain, Shown, front_of}
-use Rattle.model_http.specs.Messages.{Message}
-use Rattle.model_http.specs.Responses.{IsStatus, Response}
-use Rattle.model_connection.specs.Routes as http
-use Rattle.model_connection.specs.Exchanges.{Begun, Fits, Told, Exchange}
-use Rattle.model_json.specs.Json.{text_of}
-use Rattle.model_site.specs.Configuration.{Site}
-use Rattle.model_json.specs.TreeData.{data_of}
-use Rattle.model_batch.specs.declared.desk.DeskError.{DeskError}
-use Rattle.model_batch.specs.declared.desk.DeskError.TheVariants.{NoMemory}
-use Rattle.model_batch.specs.declared.desk.Front.{Front}
-use Rattle.model_batch.specs.declared.request.RequestError.{RequestError}
-use Rattle.model_core.specs.declared.user.User.{User}
+use Rattle.spec_batch.specs.Asked.{Asked, is_refused}
+use Rattle.spec_batch.specs.Reply.{BeginsReply, Replies}
+use Rattle.spec_batch.specs.Problem.{problem}
+use Rattle.spec_batch.specs.Chain.{Made, Chain, Shown, front_of}
+use Rattle.spec_http.specs.Messages.{Message}
+use Rattle.spec_http.specs.Responses.{IsStatus, Response}
+use Rattle.spec_connection.specs.Routes as http
+use Rattle.spec_connection.specs.Exchanges.{Begun, Fits, Told, Exchange}
+use Rattle.spec_json.specs.Json.{text_of}
+use Rattle.spec_site.specs.Configuration.{Site}
+use Rattle.spec_json.specs.TreeData.{data_of}
+use Rattle.spec_batch.specs.declared.desk.DeskError.{DeskError}
+use Rattle.spec_batch.specs.declared.desk.DeskError.TheVariants.{NoMemory}
+use Rattle.spec_batch.specs.declared.desk.Front.{Front}
+use Rattle.spec_batch.specs.declared.request.RequestError.{RequestError}
+use Rattle.spec_core.specs.declared.user.User.{User}
 use Rattle.conn_serve.specs.declared.reply.RequestOutcome.{RequestOutcome}
 use Rattle.conn_serve.specs.declared.route.Route.{Route}
 use Rattle.conn_serve.specs.declared.route.Route.TheVariants.{Direct, Api}

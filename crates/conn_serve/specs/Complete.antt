@@ -1,16 +1,16 @@
 -- What a connection comes to where neither its source nor its sink fails and its desk may make more calls.
 use Rattle.std.specs.Prelude.{◌≡◌, ◌≢◌, ℕ, ◌<◌, List, [], ◌++◌, Some, IfSome, length, ⊤}
 use Rattle.std.specs.Io.KnownBytes.{Consumes, IsAtEnd}
-use Rattle.model_http.specs.Messages.{Message}
-use Rattle.model_http.specs.Pipeline.{Ending, EndsAs, Reads, undecided, bad_head, close_asked, quota_spent}
-use Rattle.model_connection.specs.Serving.{Serves, Setting, refusal_text}
-use Rattle.model_connection.specs.Exchanges.{AllFit, Told, Exchange, all_bytes, messages_of}
-use Rattle.model_history.specs.MostTurns.{most_turns}
+use Rattle.spec_http.specs.Messages.{Message}
+use Rattle.spec_http.specs.Pipeline.{Ending, EndsAs, Reads, undecided, bad_head, close_asked, quota_spent}
+use Rattle.spec_connection.specs.Serving.{Serves, Setting, refusal_text}
+use Rattle.spec_connection.specs.Exchanges.{AllFit, Told, Exchange, all_bytes, messages_of}
+use Rattle.spec_history.specs.MostTurns.{most_turns}
 use Rattle.io_edge.specs.Outside.{Grows, Rose}
-use Rattle.model_site.specs.Configuration.{Site}
-use Rattle.model_connection.specs.declared.served.ConnEnd.{ConnEnd}
-use Rattle.model_connection.specs.declared.served.ConnEnd.TheVariants as end
-use Rattle.model_connection.specs.declared.served.Served.{Served}
+use Rattle.spec_site.specs.Configuration.{Site}
+use Rattle.spec_connection.specs.declared.served.ConnEnd.{ConnEnd}
+use Rattle.spec_connection.specs.declared.served.ConnEnd.TheVariants as end
+use Rattle.spec_connection.specs.declared.served.Served.{Served}
 
 -- the bytes of a connection of at most `most` messages hold just these, with this left behind them, and end so
 abbrev pub Holds : ℕ → List ℕ → List Message → List ℕ → Ending → Type 0

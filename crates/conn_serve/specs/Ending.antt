@@ -1,9 +1,9 @@
 -- How a connection ends that wasn't served to the end of its bytes.
 use Rattle.std.specs.Prelude.{◌≡◌, ◌≤◌, ℕ}
-use Rattle.model_connection.specs.Serving.{refusal_text}
+use Rattle.spec_connection.specs.Serving.{refusal_text}
 use Rattle.io_edge.specs.Outside.{Grows, GrowsByPrefix, Rose, SinkShown}
-use Rattle.model_connection.specs.declared.served.ConnEnd.{ConnEnd}
-use Rattle.model_connection.specs.declared.served.ConnEnd.TheVariants.{BadHead, NoMemory, WriteFault}
+use Rattle.spec_connection.specs.declared.served.ConnEnd.{ConnEnd}
+use Rattle.spec_connection.specs.declared.served.ConnEnd.TheVariants.{BadHead, NoMemory, WriteFault}
 
 -- the response to a head that is refused with this status was given, or a prefix of it, or none of it
 abbrev pub RefusalHow : SinkShown → SinkShown → ℕ → ConnEnd → Type 0

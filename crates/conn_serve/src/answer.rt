@@ -1,7 +1,7 @@
 //! The response to one message.
 ghost use Rattle.std.specs.Prelude.{◌≡◌, ◌<◌, IfOk, length};
-ghost use Rattle.model_http.specs.Responses.{response_text};
-ghost use Rattle.model_connection.specs.Routes.{api, route};
+ghost use Rattle.spec_http.specs.Responses.{response_text};
+ghost use Rattle.spec_connection.specs.Routes.{api, route};
 ghost use Rattle.conn_serve.specs.Answering.{AnswersMessage, outcome_response};
 ghost use Rattle.http_edge.specs.Reading.{message_shown};
 
@@ -10,8 +10,8 @@ use crate::route::{Route, route_of, success, with_problem};
 use http_edge::message::Message;
 use http_edge::response::response_bytes;
 use io_edge::clock::Clock;
-use model_batch::desk::{Desk, DeskError, Front};
-use model_time::moment::Moment;
+use spec_batch::desk::{Desk, DeskError, Front};
+use spec_time::moment::Moment;
 use session_doc::Site;
 use std::alloc::{AllocError, Global};
 

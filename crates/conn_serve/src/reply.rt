@@ -1,19 +1,19 @@
 //! The reply to the body of a request.
 ghost use Rattle.std.specs.Prelude.{◌<◌, All};
-ghost use Rattle.model_batch.specs.Asked.{asked_by};
-ghost use Rattle.model_batch.specs.Reply.{asked_in};
-ghost use Rattle.model_json.specs.TreeData.{data_of};
+ghost use Rattle.spec_batch.specs.Asked.{asked_by};
+ghost use Rattle.spec_batch.specs.Reply.{asked_in};
+ghost use Rattle.spec_json.specs.TreeData.{data_of};
 ghost use Rattle.conn_serve.specs.Answering.{IsProblem, IsOutcome};
 
 use batch_exec::problem::problem_tree;
 use batch_exec::run::run_batch;
 use json_edge::read::{ReadError, read_tree};
-use model_batch::desk::{Desk, DeskError, Front};
-use model_batch::request::{BatchError, Limit, RequestError};
-use model_core::limits::MAX_SIZE_REQUEST;
-use model_core::user::User;
-use model_json::tree::Tree;
-use model_time::moment::Moment;
+use spec_batch::desk::{Desk, DeskError, Front};
+use spec_batch::request::{BatchError, Limit, RequestError};
+use spec_core::limits::MAX_SIZE_REQUEST;
+use spec_core::user::User;
+use spec_json::tree::Tree;
+use spec_time::moment::Moment;
 use std::alloc::Global;
 
 /// What a request came to.

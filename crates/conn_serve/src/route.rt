@@ -1,10 +1,10 @@
 //! What a message asks for, by its token, its path and its method.
 ghost use Rattle.std.specs.Prelude.{◌≡◌, ◌<◌, IfOk, IfSome, length, None, Some, option_and_then};
-ghost use Rattle.model_http.specs.Responses.{IsStatus};
-ghost use Rattle.model_connection.specs.Routes as http;
-ghost use Rattle.model_json.specs.Json.{text_of};
-ghost use Rattle.model_site.specs.Configuration.{Site as Described, user_of_token};
-ghost use Rattle.model_json.specs.TreeData.{data_of};
+ghost use Rattle.spec_http.specs.Responses.{IsStatus};
+ghost use Rattle.spec_connection.specs.Routes as http;
+ghost use Rattle.spec_json.specs.Json.{text_of};
+ghost use Rattle.spec_site.specs.Configuration.{Site as Described, user_of_token};
+ghost use Rattle.spec_json.specs.TreeData.{data_of};
 ghost use Rattle.conn_serve.specs.Answering.{IsRouteIn, route_shown};
 ghost use Rattle.http_edge.specs.Reading.{message_shown, response_shown};
 
@@ -12,8 +12,8 @@ use http_edge::bytes::Bytes;
 use http_edge::message::Message;
 use http_edge::response::Response;
 use json_edge::write::tree_text;
-use model_json::text::Text;
-use model_json::tree::Tree;
+use spec_json::text::Text;
+use spec_json::tree::Tree;
 use session_doc::Site;
 use std::alloc::{AllocError, Global};
 

@@ -1,8 +1,8 @@
 //! A connection.
 ghost use Rattle.std.specs.Prelude.{◌≡◌, ◌<◌, length, IfOk};
-ghost use Rattle.model_http.specs.Responses.{IsStatus};
-ghost use Rattle.model_connection.specs.Serving.{Serves, refusal_text};
-ghost use Rattle.model_connection.specs.Exchanges.{closes};
+ghost use Rattle.spec_http.specs.Responses.{IsStatus};
+ghost use Rattle.spec_connection.specs.Serving.{Serves, refusal_text};
+ghost use Rattle.spec_connection.specs.Exchanges.{closes};
 ghost use Rattle.http_edge.specs.Reading.{message_shown};
 ghost use Rattle.conn_serve.specs.Ending.{IsRefusalEnd};
 
@@ -15,8 +15,8 @@ use http_edge::response::{Response, response_bytes};
 use io_edge::clock::Clock;
 use io_edge::sink::{Sink, put_all};
 use io_edge::source::Source;
-use model_batch::desk::{Desk, DeskError, Front};
-use model_connection::served::{ConnEnd, MOST_MESSAGES, Served, end_for};
+use spec_batch::desk::{Desk, DeskError, Front};
+use spec_connection::served::{ConnEnd, MOST_MESSAGES, Served, end_for};
 use session_doc::Site;
 use std::alloc::{AllocError, Global};
 

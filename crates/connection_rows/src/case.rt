@@ -1,5 +1,5 @@
 //! A row as it is read: how the program is run, and what is wanted of it.
-use model_json::tree::{Tree, TreeObject};
+use spec_json::tree::{Tree, TreeObject};
 use row_table::files::bytes_of;
 use row_table::line::words_in;
 use std::alloc::{AllocError, Global};

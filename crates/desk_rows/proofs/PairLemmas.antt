@@ -1,13 +1,13 @@
 -- A call on the second account of a pair is a call on a desk.
 use Rattle.std.proofs.Common.{◌≡◌, ◌≢◌, ℕ, ℤ, ◌-◌, ◌<◌, ◌==◌, ◌^◌, List, [], ◌++◌, Result, Ok, Err, IfOk, OnOk, OnErr, refl, sym, ap, ◌∙◌, subst, arith, append-nil, ne_eqb, if◌then◌else◌}
 use Rattle.cal_model.specs.Answer.{answer, added}
-use Rattle.model_history.specs.Base.{Base}
-use Rattle.model_batch.specs.Chain.{Called, StaysBeside}
-use Rattle.model_history.specs.MostTurns.{most_turns}
-use Rattle.model_call.specs.declared.call.Call.{Call}
-use Rattle.model_call.specs.declared.call.Reply.{Reply}
-use Rattle.model_history.specs.declared.entry.Entry.{Entry}
-use Rattle.model_history.specs.declared.stamp.Stamp.{Stamp}
+use Rattle.spec_history.specs.Base.{Base}
+use Rattle.spec_batch.specs.Chain.{Called, StaysBeside}
+use Rattle.spec_history.specs.MostTurns.{most_turns}
+use Rattle.spec_calls.specs.declared.call.Call.{Call}
+use Rattle.spec_calls.specs.declared.call.Reply.{Reply}
+use Rattle.spec_history.specs.declared.entry.Entry.{Entry}
+use Rattle.spec_history.specs.declared.stamp.Stamp.{Stamp}
 use Rattle.account_desk.specs.SoleDesk.{of_desk}
 use Rattle.desk_rows.specs.Pair.{pair_shown}
 

@@ -1,10 +1,10 @@
 -- What contracts see of a desk over two accounts.
 use Rattle.std.specs.Prelude.{ℕ, ◌-◌, List, [], ◌==◌, if◌then◌else◌}
-use Rattle.model_history.specs.Base.{Base}
+use Rattle.spec_history.specs.Base.{Base}
 use Rattle.account_desk.specs.FreshDesk.{account_rules}
-use Rattle.model_history.specs.MostTurns.{most_turns}
-use Rattle.model_batch.specs.Chain.{Shown}
-use Rattle.model_history.specs.declared.entry.Entry.{Entry}
+use Rattle.spec_history.specs.MostTurns.{most_turns}
+use Rattle.spec_batch.specs.Chain.{Shown}
+use Rattle.spec_history.specs.declared.entry.Entry.{Entry}
 
 -- the accounts have the numbers 0 and 1, and the desk makes so many calls more
 abbrev pub pair_shown : Base × List Entry → Base × List Entry → ℕ → Shown

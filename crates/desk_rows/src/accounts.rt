@@ -3,7 +3,7 @@ ghost use Rattle.std.specs.Prelude.{◌≡◌, [], IfOk};
 ghost use Rattle.std.specs.Arc.{arc_value};
 
 use account_core::account::Account;
-use model_json::text::Text;
+use spec_json::text::Text;
 use std::alloc::{AllocError, Global};
 use std::sync::Arc;
 use zone_table::Zones;

@@ -4,11 +4,11 @@ ghost use Rattle.std.specs.Prelude.{◌<◌, All, IfOk};
 use crate::pair_desk::PairDesk;
 use batch_exec::run::run_batch;
 use json_edge::write::tree_text;
-use model_batch::desk::Front;
-use model_core::user::{Grant, Grants, User};
-use model_json::text::Text;
-use model_json::tree::Tree;
-use model_time::moment::Moment;
+use spec_batch::desk::Front;
+use spec_core::user::{Grant, Grants, User};
+use spec_json::text::Text;
+use spec_json::tree::Tree;
+use spec_time::moment::Moment;
 use std::alloc::{AllocError, Global};
 use std::fmt::Write;
 

@@ -4,7 +4,7 @@ use conn_serve::serve::serve_connection;
 use io_edge::memory_clock::StillClock;
 use io_edge::memory_sink::SureSink;
 use io_edge::memory_source::SureSource;
-use model_json::text::Text;
+use spec_json::text::Text;
 use session_doc::Site;
 use std::alloc::{AllocError, Global};
 

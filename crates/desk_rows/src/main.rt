@@ -6,7 +6,7 @@ mod batches;
 mod connections;
 mod pair_desk;
 
-use model_json::tree::Tree;
+use spec_json::tree::Tree;
 use row_table::line::{tree_in, unrolled};
 use row_table::row::Row;
 use row_table::trial::{NOT_READ, Trial, try_rows, unless_answered};

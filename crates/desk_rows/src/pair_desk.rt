@@ -4,11 +4,11 @@ ghost use Rattle.account_desk.specs.SoleDesk.{of_desk};
 
 use crate::accounts::open_account;
 use account_core::account::Account;
-use model_batch::desk::{Desk, DeskError};
-use model_call::call::{Call, Reply};
-use model_history::book::Book;
-use model_json::text::Text;
-use model_time::moment::Moment;
+use spec_batch::desk::{Desk, DeskError};
+use spec_calls::call::{Call, Reply};
+use spec_history::book::Book;
+use spec_json::text::Text;
+use spec_time::moment::Moment;
 use std::alloc::{AllocError, Global};
 
 /// The most calls that a desk makes.

@@ -5,7 +5,7 @@ use event_model::ids::read_occurrence_id;
 use event_model::names::bad_event_names;
 use event_model::occurrence::occurrence;
 use json_edge::read::read_tree;
-use model_json::tree::{Tree, TreeObject};
+use spec_json::tree::{Tree, TreeObject};
 use std::alloc::{AllocError, Global};
 use std::io::{BufRead, BufReader};
 use std::time::Instant;

@@ -2,7 +2,7 @@
 use Rattle.std.proofs.Common.{◌≡◌, ◌<◌, ◌≤ℤ◌, ◌^◌, ℤ, pos, negsuc, true, int_le, unsigned_abs, arith}
 use Rattle.std.proofs.lemmas.Bool.{and_parts}
 use Rattle.jiff_core.proofs.SignedLemmas.{signed_arith}
-use Rattle.model_time.specs.Walls.{day_of_wall, is_in_years}
+use Rattle.spec_time.specs.Walls.{day_of_wall, is_in_years}
 
 near_size : (n : ℤ) → negsuc 719527 ≤ℤ n → n ≤ℤ pos 2932896 → unsigned_abs n < 2 ^ 41
 near_size (pos k) low high = omega (arith, signed_arith)

@@ -1,6 +1,6 @@
 -- A time with its separators, byte by byte.
 use Rattle.std.proofs.Common.{◌≡◌, ℕ, List, [], ◌∷◌, length, slice_index, arith, refl}
-use Rattle.model_recurrence.specs.OccurrenceIds.{separated}
+use Rattle.spec_recurrence.specs.OccurrenceIds.{separated}
 
 pub separated_bytes : (s : List ℕ) → length s ≡ 15
     → separated s

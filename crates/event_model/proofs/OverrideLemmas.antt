@@ -1,10 +1,10 @@
 -- Where an override is refused, an event may not have all.
 use Rattle.std.proofs.Common.{◌≡◌, ℕ, List, [], ◌∷◌, Option, Some, None, is_some, option_and_then, option_map, if◌then◌else◌, refl}
-use Rattle.model_json.specs.Data.{Data, Pair}
-use Rattle.model_json.specs.Parts.{all_some, members_in}
-use Rattle.model_recurrence.specs.Overrides.{exception_in, exceptions_in, first_refused, overrides_in, refused_in, single}
-use Rattle.model_series.specs.declared.exception.Exception.{Exception}
-use Rattle.model_site.specs.TimeZones.{ZoneText}
+use Rattle.spec_json.specs.Data.{Data, Pair}
+use Rattle.spec_json.specs.Parts.{all_some, members_in}
+use Rattle.spec_recurrence.specs.Overrides.{exception_in, exceptions_in, first_refused, overrides_in, refused_in, single}
+use Rattle.spec_series.specs.declared.exception.Exception.{Exception}
+use Rattle.spec_site.specs.TimeZones.{ZoneText}
 
 refused_here : (o : Option Exception) (rest : Option (List Exception)) (key k : List ℕ) (later : Option (List ℕ))
     → (if is_some o then later else Some k) ≡ Some key → (later ≡ Some key → rest ≡ None) → option_and_then (λ y. option_map (λ ys. y ∷ ys) rest) o ≡ None

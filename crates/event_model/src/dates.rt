@@ -1,8 +1,8 @@
 //! Days and seconds of wall seconds.
 ghost use Rattle.std.specs.Prelude.{◌≡◌, ◌<◌, ◌^◌, pos, true, unsigned_abs};
-ghost use Rattle.model_time.specs.Walls.{day_of_wall, is_in_years, second_of_wall};
+ghost use Rattle.spec_time.specs.Walls.{day_of_wall, is_in_years, second_of_wall};
 
-use model_time::wall::Wall;
+use spec_time::wall::Wall;
 
 /// The seconds of a day.
 const DAY: i64 = 86_400;

@@ -1,15 +1,15 @@
 //! Synthetic ids (draft JMAP for Calendars).
 ghost use Rattle.std.specs.Prelude.{◌≡◌, ◌++◌, ◌&&◌, ◌-◌, ◌==◌, ◌≤◌, IfOk, IfSome, OnOk, filter, length, nat_le, slice_index, string_bytes, true};
 ghost use Rattle.std.specs.Str.{IsAscii};
-ghost use Rattle.model_history.specs.ObjectId.{object_number};
-ghost use Rattle.model_history.specs.declared.entry.Kind.TheVariants.{Event};
-ghost use Rattle.model_recurrence.specs.OccurrenceIds.{both_of, compact_in, event_part, time_part, is_no_separator, occurrence_id_in, occurrence_id_text, separated};
-ghost use Rattle.model_time.specs.LocalTimes.{local_in};
-ghost use Rattle.model_time.specs.Walls.{is_in_years};
+ghost use Rattle.spec_history.specs.ObjectId.{object_number};
+ghost use Rattle.spec_history.specs.declared.entry.Kind.TheVariants.{Event};
+ghost use Rattle.spec_recurrence.specs.OccurrenceIds.{both_of, compact_in, event_part, time_part, is_no_separator, occurrence_id_in, occurrence_id_text, separated};
+ghost use Rattle.spec_time.specs.LocalTimes.{local_in};
+ghost use Rattle.spec_time.specs.Walls.{is_in_years};
 
-use model_history::entry::Kind;
-use model_json::text::Text;
-use model_time::wall::Wall;
+use spec_history::entry::Kind;
+use spec_json::text::Text;
+use spec_time::wall::Wall;
 use std::alloc::{AllocError, Global};
 use time_text::{local_text, read_local, read_object_id};
 

@@ -1,11 +1,11 @@
 //! The properties that an event may not have.
 ghost use Rattle.std.specs.Prelude.{◌≡◌, IfOk};
-ghost use Rattle.model_json.specs.TreeData.{data_of};
-ghost use Rattle.model_recurrence.specs.Recurrence.{bad_properties_of_event};
+ghost use Rattle.spec_json.specs.TreeData.{data_of};
+ghost use Rattle.spec_recurrence.specs.Recurrence.{bad_properties_of_event};
 
 use crate::table::RecurringEventTable;
-use model_json::text::Text;
-use model_json::tree::Tree;
+use spec_json::text::Text;
+use spec_json::tree::Tree;
 use property_table::table::failing_names;
 use std::alloc::{AllocError, Global};
 use zone_table::Zones;

@@ -1,21 +1,21 @@
 //! Single occurrences of an event.
 ghost use Rattle.std.specs.Prelude.{◌≡◌, IfOk, OnOk, codes, false, option_and_then, option_map, true, unwrap_or};
-ghost use Rattle.model_json.specs.Data.{lookup, text};
-ghost use Rattle.model_json.specs.Edit.{with_pair};
-ghost use Rattle.model_json.specs.Parts.{as_object, members_in};
-ghost use Rattle.model_json.specs.TreeData.{data_of};
-ghost use Rattle.model_recurrence.specs.Overrides.{few_members, is_excluded, occurrence_in, overrides_of};
-ghost use Rattle.model_recurrence.specs.Recurrence.{has_occurrence_at, is_given_by_rules, is_there, occurrence_at, occurrence_members, occurrence_seen, override_at, seen_as, with_ids};
-ghost use Rattle.model_time.specs.Walls.{is_in_years};
+ghost use Rattle.spec_json.specs.Data.{lookup, text};
+ghost use Rattle.spec_json.specs.Edit.{with_pair};
+ghost use Rattle.spec_json.specs.Parts.{as_object, members_in};
+ghost use Rattle.spec_json.specs.TreeData.{data_of};
+ghost use Rattle.spec_recurrence.specs.Overrides.{few_members, is_excluded, occurrence_in, overrides_of};
+ghost use Rattle.spec_recurrence.specs.Recurrence.{has_occurrence_at, is_given_by_rules, is_there, occurrence_at, occurrence_members, occurrence_seen, override_at, seen_as, with_ids};
+ghost use Rattle.spec_time.specs.Walls.{is_in_years};
 
 use crate::dates::{day_of, second_of};
 use crate::ids::occurrence_id_text;
 use crate::rules::{is_day, rules_of_event};
-use model_history::entry::Kind;
-use model_json::text::Text;
-use model_json::tree::{Tree, TreeObject};
-use model_recurrence::limits::MAX_OVERRIDES;
-use model_time::wall::Wall;
+use spec_history::entry::Kind;
+use spec_json::text::Text;
+use spec_json::tree::{Tree, TreeObject};
+use spec_recurrence::limits::MAX_OVERRIDES;
+use spec_time::wall::Wall;
 use overrides::occurrence::occurrence_tree;
 use single_event::parts::start_of;
 use single_event::recurrence::has_recurrence;
@@ -125,7 +125,7 @@ pub fn override_at<'a>(event: &'a Tree, key: &Text) -> Option<&'a TreeObject>
     }
 }
 
-#[tactic(auto, using(model_json::specs::Data::pairs_back))]
+#[tactic(auto, using(spec_json::specs::Data::pairs_back))]
 fn override_in<'a>(overrides: &'a Tree, key: &Text) -> Option<&'a TreeObject>
     ensures { option_map (λ patch. patch.now) result ≡ option_and_then as_object (option_and_then (lookup key.now) (overrides_of (data_of overrides.now))) }
 {

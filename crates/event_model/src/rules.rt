@@ -1,17 +1,17 @@
 //! The rules of an event.
 ghost use Rattle.std.specs.Prelude.{◌≡◌, ◌<◌, ◌≤◌, ◌^◌, IfOk, length, true, unsigned_abs};
 ghost use Rattle.std.specs.List.{list_any};
-ghost use Rattle.model_json.specs.TreeData.{data_of};
-ghost use Rattle.model_recurrence.specs.RulesOf.{rules_meant, rules_of_event};
-ghost use Rattle.model_series.specs.Occurrences.{is_day};
-ghost use Rattle.model_series.specs.RuleSets.{is_in_set};
-ghost use Rattle.model_time.specs.Walls.{is_in_years};
+ghost use Rattle.spec_json.specs.TreeData.{data_of};
+ghost use Rattle.spec_recurrence.specs.RulesOf.{rules_meant, rules_of_event};
+ghost use Rattle.spec_series.specs.Occurrences.{is_day};
+ghost use Rattle.spec_series.specs.RuleSets.{is_in_set};
+ghost use Rattle.spec_time.specs.Walls.{is_in_years};
 
 use crate::dates::day_of;
-use model_json::tree::Tree;
-use model_series::rule::Rule;
-use model_series::rules::Rules;
-use model_time::wall::Wall;
+use spec_json::tree::Tree;
+use spec_series::rule::Rule;
+use spec_series::rules::Rules;
+use spec_time::wall::Wall;
 use rule_expand::occurs_on;
 use rule_read::{RulesError, read_rules};
 use single_event::parts::start_of;
@@ -28,7 +28,7 @@ pub fn rules_of_event(alloc: Global, event: &Tree) -> Result<Rules, AllocError>
     }
 }
 
-#[tactic(auto, using(model_recurrence::proofs::RuleLemmas::rules_back))]
+#[tactic(auto, using(spec_recurrence::proofs::RuleLemmas::rules_back))]
 fn rules_meant(alloc: Global, rules: &Tree, start: Wall) -> Result<Rules, AllocError>
     requires { is_in_years start ≡ true }
     ensures value { IfOk result (λ rs. rs ≡ rules_meant start (data_of rules.now)) }

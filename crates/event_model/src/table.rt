@@ -1,12 +1,12 @@
 //! The table of the properties of an event that may recur.
 ghost use Rattle.std.specs.Prelude.{◌≡◌, Some, IfOk, is_some};
-ghost use Rattle.model_json.specs.TreeData.{data_of};
-ghost use Rattle.model_event.specs.Events.{event_table};
-ghost use Rattle.model_recurrence.specs.Overrides.{exceptions_in};
-ghost use Rattle.model_recurrence.specs.Recurrence.{are_overrides, are_rules, recurring_event_table};
+ghost use Rattle.spec_json.specs.TreeData.{data_of};
+ghost use Rattle.spec_events.specs.Events.{event_table};
+ghost use Rattle.spec_recurrence.specs.Overrides.{exceptions_in};
+ghost use Rattle.spec_recurrence.specs.Recurrence.{are_overrides, are_rules, recurring_event_table};
 ghost use Rattle.property_table.specs.Table.{test_at};
 
-use model_json::tree::Tree;
+use spec_json::tree::Tree;
 use overrides::exceptions::{OverrideError, exceptions};
 use property_table::table::PropertyTable;
 use rule_read::{RulesError, read_rules};
@@ -25,9 +25,9 @@ pub(crate) struct RecurringEventTable<'a> {
 }
 
 impl PropertyTable for RecurringEventTable<'_> {
-    ghost use Rattle.model_json.specs.TreeData.{data_of};
-    ghost use Rattle.model_event.specs.Events.{event_table};
-    ghost use Rattle.model_recurrence.specs.Recurrence.{recurring_event_table};
+    ghost use Rattle.spec_json.specs.TreeData.{data_of};
+    ghost use Rattle.spec_events.specs.Events.{event_table};
+    ghost use Rattle.spec_recurrence.specs.Recurrence.{recurring_event_table};
 
     ghost table = { λ t. recurring_event_table t.zones.now (data_of t.event.now) };
 
@@ -35,13 +35,13 @@ impl PropertyTable for RecurringEventTable<'_> {
         passes(self.alloc, self.zones, self.event, name, value)
     }
 
-    #[tactic(auto, unfolding(model_recurrence::specs::Recurrence::recurring_event_table, model_event::specs::Events::event_table))]
+    #[tactic(auto, unfolding(spec_recurrence::specs::Recurrence::recurring_event_table, spec_events::specs::Events::event_table))]
     fn required_names(&self) -> &'static [&'static str] {
         &["uid", "calendarIds", "start"]
     }
 }
 
-#[tactic(auto, unfolding(model_recurrence::specs::Recurrence::recurring_event_table))]
+#[tactic(auto, unfolding(spec_recurrence::specs::Recurrence::recurring_event_table))]
 fn passes(
     alloc: Global,
     zones: &Zones,

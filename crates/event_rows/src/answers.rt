@@ -1,12 +1,12 @@
 //! The values that answers are made of.
 ghost use Rattle.std.specs.Prelude.{◌≡◌, pos};
-ghost use Rattle.model_json.specs.Data.{whole};
-ghost use Rattle.model_json.specs.TreeData.{data_of};
+ghost use Rattle.spec_json.specs.Data.{whole};
+ghost use Rattle.spec_json.specs.TreeData.{data_of};
 
 use json_edge::write::tree_text;
-use model_json::num::Num;
-use model_json::text::Text;
-use model_json::tree::{Tree, TreeList};
+use spec_json::num::Num;
+use spec_json::text::Text;
+use spec_json::tree::{Tree, TreeList};
 use std::alloc::{AllocError, Global};
 
 /// A number as the table has it.

@@ -1,6 +1,6 @@
 //! Rows of the calendars that events name, and of whether events recur.
 use crate::answers::list_of;
-use model_json::tree::Tree;
+use spec_json::tree::Tree;
 use single_event::calendars::{calendars_of, names_calendar};
 use single_event::recurrence::has_recurrence;
 use std::alloc::{AllocError, Global};

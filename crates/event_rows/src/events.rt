@@ -1,8 +1,8 @@
 //! Rows of events: what they mean, or the names of all that is bad in them.
 use crate::answers::{list_of, texts_of, whole, word};
-use model_json::text::Text;
-use model_json::tree::Tree;
-use model_time::wall::Wall;
+use spec_json::text::Text;
+use spec_json::tree::Tree;
+use spec_time::wall::Wall;
 use row_table::plain_event::over_plain;
 use single_event::event::Event;
 use single_event::read::{EventError, read_event};

@@ -1,7 +1,7 @@
 //! Rows of participants among whom one looks for a text, a status or both.
 use crate::answers::word;
-use model_json::text::Text;
-use model_json::tree::Tree;
+use spec_json::text::Text;
+use spec_json::tree::Tree;
 use participants::finds::Finds;
 use participants::read::{ParticipantsError, read_participants};
 use std::alloc::{AllocError, Global};

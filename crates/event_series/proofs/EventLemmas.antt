@@ -5,18 +5,18 @@ use Rattle.std.proofs.lemmas.Bool.Decides.{nat_tests}
 use Rattle.std.specs.Option.{option_map_or}
 use Rattle.std.specs.Str.{bytes_eq}
 use Rattle.jiff_core.proofs.SignedLemmas.{signed_arith}
-use Rattle.model_event.specs.Events.{event_table, length_in, start_in}
-use Rattle.model_event.specs.Values.{is_short_duration, is_short_length, is_showing, is_start}
-use Rattle.model_json.specs.Data.{Data, Pair, null, truth, whole, text, list, object, field, lookup}
-use Rattle.model_json.specs.Parts.{as_text, is_null, members_in}
-use Rattle.model_recurrence.specs.Overrides.{exceptions_in, overrides_in}
-use Rattle.model_recurrence.specs.Recurrence.{are_overrides, bad_properties_of_event, recurring_event_table}
-use Rattle.model_series.specs.SeriesLimits.{wall_seconds}
-use Rattle.model_site.specs.TimeZones.{ZoneText}
-use Rattle.model_time.specs.Durations.{duration_in, length_of}
-use Rattle.model_time.specs.LocalTimes.{local_in}
-use Rattle.model_time.specs.Walls.{is_in_years}
-use Rattle.model_time.specs.declared.length.Length.{Length}
+use Rattle.spec_events.specs.Events.{event_table, length_in, start_in}
+use Rattle.spec_events.specs.Values.{is_short_duration, is_short_length, is_showing, is_start}
+use Rattle.spec_json.specs.Data.{Data, Pair, null, truth, whole, text, list, object, field, lookup}
+use Rattle.spec_json.specs.Parts.{as_text, is_null, members_in}
+use Rattle.spec_recurrence.specs.Overrides.{exceptions_in, overrides_in}
+use Rattle.spec_recurrence.specs.Recurrence.{are_overrides, bad_properties_of_event, recurring_event_table}
+use Rattle.spec_series.specs.SeriesLimits.{wall_seconds}
+use Rattle.spec_site.specs.TimeZones.{ZoneText}
+use Rattle.spec_time.specs.Durations.{duration_in, length_of}
+use Rattle.spec_time.specs.LocalTimes.{local_in}
+use Rattle.spec_time.specs.Walls.{is_in_years}
+use Rattle.spec_time.specs.declared.length.Length.{Length}
 use Rattle.property_table.proofs.TableLemmas.{passes}
 use Rattle.property_table.specs.Names.{has_name}
 use Rattle.property_table.specs.Table.{Table, failing_of, given, names_of, test_at}

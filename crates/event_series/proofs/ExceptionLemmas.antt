@@ -7,21 +7,21 @@ use Rattle.std.proofs.lemmas.Slice.Eq.{bytes_eq-Decides}
 use Rattle.std.specs.List.{list_any}
 use Rattle.std.specs.Ordering.{int_eq}
 use Rattle.std.specs.Str.{bytes_eq}
-use Rattle.model_event.specs.Events.{bad_event_properties, event_table, length_in, start_in}
-use Rattle.model_event.specs.Values.{is_showing}
-use Rattle.model_json.proofs.EditLemmas.{lookup_below}
-use Rattle.model_json.proofs.KeyOrder.{both}
-use Rattle.model_json.specs.Data.{Data, Pair, null, truth, whole, text, list, object, field, lookup, pairs_of}
-use Rattle.model_json.specs.ObjectKeys.{is_above, keys_rise}
-use Rattle.model_json.specs.Parts.{all_some, as_object, members_in, object_at}
-use Rattle.model_recurrence.specs.Overrides.{changed_at, changed_span, exception_at, exception_in, exception_of, exceptions_in, first_refused, is_excluded, overrides_in, overrides_of, patch_changes, recurrence_id_in, replaced_by, single, span_in, span_of, touches_fixed}
-use Rattle.model_recurrence.specs.Recurrence.{bad_properties_of_event, is_there}
-use Rattle.model_series.specs.SeriesLimits.{are_distinct, are_in_years, are_short, is_named, is_span_in_years, is_span_short, wall_seconds}
-use Rattle.model_series.specs.declared.exception.Exception.{Exception}
-use Rattle.model_series.specs.declared.exception.Span.{Span}
-use Rattle.model_site.specs.TimeZones.{ZoneText}
-use Rattle.model_time.specs.LocalTimes.{local_in, local_text}
-use Rattle.model_time.specs.Walls.{is_in_years}
+use Rattle.spec_events.specs.Events.{bad_event_properties, event_table, length_in, start_in}
+use Rattle.spec_events.specs.Values.{is_showing}
+use Rattle.spec_json.proofs.EditLemmas.{lookup_below}
+use Rattle.spec_json.proofs.KeyOrder.{both}
+use Rattle.spec_json.specs.Data.{Data, Pair, null, truth, whole, text, list, object, field, lookup, pairs_of}
+use Rattle.spec_json.specs.ObjectKeys.{is_above, keys_rise}
+use Rattle.spec_json.specs.Parts.{all_some, as_object, members_in, object_at}
+use Rattle.spec_recurrence.specs.Overrides.{changed_at, changed_span, exception_at, exception_in, exception_of, exceptions_in, first_refused, is_excluded, overrides_in, overrides_of, patch_changes, recurrence_id_in, replaced_by, single, span_in, span_of, touches_fixed}
+use Rattle.spec_recurrence.specs.Recurrence.{bad_properties_of_event, is_there}
+use Rattle.spec_series.specs.SeriesLimits.{are_distinct, are_in_years, are_short, is_named, is_span_in_years, is_span_short, wall_seconds}
+use Rattle.spec_series.specs.declared.exception.Exception.{Exception}
+use Rattle.spec_series.specs.declared.exception.Span.{Span}
+use Rattle.spec_site.specs.TimeZones.{ZoneText}
+use Rattle.spec_time.specs.LocalTimes.{local_in, local_text}
+use Rattle.spec_time.specs.Walls.{is_in_years}
 use Rattle.overrides.specs.Reports.{Reports}
 use Rattle.overrides.specs.declared.exceptions.OverrideError.{OverrideError}
 use Rattle.overrides.specs.declared.exceptions.OverrideError.TheVariants.{BadOverride, BadOverrides, NoMemory}

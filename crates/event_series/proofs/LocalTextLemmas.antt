@@ -6,10 +6,10 @@ use Rattle.std.proofs.lemmas.Option.{same_Some}
 use Rattle.std.specs.Char.{is_ascii_digit}
 use Rattle.civil_days.proofs.DateLemmas.{one_date}
 use Rattle.jiff_core.proofs.SignedLemmas.{signed_arith}
-use Rattle.model_time.specs.CivilDay.{IsDate, day_number, day_of_month, month_of, year_of}
-use Rattle.model_time.specs.Forms.{fits_form, fits_mark, fits_marks, two}
-use Rattle.model_time.specs.LocalTimes.{clock_text, date_text, day_in, is_date, local_in, local_text, second_in, spaced_wall, wall_of}
-use Rattle.model_time.specs.Walls.{day_of_wall, second_of_wall, wall_at}
+use Rattle.spec_time.specs.CivilDay.{IsDate, day_number, day_of_month, month_of, year_of}
+use Rattle.spec_time.specs.Forms.{fits_form, fits_mark, fits_marks, two}
+use Rattle.spec_time.specs.LocalTimes.{clock_text, date_text, day_in, is_date, local_in, local_text, second_in, spaced_wall, wall_of}
+use Rattle.spec_time.specs.Walls.{day_of_wall, second_of_wall, wall_at}
 use Rattle.time_text.proofs.WrittenLemmas.{pair_back}
 
 -- What fits the form is seven numbers of two digits each.

@@ -3,21 +3,21 @@ use Rattle.std.proofs.Common.{◌≡◌, ◌==◌, ◌&&◌, ◌↔◌, ℕ, zer
 use Rattle.std.proofs.lemmas.Bool.Decides.{Decides-int_eq}
 use Rattle.std.proofs.lemmas.Option.{same_Some}
 use Rattle.std.specs.Ordering.{int_eq}
-use Rattle.model_event.specs.Events.{has_recurrence, start_in}
-use Rattle.model_json.proofs.KeyOrder.{both}
-use Rattle.model_json.specs.Data.{Data, Pair, lookup}
-use Rattle.model_json.specs.Parts.{all_some, as_object, members_in}
-use Rattle.model_recurrence.specs.Overrides.{exception_in, overrides_in, single}
-use Rattle.model_recurrence.specs.Recurrence.{has_occurrence, is_given_by_rules, is_there, override_at}
-use Rattle.model_series.specs.Occurrences.{IsOccurrence, IsRegular, IsReplacement, is_day, is_rid}
-use Rattle.model_series.specs.SeriesLimits.{are_distinct, is_named}
-use Rattle.model_series.specs.declared.exception.Exception.{Exception}
-use Rattle.model_series.specs.declared.exception.Span.{Span}
-use Rattle.model_series.specs.declared.occurrence.Occurrence.{Occurrence}
-use Rattle.model_series.specs.declared.series.Series.{Series}
-use Rattle.model_site.specs.TimeZones.{ZoneText}
-use Rattle.model_time.specs.LocalTimes.{local_text}
-use Rattle.model_time.specs.Walls.{day_of_wall, is_in_years, second_of_wall}
+use Rattle.spec_events.specs.Events.{has_recurrence, start_in}
+use Rattle.spec_json.proofs.KeyOrder.{both}
+use Rattle.spec_json.specs.Data.{Data, Pair, lookup}
+use Rattle.spec_json.specs.Parts.{all_some, as_object, members_in}
+use Rattle.spec_recurrence.specs.Overrides.{exception_in, overrides_in, single}
+use Rattle.spec_recurrence.specs.Recurrence.{has_occurrence, is_given_by_rules, is_there, override_at}
+use Rattle.spec_series.specs.Occurrences.{IsOccurrence, IsRegular, IsReplacement, is_day, is_rid}
+use Rattle.spec_series.specs.SeriesLimits.{are_distinct, is_named}
+use Rattle.spec_series.specs.declared.exception.Exception.{Exception}
+use Rattle.spec_series.specs.declared.exception.Span.{Span}
+use Rattle.spec_series.specs.declared.occurrence.Occurrence.{Occurrence}
+use Rattle.spec_series.specs.declared.series.Series.{Series}
+use Rattle.spec_site.specs.TimeZones.{ZoneText}
+use Rattle.spec_time.specs.LocalTimes.{local_text}
+use Rattle.spec_time.specs.Walls.{day_of_wall, is_in_years, second_of_wall}
 use Rattle.event_series.specs.EventSeries.{HasOccurrence, IsSeriesOf}
 use Rattle.event_series.proofs.ExceptionLemmas.{overrides_agree, replaced_at, takes_place}
 

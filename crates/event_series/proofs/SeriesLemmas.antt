@@ -3,14 +3,14 @@ use Rattle.std.proofs.Common.{◌≡◌, ◌==◌, ℕ, List, [], ◌∷◌, Boo
 use Rattle.std.proofs.lemmas.Bool.Decides.{nat_tests}
 use Rattle.std.proofs.lemmas.Option.{same_Some}
 use Rattle.event_series.specs.EventSeries.{IsSeriesOf}
-use Rattle.model_json.specs.Data.{Data}
-use Rattle.model_recurrence.proofs.SeriesLemmas.{series_back}
-use Rattle.model_recurrence.specs.Overrides.{exceptions_in}
-use Rattle.model_recurrence.specs.Recurrence.{bad_properties_of_event}
-use Rattle.model_recurrence.specs.SeriesOf.{SeriesParts, event_parts, is_series, limits_of_series, series_by, series_by_parts, series_in, series_parts, series_where, valid_series}
-use Rattle.model_series.specs.declared.exception.Exception.{Exception}
-use Rattle.model_series.specs.declared.series.Series.{Series}
-use Rattle.model_site.specs.TimeZones.{ZoneText}
+use Rattle.spec_json.specs.Data.{Data}
+use Rattle.spec_recurrence.proofs.SeriesLemmas.{series_back}
+use Rattle.spec_recurrence.specs.Overrides.{exceptions_in}
+use Rattle.spec_recurrence.specs.Recurrence.{bad_properties_of_event}
+use Rattle.spec_recurrence.specs.SeriesOf.{SeriesParts, event_parts, is_series, limits_of_series, series_by, series_by_parts, series_in, series_parts, series_where, valid_series}
+use Rattle.spec_series.specs.declared.exception.Exception.{Exception}
+use Rattle.spec_series.specs.declared.series.Series.{Series}
+use Rattle.spec_site.specs.TimeZones.{ZoneText}
 
 no_names : (names : List (List ℕ)) → (length names == 0) ≡ true → names ≡ []
 no_names [] h = refl

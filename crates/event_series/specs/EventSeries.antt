@@ -1,13 +1,13 @@
 -- The series of an event (RFC 8984 section 4.3).
 use Rattle.std.specs.Prelude.{◌≡◌, List, ℤ, Some}
-use Rattle.model_event.specs.Events.{is_occupying, length_in, start_in}
-use Rattle.model_json.specs.Data.{Data}
-use Rattle.model_recurrence.specs.Overrides.{exceptions_in}
-use Rattle.model_recurrence.specs.RulesOf.{rules_of_event}
-use Rattle.model_series.specs.Occurrences.{IsOccurrence}
-use Rattle.model_series.specs.declared.occurrence.Occurrence.{Occurrence}
-use Rattle.model_series.specs.declared.series.Series.{Series}
-use Rattle.model_site.specs.TimeZones.{ZoneText}
+use Rattle.spec_events.specs.Events.{is_occupying, length_in, start_in}
+use Rattle.spec_json.specs.Data.{Data}
+use Rattle.spec_recurrence.specs.Overrides.{exceptions_in}
+use Rattle.spec_recurrence.specs.RulesOf.{rules_of_event}
+use Rattle.spec_series.specs.Occurrences.{IsOccurrence}
+use Rattle.spec_series.specs.declared.occurrence.Occurrence.{Occurrence}
+use Rattle.spec_series.specs.declared.series.Series.{Series}
+use Rattle.spec_site.specs.TimeZones.{ZoneText}
 
 -- its start, length, rules (section 4.3.3) and overrides (4.3.5), and whether it takes up the time, are those of the event
 pub record IsSeriesOf (zones : List ZoneText) (d : Data) (s : Series) : Type 0 where

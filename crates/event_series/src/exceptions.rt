@@ -1,15 +1,15 @@
 //! The exceptions that the overrides of an event come to.
 ghost use Rattle.std.specs.Prelude.{◌≡◌, ◌≤◌, [], Some, IfOk, codes, length, map, true, unwrap_or};
-ghost use Rattle.model_json.specs.ObjectKeys.{HasOrderedKeys};
-ghost use Rattle.model_json.specs.Parts.{object_at};
-ghost use Rattle.model_json.specs.TreeData.{data_of, pair_of};
-ghost use Rattle.model_recurrence.specs.Overrides.{exceptions_in};
-ghost use Rattle.model_recurrence.specs.Recurrence.{bad_properties_of_event};
+ghost use Rattle.spec_json.specs.ObjectKeys.{HasOrderedKeys};
+ghost use Rattle.spec_json.specs.Parts.{object_at};
+ghost use Rattle.spec_json.specs.TreeData.{data_of, pair_of};
+ghost use Rattle.spec_recurrence.specs.Overrides.{exceptions_in};
+ghost use Rattle.spec_recurrence.specs.Recurrence.{bad_properties_of_event};
 ghost use Rattle.overrides.specs.declared.exceptions.OverrideError.TheVariants.{NoMemory};
-ghost use Rattle.model_series.specs.SeriesLimits.{are_distinct, are_in_years, are_short};
+ghost use Rattle.spec_series.specs.SeriesLimits.{are_distinct, are_in_years, are_short};
 
-use model_json::tree::{Member, Tree};
-use model_series::exception::Exceptions;
+use spec_json::tree::{Member, Tree};
+use spec_series::exception::Exceptions;
 use overrides::exceptions::{OverrideError, exceptions};
 use std::alloc::{AllocError, Global};
 use zone_table::Zones;

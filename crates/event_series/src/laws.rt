@@ -1,14 +1,14 @@
 //! Laws of the definitions.
 ghost use Rattle.std.specs.Prelude.{◌≡◌, ◌↔◌, Some, List, [], ℕ, ℤ, true};
 ghost use Rattle.event_series.specs.EventSeries.{HasOccurrence, IsSeriesOf};
-ghost use Rattle.model_event.specs.Events.{has_recurrence};
-ghost use Rattle.model_json.specs.Data.{Data};
-ghost use Rattle.model_recurrence.specs.Recurrence.{bad_properties_of_event, has_occurrence};
-ghost use Rattle.model_recurrence.specs.SeriesOf.{series_in};
-ghost use Rattle.model_series.specs.declared.series.Series.{Series};
-ghost use Rattle.model_site.specs.TimeZones.{ZoneText};
-ghost use Rattle.model_time.specs.LocalTimes.{local_in, local_text};
-ghost use Rattle.model_time.specs.Walls.{is_in_years};
+ghost use Rattle.spec_events.specs.Events.{has_recurrence};
+ghost use Rattle.spec_json.specs.Data.{Data};
+ghost use Rattle.spec_recurrence.specs.Recurrence.{bad_properties_of_event, has_occurrence};
+ghost use Rattle.spec_recurrence.specs.SeriesOf.{series_in};
+ghost use Rattle.spec_series.specs.declared.series.Series.{Series};
+ghost use Rattle.spec_site.specs.TimeZones.{ZoneText};
+ghost use Rattle.spec_time.specs.LocalTimes.{local_in, local_text};
+ghost use Rattle.spec_time.specs.Walls.{is_in_years};
 
 /// A LocalDateTime that was read is written back.
 pub fn read_times_are_written()

@@ -1,12 +1,12 @@
 //! How long an event lasts.
 ghost use Rattle.std.specs.Prelude.{◌≡◌, ◌≤◌, []};
-ghost use Rattle.model_event.specs.Events.{length_in};
-ghost use Rattle.model_json.specs.TreeData.{data_of};
-ghost use Rattle.model_recurrence.specs.Recurrence.{bad_properties_of_event};
-ghost use Rattle.model_series.specs.SeriesLimits.{wall_seconds};
+ghost use Rattle.spec_events.specs.Events.{length_in};
+ghost use Rattle.spec_json.specs.TreeData.{data_of};
+ghost use Rattle.spec_recurrence.specs.Recurrence.{bad_properties_of_event};
+ghost use Rattle.spec_series.specs.SeriesLimits.{wall_seconds};
 
-use model_json::tree::Tree;
-use model_time::length::Length;
+use spec_json::tree::Tree;
+use spec_time::length::Length;
 use single_event::parts::given_length;
 use zone_table::Zones;
 

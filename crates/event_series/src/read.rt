@@ -1,16 +1,16 @@
 //! Reads the series of an event.
 ghost use Rattle.std.specs.Prelude.{◌≡◌, [], IfOk, Some};
 ghost use Rattle.event_series.specs.EventSeries.{IsSeriesOf};
-ghost use Rattle.model_json.specs.TreeData.{data_of};
-ghost use Rattle.model_recurrence.specs.Recurrence.{bad_properties_of_event};
-ghost use Rattle.model_recurrence.specs.SeriesOf.{series_in};
+ghost use Rattle.spec_json.specs.TreeData.{data_of};
+ghost use Rattle.spec_recurrence.specs.Recurrence.{bad_properties_of_event};
+ghost use Rattle.spec_recurrence.specs.SeriesOf.{series_in};
 
 use crate::exceptions::exceptions_of;
 use crate::length::length_of;
 use event_model::names::bad_event_names;
 use event_model::rules::rules_of_event;
-use model_json::tree::Tree;
-use model_series::series::Series;
+use spec_json::tree::Tree;
+use spec_series::series::Series;
 use single_event::parts::{is_occupying, start_of};
 use std::alloc::{AllocError, Global};
 use zone_table::Zones;

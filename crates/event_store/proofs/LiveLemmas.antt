@@ -3,9 +3,9 @@ use Rattle.std.proofs.Common.{◌≡◌, ◌+◌, ◌<◌, ℕ, List, [], ◌∷
 use Rattle.std.proofs.lemmas.Grind.{flat_map-append}
 use Rattle.std.proofs.lemmas.List.{map-append, take_more}
 use Rattle.std.proofs.lemmas.List.Elements.{All-append, All-cons, All-nil}
-use Rattle.model_history.specs.History.{some_object}
-use Rattle.model_json.specs.Parts.{some_of}
-use Rattle.model_json.specs.declared.tree.Tree.{Tree}
+use Rattle.spec_history.specs.History.{some_object}
+use Rattle.spec_json.specs.Parts.{some_of}
+use Rattle.spec_json.specs.declared.tree.Tree.{Tree}
 
 module _ {X : Type 0} (object : X → Tree) where
   told : (e : Option X) → map object (some_of e) ≡ some_object (option_map object e)

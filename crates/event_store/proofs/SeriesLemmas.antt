@@ -4,15 +4,15 @@ use Rattle.std.specs.Option.{option_flatten}
 use Rattle.std.proofs.lemmas.Option.{none-some}
 use Rattle.account_store.specs.Places.{object_in}
 use Rattle.event_store.specs.SeriesPut.{AreRead, series_put}
-use Rattle.model_history.specs.History.{changes_of, is_kind}
-use Rattle.model_history.specs.declared.entry.Change.{Change}
-use Rattle.model_history.specs.declared.entry.Entry.{Entry}
-use Rattle.model_history.specs.declared.entry.Kind.TheVariants.{Event}
-use Rattle.model_json.specs.TreeData.{data_of}
-use Rattle.model_json.specs.declared.tree.Tree.{Tree}
-use Rattle.model_recurrence.specs.SeriesOf.{series_in}
-use Rattle.model_series.specs.declared.series.Series.{Series}
-use Rattle.model_site.specs.TimeZones.{ZoneText}
+use Rattle.spec_history.specs.History.{changes_of, is_kind}
+use Rattle.spec_history.specs.declared.entry.Change.{Change}
+use Rattle.spec_history.specs.declared.entry.Entry.{Entry}
+use Rattle.spec_history.specs.declared.entry.Kind.TheVariants.{Event}
+use Rattle.spec_json.specs.TreeData.{data_of}
+use Rattle.spec_json.specs.declared.tree.Tree.{Tree}
+use Rattle.spec_recurrence.specs.SeriesOf.{series_in}
+use Rattle.spec_series.specs.declared.series.Series.{Series}
+use Rattle.spec_site.specs.TimeZones.{ZoneText}
 
 change_there : (es : List Entry) (place : ℕ) (e : Entry) → slice_get es place ≡ Some e → slice_get (changes_of es) place ≡ Some e.change
 change_there [] place e h = absurd (none-some e h)

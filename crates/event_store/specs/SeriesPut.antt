@@ -1,12 +1,12 @@
 -- What is read of the events that changes put.
 use Rattle.std.specs.Prelude.{◌≡◌, ℕ, List, Option, Some, None, option_and_then, slice_get, if◌then◌else◌}
-use Rattle.model_history.specs.History.{is_kind}
-use Rattle.model_history.specs.declared.entry.Change.{Change}
-use Rattle.model_history.specs.declared.entry.Kind.TheVariants.{Event}
-use Rattle.model_json.specs.TreeData.{data_of}
-use Rattle.model_recurrence.specs.SeriesOf.{series_in}
-use Rattle.model_series.specs.declared.series.Series.{Series}
-use Rattle.model_site.specs.TimeZones.{ZoneText}
+use Rattle.spec_history.specs.History.{is_kind}
+use Rattle.spec_history.specs.declared.entry.Change.{Change}
+use Rattle.spec_history.specs.declared.entry.Kind.TheVariants.{Event}
+use Rattle.spec_json.specs.TreeData.{data_of}
+use Rattle.spec_recurrence.specs.SeriesOf.{series_in}
+use Rattle.spec_series.specs.declared.series.Series.{Series}
+use Rattle.spec_site.specs.TimeZones.{ZoneText}
 
 -- the series of the event that a change puts (RFC 8984 section 4.3); none for a calendar, a removal, and an event with a bad property
 abbrev pub series_put : List ZoneText → Change → Option Series

@@ -5,15 +5,15 @@ ghost use Rattle.account_store.specs.Places.{object_in};
 ghost use Rattle.account_store.specs.Store.{entries};
 ghost use Rattle.event_store.specs.SeriesPut.{AreRead};
 ghost use Rattle.event_store.specs.StoredEvents.{HasItsSeries};
-ghost use Rattle.model_history.specs.History.{changes_of, live_at, live_object};
-ghost use Rattle.model_history.specs.declared.entry.Kind.TheVariants.{Event};
-ghost use Rattle.model_json.specs.Parts.{some_of};
+ghost use Rattle.spec_history.specs.History.{changes_of, live_at, live_object};
+ghost use Rattle.spec_history.specs.declared.entry.Kind.TheVariants.{Event};
+ghost use Rattle.spec_json.specs.Parts.{some_of};
 
 use crate::series_log::SeriesLog;
 use account_store::Store;
-use model_history::entry::Kind;
-use model_json::tree::Tree;
-use model_series::series::Series;
+use spec_history::entry::Kind;
+use spec_json::tree::Tree;
+use spec_series::series::Series;
 use std::alloc::{AllocError, Global};
 use zone_table::Zones;
 

@@ -4,8 +4,8 @@ ghost use Rattle.std.specs.Prelude.{◌≡◌, ◌++◌, ◌∷◌, [], IfOk, On
 ghost use Rattle.event_store.specs.SeriesPut.{series_put};
 
 use event_series::read::read_series;
-use model_history::entry::{Change, Kind};
-use model_series::series::Series;
+use spec_history::entry::{Change, Kind};
+use spec_series::series::Series;
 use std::alloc::{AllocError, Global};
 use std::marker::Model;
 use zone_table::Zones;
@@ -22,7 +22,7 @@ pub struct SeriesLog {
 
 impl Model for SeriesLog {
     ghost use Rattle.std.specs.Prelude.{List, Option};
-    ghost use Rattle.model_series.specs.declared.series.Series.{Series};
+    ghost use Rattle.spec_series.specs.declared.series.Series.{Series};
 
     ghost Value = { List (Option Series) };
 

@@ -3,14 +3,14 @@ use Rattle.std.proofs.Common.{◌≡◌, ◌∙◌, ℕ, List, true, None, refl,
 use Rattle.std.specs.Prelude.{IfErr, IfOk, OnOk, Result, unwrap_or}
 use Rattle.expanded_query.specs.Sights.{all_given, looks_for}
 use Rattle.expanded_query.specs.declared.sight.OccurrenceSight.{OccurrenceSight}
-use Rattle.model_history.specs.declared.entry.Change.{Change}
-use Rattle.model_json.specs.declared.tree.Tree.{Tree}
-use Rattle.model_queries.specs.Criteria.{Criteria, criteria_refusal, filter_or_all, order_of}
-use Rattle.model_queries.specs.Expanded.{cut_among, expanded_anchor_refusal, expanded_ids, expanded_matches, expanded_window, ids_in_order}
-use Rattle.model_queries.specs.Found.{Paging, missing_anchor, no_window}
-use Rattle.model_queries.specs.Queries.{is_paging, query_refusal, query_response}
-use Rattle.model_query.specs.declared.comparator.Comparator.{Comparator}
-use Rattle.model_site.specs.TimeZones.{ZoneText}
+use Rattle.spec_history.specs.declared.entry.Change.{Change}
+use Rattle.spec_json.specs.declared.tree.Tree.{Tree}
+use Rattle.spec_queries.specs.Criteria.{Criteria, criteria_refusal, filter_or_all, order_of}
+use Rattle.spec_queries.specs.Expanded.{cut_among, expanded_anchor_refusal, expanded_ids, expanded_matches, expanded_window, ids_in_order}
+use Rattle.spec_queries.specs.Found.{Paging, missing_anchor, no_window}
+use Rattle.spec_queries.specs.Queries.{is_paging, query_refusal, query_response}
+use Rattle.spec_queries.specs.declared.comparator.Comparator.{Comparator}
+use Rattle.spec_site.specs.TimeZones.{ZoneText}
 use Rattle.query_methods.specs.Reports.{Reports}
 use Rattle.query_methods.specs.declared.error.QueryError.{QueryError}
 

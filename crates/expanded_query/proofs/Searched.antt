@@ -5,11 +5,11 @@ use Rattle.std.specs.List.{AllByRecursion}
 use Rattle.std.specs.Option.{option_map_or}
 use Rattle.std.proofs.lemmas.Int.{by_lt_z}
 use Rattle.jiff_core.proofs.SignedLemmas.{signed_arith}
-use Rattle.model_json.specs.Parts.{some_of}
-use Rattle.model_queries.specs.Expanded.{passing_from}
-use Rattle.model_series.specs.declared.occurrence.Occurrence.{Occurrence}
-use Rattle.model_series.specs.declared.series.Series.{Series}
-use Rattle.model_window.specs.Meetings.{occurrence_with, passes_with}
+use Rattle.spec_json.specs.Parts.{some_of}
+use Rattle.spec_queries.specs.Expanded.{passing_from}
+use Rattle.spec_series.specs.declared.occurrence.Occurrence.{Occurrence}
+use Rattle.spec_series.specs.declared.series.Series.{Series}
+use Rattle.spec_windows.specs.Meetings.{occurrence_with, passes_with}
 use Rattle.occurrence_windows.proofs.Listing.{by_bool}
 use Rattle.occurrence_windows.proofs.Meeting.{some_holds}
 use Rattle.occurrence_windows.proofs.Passing.{with_is}

@@ -1,14 +1,14 @@
 -- Events that give nothing, since a filter is known not to hold of them by their series.
 use Rattle.std.proofs.Common.{◌≡◌, ℕ, List, [], ◌++◌, Bool, true, false, Option, append-nil, if◌then◌else◌, map, sym}
 use Rattle.std.specs.Prelude.{unwrap_or}
-use Rattle.model_filter.specs.Matches.{event_matches}
-use Rattle.model_json.specs.Data.{Data}
-use Rattle.model_queries.specs.Expanded.{results_of_event}
-use Rattle.model_query.specs.declared.item.Item.{Item}
-use Rattle.model_recurrence.specs.SeriesOf.{series_in}
-use Rattle.model_series.specs.declared.series.Series.{Series}
-use Rattle.model_site.specs.TimeZones.{ZoneText}
-use Rattle.model_window.specs.ZoneRules.{rule_of, utc_rule}
+use Rattle.spec_filters.specs.Matches.{event_matches}
+use Rattle.spec_json.specs.Data.{Data}
+use Rattle.spec_queries.specs.Expanded.{results_of_event}
+use Rattle.spec_queries.specs.declared.item.Item.{Item}
+use Rattle.spec_recurrence.specs.SeriesOf.{series_in}
+use Rattle.spec_series.specs.declared.series.Series.{Series}
+use Rattle.spec_site.specs.TimeZones.{ZoneText}
+use Rattle.spec_windows.specs.ZoneRules.{rule_of, utc_rule}
 use Rattle.query_filter.specs.InZone.{FilterInZone}
 use Rattle.query_filter.specs.Refusals.{IsForNoneOf}
 use Rattle.query_methods.proofs.SightLemmas.{not_matched}

@@ -16,17 +16,17 @@ use Rattle.expanded_query.proofs.Searched.{is_one, listed, rises}
 use Rattle.jiff_core.proofs.SignedLemmas.{signed_arith}
 use Rattle.jiff_core.specs.Calendar.{IsWithin}
 use Rattle.jiff_tz.specs.PosixText.{TzText}
-use Rattle.model_queries.specs.Expanded.{occurrences_meeting, passing_seconds}
-use Rattle.model_event.specs.Values.{is_showing}
-use Rattle.model_series.specs.SeriesLimits.{is_span_in_years}
-use Rattle.model_series.specs.declared.exception.Exception.{Exception}
-use Rattle.model_series.specs.declared.occurrence.Occurrence.{Occurrence}
-use Rattle.model_series.specs.declared.series.Series.{Series}
-use Rattle.model_time.specs.Walls.{is_in_years}
-use Rattle.model_window.specs.Clocks.{instant_in}
-use Rattle.model_window.specs.Meetings.{occurrence_with}
-use Rattle.model_window.specs.Windows.{IsMeeting, meets_window}
-use Rattle.model_window.specs.declared.window.Window.{Window}
+use Rattle.spec_queries.specs.Expanded.{occurrences_meeting, passing_seconds}
+use Rattle.spec_events.specs.Values.{is_showing}
+use Rattle.spec_series.specs.SeriesLimits.{is_span_in_years}
+use Rattle.spec_series.specs.declared.exception.Exception.{Exception}
+use Rattle.spec_series.specs.declared.occurrence.Occurrence.{Occurrence}
+use Rattle.spec_series.specs.declared.series.Series.{Series}
+use Rattle.spec_time.specs.Walls.{is_in_years}
+use Rattle.spec_windows.specs.Clocks.{instant_in}
+use Rattle.spec_windows.specs.Meetings.{occurrence_with}
+use Rattle.spec_windows.specs.Windows.{IsMeeting, meets_window}
+use Rattle.spec_windows.specs.declared.window.Window.{Window}
 use Rattle.occurrence_windows.proofs.Listing.{by_bool}
 use Rattle.occurrence_windows.proofs.Meeting.{has_met}
 use Rattle.occurrence_windows.proofs.Passing.{is_with, rid_near, with_is}

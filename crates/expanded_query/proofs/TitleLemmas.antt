@@ -5,14 +5,14 @@ use Rattle.std.specs.Cmp.Lexicographic.{slice_cmp}
 use Rattle.std.specs.Ordering.{nat_cmp, is_lt}
 use Rattle.std.specs.Str.{bytes_eq}
 use Rattle.std.proofs.lemmas.Slice.Eq.{bytes_eq-Decides}
-use Rattle.model_json.proofs.EditLemmas.{lookup_without}
-use Rattle.model_json.specs.Data.{Data, Pair, null, truth, whole, text, list, object, field, lookup, members_of, pairs_back, pairs_of}
-use Rattle.model_json.specs.Edit.{with_pair, without}
-use Rattle.model_json.specs.Parts.{as_text, members_in}
-use Rattle.model_queries.specs.Expanded.{title_at, title_in}
-use Rattle.model_queries.specs.Items.{text_or_empty}
-use Rattle.model_recurrence.specs.Overrides.{occurrence_in, single}
-use Rattle.model_recurrence.specs.Recurrence.{override_at}
+use Rattle.spec_json.proofs.EditLemmas.{lookup_without}
+use Rattle.spec_json.specs.Data.{Data, Pair, null, truth, whole, text, list, object, field, lookup, members_of, pairs_back, pairs_of}
+use Rattle.spec_json.specs.Edit.{with_pair, without}
+use Rattle.spec_json.specs.Parts.{as_text, members_in}
+use Rattle.spec_queries.specs.Expanded.{title_at, title_in}
+use Rattle.spec_queries.specs.Items.{text_or_empty}
+use Rattle.spec_recurrence.specs.Overrides.{occurrence_in, single}
+use Rattle.spec_recurrence.specs.Recurrence.{override_at}
 
 -- a member that is put in leaves the values of other keys
 other_put : (j k : List ℕ) (v : Data) (p : Pair) (ps : List Pair) → bytes_eq j k ≡ false → lookup k (with_pair j v ps) ≡ lookup k ps → (below same : Bool) → is_lt (slice_cmp nat_cmp p.0 j) ≡ below → bytes_eq p.0 j ≡ same

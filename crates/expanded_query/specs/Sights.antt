@@ -1,13 +1,13 @@
 -- What a query sees of events whose occurrences are results.
 use Rattle.std.specs.Prelude.{ℕ, List, flat_map}
 use Rattle.expanded_query.specs.declared.sight.OccurrenceSight.{OccurrenceSight}
-use Rattle.model_history.specs.History.{live_object}
-use Rattle.model_history.specs.declared.entry.Change.{Change}
-use Rattle.model_history.specs.declared.entry.Kind.TheVariants.{Event}
-use Rattle.model_json.specs.Data.{Data}
-use Rattle.model_queries.specs.Expanded.{expanded_matches, results_of_event, results_of_live}
-use Rattle.model_query.specs.declared.item.Item.{Item}
-use Rattle.model_site.specs.TimeZones.{ZoneText}
+use Rattle.spec_history.specs.History.{live_object}
+use Rattle.spec_history.specs.declared.entry.Change.{Change}
+use Rattle.spec_history.specs.declared.entry.Kind.TheVariants.{Event}
+use Rattle.spec_json.specs.Data.{Data}
+use Rattle.spec_queries.specs.Expanded.{expanded_matches, results_of_event, results_of_live}
+use Rattle.spec_queries.specs.declared.item.Item.{Item}
+use Rattle.spec_site.specs.TimeZones.{ZoneText}
 
 -- the zones, the query's zone, and the filter
 abbrev pub looks_for : OccurrenceSight → List ZoneText × (List ℕ × Data)

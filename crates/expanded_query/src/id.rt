@@ -1,14 +1,14 @@
 //! The ids of results.
 ghost use Rattle.std.specs.Prelude.{◌≡◌, IfOk, true};
-ghost use Rattle.model_json.specs.TreeData.{data_of};
-ghost use Rattle.model_queries.specs.Expanded.{result_id};
-ghost use Rattle.model_time.specs.Walls.{is_in_years};
+ghost use Rattle.spec_json.specs.TreeData.{data_of};
+ghost use Rattle.spec_queries.specs.Expanded.{result_id};
+ghost use Rattle.spec_time.specs.Walls.{is_in_years};
 
 use event_model::ids::occurrence_id_text;
-use model_history::entry::Kind;
-use model_json::text::Text;
-use model_json::tree::Tree;
-use model_time::wall::Wall;
+use spec_history::entry::Kind;
+use spec_json::text::Text;
+use spec_json::tree::Tree;
+use spec_time::wall::Wall;
 use single_event::recurrence::has_recurrence;
 use std::alloc::{AllocError, Global};
 use time_text::object_id_text;

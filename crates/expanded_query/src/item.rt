@@ -1,21 +1,21 @@
 //! What comparators see of an occurrence.
 ghost use Rattle.std.specs.Prelude.{◌≡◌, IfOk, true, unwrap_or, pos};
 ghost use Rattle.jiff_tz.specs.PosixText.{tz_view};
-ghost use Rattle.model_json.specs.Parts.{members_in};
-ghost use Rattle.model_json.specs.TreeData.{data_of};
-ghost use Rattle.model_queries.specs.Expanded.{item_of_occurrence, title_at, title_in};
-ghost use Rattle.model_recurrence.specs.Overrides.{occurrence_in};
-ghost use Rattle.model_time.specs.LocalTimes.{local_text};
-ghost use Rattle.model_time.specs.Walls.{is_in_years};
-ghost use Rattle.model_window.specs.Clocks.{instant_in};
+ghost use Rattle.spec_json.specs.Parts.{members_in};
+ghost use Rattle.spec_json.specs.TreeData.{data_of};
+ghost use Rattle.spec_queries.specs.Expanded.{item_of_occurrence, title_at, title_in};
+ghost use Rattle.spec_recurrence.specs.Overrides.{occurrence_in};
+ghost use Rattle.spec_time.specs.LocalTimes.{local_text};
+ghost use Rattle.spec_time.specs.Walls.{is_in_years};
+ghost use Rattle.spec_windows.specs.Clocks.{instant_in};
 
 use event_model::occurrence::override_at;
 use jiff_tz::posix::TimeZone;
-use model_json::text::Text;
-use model_json::tree::{Tree, TreeObject};
-use model_query::item::Item;
-use model_series::occurrence::Occurrence;
-use model_time::wall::Wall;
+use spec_json::text::Text;
+use spec_json::tree::{Tree, TreeObject};
+use spec_queries::item::Item;
+use spec_series::occurrence::Occurrence;
+use spec_time::wall::Wall;
 use overrides::occurrence::occurrence_tree;
 use query_methods::item::{text_or_empty, utc_moment};
 use std::alloc::{AllocError, Global};

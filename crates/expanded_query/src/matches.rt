@@ -2,13 +2,13 @@
 ghost use Rattle.std.specs.Prelude.{◌≡◌, IfOk, map};
 ghost use Rattle.account_store.specs.Store.{entries};
 ghost use Rattle.expanded_query.specs.Sights.{all_given, given_among};
-ghost use Rattle.model_history.specs.History.{changes_of};
+ghost use Rattle.spec_history.specs.History.{changes_of};
 
 use crate::sight::OccurrenceSight;
 use event_store::StoredEvents;
-use model_history::entry::Kind;
-use model_json::text::Text;
-use model_query::item::Item;
+use spec_history::entry::Kind;
+use spec_json::text::Text;
+use spec_queries::item::Item;
 use std::alloc::{AllocError, Global};
 
 /// Ids of results, each with what comparators see of the result.

@@ -1,15 +1,15 @@
 //! The occurrences of a series that meet a window.
 ghost use Rattle.std.specs.Prelude.{◌≡◌, All, IfOk, true};
 ghost use Rattle.jiff_tz.specs.PosixText.{tz_view};
-ghost use Rattle.model_queries.specs.Expanded.{occurrences_meeting};
-ghost use Rattle.model_time.specs.Walls.{is_in_years};
-ghost use Rattle.model_window.specs.Clocks.{instant_in};
+ghost use Rattle.spec_queries.specs.Expanded.{occurrences_meeting};
+ghost use Rattle.spec_time.specs.Walls.{is_in_years};
+ghost use Rattle.spec_windows.specs.Clocks.{instant_in};
 ghost use Rattle.occurrence_windows.specs.Bounds.{AreNear};
 
 use jiff_tz::posix::TimeZone;
-use model_series::occurrence::Occurrence;
-use model_series::series::Series;
-use model_window::window::Window;
+use spec_series::occurrence::Occurrence;
+use spec_series::series::Series;
+use spec_windows::window::Window;
 use occurrence_windows::expanded;
 use std::alloc::{AllocError, Global};
 

@@ -1,17 +1,17 @@
 //! `CalendarEvent/query` with `expandRecurrences` (RFC 8620 section 5.5, draft JMAP for Calendars).
 ghost use Rattle.std.specs.Prelude.{◌≡◌, IfErr, IfOk, OnOk, None, true};
 ghost use Rattle.account_store.specs.Store.{entries};
-ghost use Rattle.model_history.specs.History.{changes_of};
-ghost use Rattle.model_queries.specs.Queries.{query_refusal, query_response};
+ghost use Rattle.spec_history.specs.History.{changes_of};
+ghost use Rattle.spec_queries.specs.Queries.{query_refusal, query_response};
 ghost use Rattle.query_methods.specs.Reports.{Reports};
 ghost use Rattle.query_methods.specs.Requests.{criteria_in, paging_in};
 
 use crate::found::{expanded_ids, found};
 use crate::terms::read_terms;
 use event_store::StoredEvents;
-use model_call::call::MethodError;
-use model_json::text::Text;
-use model_json::tree::Tree;
+use spec_calls::call::MethodError;
+use spec_json::text::Text;
+use spec_json::tree::Tree;
 use query_methods::error::QueryError;
 use query_methods::numbers::is_paging;
 use query_methods::request::{Criteria, Paging};

@@ -1,12 +1,12 @@
 //! Which occurrences a query asks for, and in which order.
 ghost use Rattle.std.specs.Prelude.{◌≡◌, IfErr, IfOk, OnOk, None, true};
 ghost use Rattle.expanded_query.specs.Sights.{looks_for};
-ghost use Rattle.model_queries.specs.Criteria.{criteria_refusal, filter_or_all, order_of};
+ghost use Rattle.spec_queries.specs.Criteria.{criteria_refusal, filter_or_all, order_of};
 ghost use Rattle.query_methods.specs.Reports.{Reports};
 ghost use Rattle.query_methods.specs.Requests.{criteria_in};
 
 use crate::sight::OccurrenceSight;
-use model_call::call::MethodError;
+use spec_calls::call::MethodError;
 use query_methods::criteria::filter_and_order;
 use query_methods::error::QueryError;
 use query_methods::request::Criteria;

@@ -1,8 +1,8 @@
 //! The values that answers are made of.
 use json_edge::write::tree_text;
-use model_json::text::Text;
-use model_json::tree::{Tree, TreeList};
-use model_time::wall::Wall;
+use spec_json::text::Text;
+use spec_json::tree::{Tree, TreeList};
+use spec_time::wall::Wall;
 use std::alloc::{AllocError, Global};
 use time_text::{is_in_years, local_text};
 

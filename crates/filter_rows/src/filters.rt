@@ -1,8 +1,8 @@
 //! Rows of filters: whether they are such, what they ask for, and whether they hold of an event.
 use crate::answers::{pair, time, word};
 use event_series::read::read_series;
-use model_json::text::Text;
-use model_json::tree::Tree;
+use spec_json::text::Text;
+use spec_json::tree::Tree;
 use query_filter::{Filter, FilterError};
 use row_table::plain_event::over_plain;
 use std::alloc::{AllocError, Global};

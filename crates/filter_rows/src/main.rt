@@ -5,7 +5,7 @@ mod answers;
 mod filters;
 mod time_zones;
 
-use model_json::tree::Tree;
+use spec_json::tree::Tree;
 use row_table::line::tree_in;
 use row_table::row::Row;
 use row_table::trial::{NOT_READ, Trial, try_rows};

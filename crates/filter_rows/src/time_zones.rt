@@ -1,5 +1,5 @@
 //! The time zones of the table.
-use model_json::text::Text;
+use spec_json::text::Text;
 use std::alloc::{AllocError, Global};
 use zone_table::{ZoneError, Zones};
 

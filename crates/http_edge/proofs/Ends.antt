@@ -3,7 +3,7 @@ use Rattle.std.proofs.Common.{◌≡◌, ℕ, zero, suc, ◌<◌, ◌≤◌, min
 use Rattle.std.specs.Prelude.{nat_le}
 use Rattle.std.proofs.lemmas.List.{take_min, take-append-le, length-take}
 use Rattle.std.proofs.lemmas.Bool.Decides.{nat_tests}
-use Rattle.model_http.specs.Heads.{ended, too_long, unended, head_length, head_end, end_at, later}
+use Rattle.spec_http.specs.Heads.{ended, too_long, unended, head_length, head_end, end_at, later}
 use Rattle.http_edge.specs.Searches.{IsSearched, is_last, next_state, search_from}
 use Rattle.http_edge.specs.declared.search.State.{State}
 use Rattle.http_edge.specs.declared.search.State.TheVariants.{Within}

@@ -5,9 +5,9 @@ use Rattle.std.specs.Str.{bytes_eq}
 use Rattle.std.proofs.lemmas.Bool.Decides.{nat_tests}
 use Rattle.std.proofs.lemmas.List.{length-drop, length-take-le, take-append-drop}
 use Rattle.httparse.specs.Grammar.{RequestHead}
-use Rattle.model_http.specs.Fields.{Length, absent, known, unusable, NamedValue, first_value, length_said, values_of}
-use Rattle.model_http.specs.Heads.{head_end, ended, unended, ReadsHead, RefusesHead, fields_of, Framing, body, refuse, framing, framing_by_length}
-use Rattle.model_http.specs.Messages.{message_of, partial, refused, HasHead, BeginsWith, IsUndecided}
+use Rattle.spec_http.specs.Fields.{Length, absent, known, unusable, NamedValue, first_value, length_said, values_of}
+use Rattle.spec_http.specs.Heads.{head_end, ended, unended, ReadsHead, RefusesHead, fields_of, Framing, body, refuse, framing, framing_by_length}
+use Rattle.spec_http.specs.Messages.{message_of, partial, refused, HasHead, BeginsWith, IsUndecided}
 use Rattle.io_edge.specs.Outside.{SourceShown}
 use Rattle.http_edge.specs.Reading.{AskedWhile, IsHeadRefusal, Says, Took, StopCause, NextIs, GivesNext, ended_with, message_shown}
 use Rattle.http_edge.specs.declared.head.Head.{Head}
@@ -18,7 +18,7 @@ use Rattle.http_edge.specs.declared.kept.Stop.TheVariants as stop
 use Rattle.http_edge.specs.declared.message.Message.{Message}
 use Rattle.http_edge.specs.declared.next.Next.{Next}
 use Rattle.http_edge.specs.declared.next.Next.TheVariants as next
-use Rattle.model_http.specs.declared.limits.TheConstants.{PIECE}
+use Rattle.spec_http.specs.declared.limits.TheConstants.{PIECE}
 use Rattle.http_edge.proofs.Ends.{ended_within, nothing_unended}
 use Rattle.http_edge.proofs.Stays.{has_head_more}
 use Rattle.http_edge.proofs.Taking.{took_more, stop_earlier}

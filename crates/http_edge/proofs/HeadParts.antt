@@ -5,9 +5,9 @@ use Rattle.httparse.specs.Spans.{IsRequestAt, span_bytes, header_bytes}
 use Rattle.httparse.specs.declared.spans.RequestSpans.{RequestSpans}
 use Rattle.httparse.specs.declared.spans.HeaderSpan.{HeaderSpan}
 use Rattle.std.specs.Str.{IsAscii}
-use Rattle.model_http.specs.Fields.{asks_close, token_of}
-use Rattle.model_http.specs.Heads.{IsHead, fields_of, framing, line_feeds}
-use Rattle.model_http.specs.Messages.{path_of}
+use Rattle.spec_http.specs.Fields.{asks_close, token_of}
+use Rattle.spec_http.specs.Heads.{IsHead, fields_of, framing, line_feeds}
+use Rattle.spec_http.specs.Messages.{path_of}
 use Rattle.http_edge.specs.Reading.{Says, framing_shown}
 use Rattle.http_edge.specs.declared.head.Head.{Head}
 use Rattle.http_edge.proofs.Ascii.{token_bytes_ascii}

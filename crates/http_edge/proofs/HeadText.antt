@@ -1,7 +1,7 @@
 -- The head of a response, put together.
 use Rattle.std.proofs.Common.{◌≡◌, ℕ, List, ◌++◌, append_assoc, codes}
 use Rattle.std.specs.Prelude.{decimal}
-use Rattle.model_http.specs.Responses.{crlf}
+use Rattle.spec_http.specs.Responses.{crlf}
 
 regroup : (a d b p e t f n ch al cl : List ℕ) → (a ++ (d ++ (b ++ (p ++ (e ++ (t ++ (f ++ (n ++ (e ++ (ch ++ (al ++ cl))))))))))) ++ e ≡ (a ++ d ++ b ++ p ++ e) ++ t ++ (f ++ n ++ e) ++ ch ++ al ++ cl ++ e
 regroup a d b p e t f n ch al cl = simp append_assoc

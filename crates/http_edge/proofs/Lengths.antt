@@ -6,7 +6,7 @@ use Rattle.std.specs.Char.{is_ascii_digit}
 use Rattle.std.specs.Str.Parse.{digits_value}
 use Rattle.std.proofs.lemmas.Bool.Decides.{nat_tests}
 use Rattle.std.proofs.Math.Nat.{pow-le-pow_right}
-use Rattle.model_http.specs.Fields.{absent, known, unusable, is_length, is_length_of, length_said}
+use Rattle.spec_http.specs.Fields.{absent, known, unusable, is_length, is_length_of, length_said}
 use Rattle.http_edge.specs.Reading.{length_step}
 
 self : (n : ℕ) → (n == n) ≡ true

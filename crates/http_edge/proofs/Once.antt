@@ -4,8 +4,8 @@ use Rattle.std.specs.Prelude.{◌⊎◌}
 use Rattle.std.proofs.Math.Seq.{take-append_seam, drop-append_seam}
 use Rattle.httparse.specs.Grammar.{RequestHead}
 use Rattle.httparse.proofs.GrammarLemmas.{request_unique}
-use Rattle.model_http.specs.Heads.{HeadEnd, head_end, ended, too_long, unended, line_feeds, IsHead, ReadsHead, fields_of, Framing, body, refuse, framing, RefusesHead}
-use Rattle.model_http.specs.Messages.{Message, message_of, Beginning, whole, refused, partial, nothing, HasHead, HasMessage, IsShort, BeginsWith}
+use Rattle.spec_http.specs.Heads.{HeadEnd, head_end, ended, too_long, unended, line_feeds, IsHead, ReadsHead, fields_of, Framing, body, refuse, framing, RefusesHead}
+use Rattle.spec_http.specs.Messages.{Message, message_of, Beginning, whole, refused, partial, nothing, HasHead, HasMessage, IsShort, BeginsWith}
 use Rattle.http_edge.proofs.Ends.{nothing_unended}
 
 -- ---- ends and framings are told apart

@@ -1,7 +1,7 @@
 -- Messages that stand one behind the other, and that the bytes of a connection hold one list of them, with one end.
 use Rattle.std.proofs.Common.{◌≡◌, ℕ, ◌+◌, ◌<◌, ◌≤◌, List, [], ◌∷◌, ◌++◌, length, length-append, true, false, Bool, inl, inr, refl, sym, ap, ◌∙◌, subst, arith, true≢false}
-use Rattle.model_http.specs.Messages.{Message, Beginning, whole, refused, partial, nothing, BeginsWith, IsUndecided}
-use Rattle.model_http.specs.Pipeline.{AllOpen, Ending, EndsAs, Reads, bad_head, close_asked, quota_spent, undecided}
+use Rattle.spec_http.specs.Messages.{Message, Beginning, whole, refused, partial, nothing, BeginsWith, IsUndecided}
+use Rattle.spec_http.specs.Pipeline.{AllOpen, Ending, EndsAs, Reads, bad_head, close_asked, quota_spent, undecided}
 use Rattle.http_edge.proofs.Once.{once}
 use Rattle.http_edge.proofs.Stays.{whole_more}
 

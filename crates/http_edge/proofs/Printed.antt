@@ -9,8 +9,8 @@ use Rattle.std.proofs.lemmas.List.Sums.{sum_by-append, sum_by-cons}
 use Rattle.httparse.specs.Grammar.{RequestHead, IsRequestHead, print_request, print_blank, print_version, LineEnd, lf, crlf, print_end, Field, IsField, print_field, print_section, is_token_byte, is_uri_byte, is_value_byte, AllPass}
 use Rattle.httparse.proofs.GrammarLemmas.{print_request-append, cons-append}
 use Rattle.httparse.proofs.PieceLemmas.{token_is_no_newline}
-use Rattle.model_http.specs.Heads.{head_length, head_end, end_at, ended, line_end_length, line_feeds, ReadsHead, fields_of, framing, body}
-use Rattle.model_http.specs.Messages.{message_of, whole, BeginsWith}
+use Rattle.spec_http.specs.Heads.{head_length, head_end, end_at, ended, line_end_length, line_feeds, ReadsHead, fields_of, framing, body}
+use Rattle.spec_http.specs.Messages.{message_of, whole, BeginsWith}
 
 -- ---- bytes without a line feed
 

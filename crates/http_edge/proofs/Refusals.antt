@@ -2,10 +2,10 @@
 use Rattle.std.proofs.Common.{◌≡◌, ℕ, List, cond, Bool, true, false, inl, inr, refl, sym, subst, codes}
 use Rattle.std.specs.Prelude.{nat_lt, is_some}
 use Rattle.std.specs.Str.{bytes_eq}
-use Rattle.model_http.specs.Fields.{Length, absent, known, unusable, NamedValue, first_value, length_said, values_of}
-use Rattle.model_http.specs.Heads.{fields_of, Framing, body, refuse, framing, framing_by_length, RefusesHead}
-use Rattle.model_http.specs.Messages.{refused, BeginsWith}
-use Rattle.model_http.specs.Responses.{IsStatus}
+use Rattle.spec_http.specs.Fields.{Length, absent, known, unusable, NamedValue, first_value, length_said, values_of}
+use Rattle.spec_http.specs.Heads.{fields_of, Framing, body, refuse, framing, framing_by_length, RefusesHead}
+use Rattle.spec_http.specs.Messages.{refused, BeginsWith}
+use Rattle.spec_http.specs.Responses.{IsStatus}
 
 is : (one status : ℕ) → one ≡ status → IsStatus one → IsStatus status
 is one status e h = subst IsStatus e h

@@ -3,7 +3,7 @@ use Rattle.std.proofs.Common.{◌≡◌, ℕ, ◌+◌, ◌<◌, ◌≤◌, List,
 use Rattle.std.specs.Prelude.{◌==◌, ◌&&◌}
 use Rattle.std.proofs.lemmas.List.{take_more, take-append-drop, take_all, length-take-le}
 use Rattle.std.specs.Option.{option_or}
-use Rattle.model_http.specs.Heads.{head_length, line_end_length, begins_with_feed, later}
+use Rattle.spec_http.specs.Heads.{head_length, line_end_length, begins_with_feed, later}
 use Rattle.http_edge.specs.Searches.{is_last, next_state, search_from, IsSearched}
 use Rattle.http_edge.specs.declared.search.State.{State}
 use Rattle.http_edge.specs.declared.search.State.TheVariants.{Within, AfterFeed, AfterReturn}

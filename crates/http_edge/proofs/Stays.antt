@@ -2,8 +2,8 @@
 use Rattle.std.proofs.Common.{◌≡◌, ℕ, List, ◌++◌, length, take, inl, inr, sym, ap, ◌∙◌, subst, append_assoc}
 use Rattle.std.proofs.lemmas.List.{take-append-le, drop-append-le}
 use Rattle.httparse.specs.Grammar.{RequestHead}
-use Rattle.model_http.specs.Heads.{ended, head_end, ReadsHead, RefusesHead}
-use Rattle.model_http.specs.Messages.{Message, whole, refused, HasHead, BeginsWith}
+use Rattle.spec_http.specs.Heads.{ended, head_end, ReadsHead, RefusesHead}
+use Rattle.spec_http.specs.Messages.{Message, whole, refused, HasHead, BeginsWith}
 use Rattle.http_edge.proofs.Ends.{ended_more, ended_within, too_long_more}
 
 head_bytes : (bytes more : List ℕ) (size : ℕ) → head_end bytes ≡ ended size → take size bytes ≡ take size (bytes ++ more)

@@ -5,8 +5,8 @@ use Rattle.std.specs.List.{list_any}
 use Rattle.std.proofs.lemmas.Bool.Decides.{nat_tests}
 use Rattle.std.proofs.lemmas.List.Sums.{fold-append}
 use Rattle.std.proofs.lemmas.List.{take_more}
-use Rattle.model_http.specs.Fields.{NamedValue, same_word, value_if_named, values_of}
-use Rattle.model_http.specs.Messages.{path_of}
+use Rattle.spec_http.specs.Fields.{NamedValue, same_word, value_if_named, values_of}
+use Rattle.spec_http.specs.Messages.{path_of}
 
 -- ---- fields
 

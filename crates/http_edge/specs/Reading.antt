@@ -4,13 +4,13 @@ use Rattle.std.specs.Str.Parse.{digits_value}
 use Rattle.std.specs.Io.KnownBytes.{Consumes, IsAtEnd}
 use Rattle.io_edge.specs.Outside.{Rose, SourceShown}
 use Rattle.httparse.specs.Grammar.{RequestHead}
-use Rattle.model_http.specs.Fields as fields
-use Rattle.model_http.specs.Fields.{asks_close, is_length, is_length_of, token_of}
-use Rattle.model_http.specs.Heads as heads
-use Rattle.model_http.specs.Heads.{ReadsHead, RefusesHead, fields_of, framing}
-use Rattle.model_http.specs.Messages as http
-use Rattle.model_http.specs.Messages.{path_of, whole, refused, partial, BeginsWith, IsUndecided}
-use Rattle.model_http.specs.Responses as responses
+use Rattle.spec_http.specs.Fields as fields
+use Rattle.spec_http.specs.Fields.{asks_close, is_length, is_length_of, token_of}
+use Rattle.spec_http.specs.Heads as heads
+use Rattle.spec_http.specs.Heads.{ReadsHead, RefusesHead, fields_of, framing}
+use Rattle.spec_http.specs.Messages as http
+use Rattle.spec_http.specs.Messages.{path_of, whole, refused, partial, BeginsWith, IsUndecided}
+use Rattle.spec_http.specs.Responses as responses
 use Rattle.http_edge.specs.declared.fields.ContentLength.{ContentLength}
 use Rattle.http_edge.specs.declared.fields.ContentLength.TheVariants as length_is
 use Rattle.http_edge.specs.declared.head.Head.{Head}
@@ -23,7 +23,7 @@ use Rattle.http_edge.specs.declared.next.HeadEnd.{HeadEnd}
 use Rattle.http_edge.specs.declared.next.HeadEnd.TheVariants as head_end
 use Rattle.http_edge.specs.declared.next.Next.{Next}
 use Rattle.http_edge.specs.declared.next.Next.TheVariants as next
-use Rattle.model_http.specs.declared.limits.TheConstants.{PIECE}
+use Rattle.spec_http.specs.declared.limits.TheConstants.{PIECE}
 use Rattle.http_edge.specs.declared.response.Response.{Response}
 
 -- ---- the types of the code, as plain data

@@ -1,6 +1,6 @@
 -- A search for the end of a head that stops where the bytes end, and goes on when more have come.
 use Rattle.std.specs.Prelude.{◌≡◌, ℕ, ◌+◌, ◌≤◌, ◌==◌, List, [], ◌∷◌, ◌++◌, Bool, false, Option, Some, None, option_map, if◌then◌else◌, length}
-use Rattle.model_http.specs.Heads.{head_length, later}
+use Rattle.spec_http.specs.Heads.{head_length, later}
 use Rattle.http_edge.specs.declared.search.State.{State}
 use Rattle.http_edge.specs.declared.search.State.TheVariants.{Within, AfterFeed, AfterReturn}
 use Rattle.http_edge.specs.declared.search.Search.{Search}

@@ -4,12 +4,12 @@ ghost use Rattle.std.specs.List.{All, list_any};
 ghost use Rattle.std.specs.Str.{IsAscii};
 ghost use Rattle.std.specs.Str.Parse.{digits_value};
 ghost use Rattle.httparse.specs.Spans.{IsHeaderWithin, header_bytes};
-ghost use Rattle.model_core.specs.Names.{is_token};
-ghost use Rattle.model_http.specs.Fields.{asks_close, bearer_token, first_value, is_length, length_said, same_word, says_close, token_of, value_if_named, values_of};
+ghost use Rattle.spec_core.specs.Names.{is_token};
+ghost use Rattle.spec_http.specs.Fields.{asks_close, bearer_token, first_value, is_length, length_said, same_word, says_close, token_of, value_if_named, values_of};
 ghost use Rattle.http_edge.specs.Reading.{length_shown, length_step};
 
 use httparse::spans::HeaderSpan;
-use model_json::text::Text;
+use spec_json::text::Text;
 use std::alloc::{AllocError, Global};
 
 /// What the `Content-Length` fields of a head say together (RFC 9112 section 6.3).

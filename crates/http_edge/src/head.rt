@@ -3,8 +3,8 @@ ghost use Rattle.std.specs.Prelude.{◌≡◌, ◌≤◌, length, map, take, IfS
 ghost use Rattle.std.specs.List.{All};
 ghost use Rattle.httparse.specs.Grammar.{RequestHead};
 ghost use Rattle.httparse.specs.Spans.{IsHeaderWithin, IsRequestAt, IsRequestWithin, header_bytes};
-ghost use Rattle.model_http.specs.Heads.{IsHead, framing, line_feeds};
-ghost use Rattle.model_http.specs.Messages.{path_of};
+ghost use Rattle.spec_http.specs.Heads.{IsHead, framing, line_feeds};
+ghost use Rattle.spec_http.specs.Messages.{path_of};
 ghost use Rattle.http_edge.specs.Reading.{IsHeadRefusal, Says, framing_shown};
 ghost use Rattle.http_edge.specs.declared.head.HeadError.TheVariants.{NoMemory};
 
@@ -12,9 +12,9 @@ use crate::bytes::Bytes;
 use crate::fields::{ContentLength, ascii_text, content_length, first_of, is_closing, token_in};
 use httparse::Status;
 use httparse::spans::{EMPTY_HEADER_SPAN, HeaderSpan, RequestSpans, parse_request};
-use model_core::limits::MAX_SIZE_REQUEST;
-use model_http::limits::{MOST_FIELDS, MOST_LINES};
-use model_json::text::Text;
+use spec_core::limits::MAX_SIZE_REQUEST;
+use spec_http::limits::{MOST_FIELDS, MOST_LINES};
+use spec_json::text::Text;
 use std::alloc::{AllocError, Global};
 
 /// What a head says.

@@ -3,8 +3,8 @@ ghost use Rattle.std.specs.Prelude.{◌≡◌, ◌≤◌, ◌<◌, ◌+◌, [], 
 ghost use Rattle.http_edge.specs.Reading.{StopCause, Took};
 
 use io_edge::source::Source;
-use model_core::limits::MAX_SIZE_REQUEST;
-use model_http::limits::{MOST_HEAD, PIECE};
+use spec_core::limits::MAX_SIZE_REQUEST;
+use spec_http::limits::{MOST_HEAD, PIECE};
 use std::alloc::Global;
 use std::marker::Model;
 

@@ -1,11 +1,11 @@
 //! Laws of what bytes begin with.
 ghost use Rattle.std.specs.Prelude.{◌≡◌, ◌≤◌, ◌++◌, [], ℕ, List, length};
 ghost use Rattle.httparse.specs.Grammar.{IsRequestHead, RequestHead, print_request};
-ghost use Rattle.model_http.specs.Heads.{body, fields_of, framing};
-ghost use Rattle.model_http.specs.declared.limits.TheConstants.{MOST_FIELDS, MOST_HEAD};
-ghost use Rattle.model_http.specs.Messages.{BeginsWith, Beginning, Message, message_of, refused, whole};
-ghost use Rattle.model_http.specs.Pipeline.{Ending, EndsAs, Reads};
-ghost use Rattle.model_http.specs.Responses.{IsStatus};
+ghost use Rattle.spec_http.specs.Heads.{body, fields_of, framing};
+ghost use Rattle.spec_http.specs.declared.limits.TheConstants.{MOST_FIELDS, MOST_HEAD};
+ghost use Rattle.spec_http.specs.Messages.{BeginsWith, Beginning, Message, message_of, refused, whole};
+ghost use Rattle.spec_http.specs.Pipeline.{Ending, EndsAs, Reads};
+ghost use Rattle.spec_http.specs.Responses.{IsStatus};
 
 /// What begins with a whole message does so whatever follows.
 pub fn whole_stays()

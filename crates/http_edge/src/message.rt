@@ -4,7 +4,7 @@ ghost use Rattle.std.specs.Prelude.{◌≡◌, ◌+◌, ◌≤◌, length, take,
 use crate::bytes::Bytes;
 use crate::head::Head;
 use crate::kept::Kept;
-use model_json::text::Text;
+use spec_json::text::Text;
 use std::alloc::{AllocError, Global};
 
 /// A request (RFC 9112 section 2.1).

@@ -1,6 +1,6 @@
 //! The next message of a source.
 ghost use Rattle.std.specs.Prelude.{◌≡◌, ◌+◌, ◌≤◌, ◌<◌, length, IfOk, OnOk, IfErr};
-ghost use Rattle.model_http.specs.Heads.{head_end, unended};
+ghost use Rattle.spec_http.specs.Heads.{head_end, unended};
 ghost use Rattle.http_edge.specs.Reading.{AskedWhile, GivesNext, StopCause, Took, end_shown, ended_with};
 
 use crate::head::{HeadError, read_head};
@@ -8,8 +8,8 @@ use crate::kept::{Kept, Stop};
 use crate::message::{Message, take_message};
 use crate::search::{Search, State, go_on};
 use io_edge::source::Source;
-use model_core::limits::MAX_SIZE_REQUEST;
-use model_http::limits::{MOST_HEAD, PIECE};
+use spec_core::limits::MAX_SIZE_REQUEST;
+use spec_http::limits::{MOST_HEAD, PIECE};
 use std::alloc::Global;
 
 /// What a source gives next.

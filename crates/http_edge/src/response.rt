@@ -1,13 +1,13 @@
 //! The bytes of responses.
 ghost use Rattle.std.specs.Prelude.{◌≡◌, IfOk, string_bytes, length, unwrap_or, []};
 ghost use Rattle.http.specs.StatusCode.{reason_phrase};
-ghost use Rattle.model_http.specs.Responses as http;
-ghost use Rattle.model_http.specs.Responses.{IsStatus, response_text};
+ghost use Rattle.spec_http.specs.Responses as http;
+ghost use Rattle.spec_http.specs.Responses.{IsStatus, response_text};
 ghost use Rattle.http_edge.specs.Reading.{response_shown};
 
 use crate::bytes::Bytes;
 use http::StatusCode;
-use model_json::text::Text;
+use spec_json::text::Text;
 use std::alloc::{AllocError, Global};
 
 /// A response.

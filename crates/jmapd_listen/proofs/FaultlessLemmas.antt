@@ -10,8 +10,8 @@ use Rattle.jmapd_run.specs.Starts.{IsLoaded, IsNotOpened}
 use Rattle.jmapd_run.specs.declared.status.Status.{Status}
 use Rattle.jmapd_run.specs.declared.status.Status.TheVariants.{Config, Cut, Done, NoMemory, OpenFault, ReadFault, Refused, Usage, WriteFault}
 use Rattle.listen_edge.specs.Listening.{HostShown}
-use Rattle.model_site.specs.Configuration.{Fault, Site, configured}
-use Rattle.model_site.specs.declared.limits.TheConstants.{MAX_CONFIGURATION_BYTES}
+use Rattle.spec_site.specs.Configuration.{Fault, Site, configured}
+use Rattle.spec_site.specs.declared.limits.TheConstants.{MAX_CONFIGURATION_BYTES}
 use Rattle.jmapd_listen.specs.Faultless.{FaultlessListensServe, NoneFailed}
 use Rattle.jmapd_listen.specs.Listens.{ListensHow, ServesSite, SpawnerShown}
 

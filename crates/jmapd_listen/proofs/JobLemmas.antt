@@ -5,16 +5,16 @@ use Rattle.account_desk.specs.FreshDesk.{bases}
 use Rattle.account_lock.specs.Passes.{PassState}
 use Rattle.atomic_table.specs.Seated.{TableId}
 use Rattle.command_line.specs.declared.listen.TheConstants.{MOST_CONNECTIONS}
-use Rattle.conn_worker.proofs.WorkerLemmas.{each_turns}
-use Rattle.conn_worker.specs.Working.{MOST_CALLS, Tools, WorkerHow, Works}
+use Rattle.listen_workers.proofs.WorkerLemmas.{each_turns}
+use Rattle.listen_workers.specs.Working.{MOST_CALLS, Tools, WorkerHow, Works}
 use Rattle.jmapd_listen.specs.Listens.{WorksWhole}
 use Rattle.listen_edge.specs.Listening.{ListenerShown}
 use Rattle.listen_edge.specs.declared.job.WorkerDone.{WorkerDone}
 use Rattle.listen_edge.specs.declared.job.WorkerEnd.{WorkerEnd}
 use Rattle.listen_edge.specs.declared.job.WorkerEnd.TheVariants.{AcceptFault, All, PassSpent}
-use Rattle.model_site.specs.Configuration.{Site}
-use Rattle.shared_accounts.specs.Passes.{fresh_passes}
-use Rattle.worker_crew.specs.Crew.{Ends}
+use Rattle.spec_site.specs.Configuration.{Site}
+use Rattle.listen_workers.specs.Passes.{fresh_passes}
+use Rattle.listen_workers.specs.Crew.{Ends}
 
 ends_so : (connections : ℕ) (l l' : ListenerShown) (u : Tools) (done : WorkerDone) (e : WorkerEnd) → done.end ≡ e → connections ≤ MOST_CONNECTIONS → u.desk.turns ≤ MOST_CALLS * done.served
     → WorkerHow connections l l' u done.served e → Ends connections done

@@ -9,7 +9,7 @@ use Rattle.jmapd_run.specs.Starts.{IsLoaded}
 use Rattle.jmapd_run.specs.declared.status.Status.{Status}
 use Rattle.jmapd_run.specs.declared.status.Status.TheVariants.{Config, Cut, Done, NoMemory, OpenFault, ReadFault, Refused, Usage, WriteFault}
 use Rattle.listen_edge.specs.Listening.{HostShown}
-use Rattle.model_site.specs.Configuration.{Site}
+use Rattle.spec_site.specs.Configuration.{Site}
 
 module _ (o o' : OpenerShown) (words : List (List ℕ)) (l : Listen) (is : listen_command_of words ≡ Some l) where
   -- there is no site

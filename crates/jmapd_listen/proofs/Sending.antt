@@ -5,8 +5,8 @@ use Rattle.std.proofs.Crossing.{crosses}
 use Rattle.account_desk.proofs.Crossing.{gated_sent}
 use Rattle.account_lock.proofs.locked.Locked.TheSendSync as locked
 use Rattle.account_lock.proofs.pass.Pass.TheSendSync as pass
-use Rattle.model_json.proofs.Crossing.{text_sent, text_shared}
-use Rattle.model_json.proofs.tree.TreeList.TheLaws.TheKnot as tree
+use Rattle.spec_json.proofs.Crossing.{text_sent, text_shared}
+use Rattle.spec_json.proofs.tree.TreeList.TheLaws.TheKnot as tree
 use Rattle.session_doc.specs.contracts.site.Site as site
 use Rattle.jmapd_listen.specs.contracts.job.WorkerBack as back
 use Rattle.jmapd_listen.specs.contracts.job.WorkerJob as job

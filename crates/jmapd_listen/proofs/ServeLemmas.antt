@@ -5,8 +5,8 @@ use Rattle.command_line.specs.Commands.{Listen}
 use Rattle.jmapd_listen.specs.Listens.{ServesSite, SpawnerShown}
 use Rattle.jmapd_run.specs.declared.status.Status.TheVariants.{Done, NoMemory, OpenFault}
 use Rattle.listen_edge.specs.Listening.{HostShown}
-use Rattle.worker_crew.specs.Crew.{HasServed}
-use Rattle.worker_crew.specs.Listeners.{AskedFor}
+use Rattle.listen_workers.specs.Crew.{HasServed}
+use Rattle.listen_workers.specs.Listeners.{AskedFor}
 
 -- each worker has a listener
 module _ (l : Listen) (h h' : HostShown) (asked : AskedFor h h' l.port l.workers) where

@@ -6,7 +6,7 @@ use Rattle.jmapd_run.specs.Completes.{IsAccepted}
 use Rattle.jmapd_run.specs.declared.status.Status.{Status}
 use Rattle.jmapd_run.specs.declared.status.Status.TheVariants.{Done, NoMemory}
 use Rattle.listen_edge.specs.Listening.{HostShown}
-use Rattle.model_site.specs.Configuration.{Site}
+use Rattle.spec_site.specs.Configuration.{Site}
 use Rattle.jmapd_listen.specs.Listens.{ListensHow, ServesSite, SpawnerShown}
 
 -- neither opener, host nor spawner failed

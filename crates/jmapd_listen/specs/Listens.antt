@@ -1,7 +1,7 @@
 -- What the command `listen` does, whatever bytes come on its connections.
 use Rattle.std.specs.Prelude.{◌≡◌, ◌⊎◌, ◌+◌, ◌*◌, ◌<◌, ◌≤◌, ℕ, List, Some, None, Ok, Err}
 use Rattle.command_line.specs.Commands.{Listen, listen_command_of}
-use Rattle.conn_worker.specs.Working.{Tools, Works}
+use Rattle.listen_workers.specs.Working.{Tools, Works}
 use Rattle.io_edge.specs.Outside.{OpenerShown, Rose}
 use Rattle.jmapd_run.specs.Starts.{IsLoaded, IsNotOpened}
 use Rattle.jmapd_run.specs.declared.status.Status.{Status}
@@ -9,9 +9,9 @@ use Rattle.jmapd_run.specs.declared.status.Status.TheVariants.{Config, Done, NoM
 use Rattle.listen_edge.specs.Ending.{counted}
 use Rattle.listen_edge.specs.Listening.{HostShown, ListenerShown}
 use Rattle.listen_edge.specs.declared.job.WorkerDone.{WorkerDone}
-use Rattle.model_site.specs.Configuration.{Site}
-use Rattle.worker_crew.specs.Crew.{Ends}
-use Rattle.worker_crew.specs.Listeners.{AskedFor}
+use Rattle.spec_site.specs.Configuration.{Site}
+use Rattle.listen_workers.specs.Crew.{Ends}
+use Rattle.listen_workers.specs.Listeners.{AskedFor}
 
 -- A worker that was to serve so many connections did, or its listener failed: it has calls enough for all.
 abbrev pub WorksWhole : Site → ℕ → ListenerShown → ListenerShown → Tools → Tools → WorkerDone → Type 0

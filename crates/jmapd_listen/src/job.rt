@@ -5,15 +5,15 @@ ghost use Rattle.account_desk.specs.FreshDesk.{bases};
 ghost use Rattle.account_desk.specs.SharedDesk.{shown_by_passes};
 ghost use Rattle.command_line.specs.declared.listen.TheConstants.{MOST_CONNECTIONS};
 ghost use Rattle.jmapd_listen.specs.Listens.{WorksWhole};
-ghost use Rattle.shared_accounts.specs.Passes.{fresh_passes};
+ghost use Rattle.listen_workers.specs.Passes.{fresh_passes};
 
 use account_desk::shared_desk::{GatedAccounts, SharedDesk};
-use conn_worker::worker::worker;
+use listen_workers::worker::worker;
 use io_edge::clock::Clock;
 use listen_edge::job::{Finished, Job, WorkerDone};
 use listen_edge::listener::ThreadListener;
 use session_doc::Site;
-use shared_accounts::accounts::Hand;
+use listen_workers::accounts::Hand;
 use std::alloc::Global;
 use std::sync::{Arc, Wait};
 

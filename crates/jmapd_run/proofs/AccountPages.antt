@@ -9,21 +9,21 @@ use Rattle.std.specs.Prelude.{nat_le, option_and_then, unwrap_or}
 use Rattle.account_desk.specs.SoleDesk.{fresh_account}
 use Rattle.cal_model.specs.Answer.{added, answer, answered, unless_error}
 use Rattle.cal_model.specs.Changes.{changes_refusal, changes_response}
-use Rattle.model_call.specs.declared.call.MethodError.{MethodError}
-use Rattle.model_call.specs.declared.call.MethodError.TheVariants.{CannotCalculateChanges}
-use Rattle.model_call.specs.declared.call.Reply.{Reply}
-use Rattle.model_core.specs.declared.numbers.TheConstants.{MAX_UNSIGNED_INT}
-use Rattle.model_history.specs.Base.{Base}
-use Rattle.model_history.specs.History.{changes_of, is_kind, state_at}
-use Rattle.model_history.specs.ObjectId.{id_text}
-use Rattle.model_history.specs.Pages.{Mention, created, destroyed, is_retained, is_within, mentions, page_end, size_of_page, updated}
-use Rattle.model_history.specs.declared.entry.Change.{Change}
-use Rattle.model_history.specs.declared.entry.Entry.{Entry}
-use Rattle.model_history.specs.declared.entry.Kind.TheVariants.{Event}
-use Rattle.model_json.specs.Data.{items_back, items_of, list_of, text}
-use Rattle.model_json.specs.Number.{number_in}
-use Rattle.model_queries.specs.States.{is_known_state}
-use Rattle.model_site.specs.Configuration.{built_in}
+use Rattle.spec_calls.specs.declared.call.MethodError.{MethodError}
+use Rattle.spec_calls.specs.declared.call.MethodError.TheVariants.{CannotCalculateChanges}
+use Rattle.spec_calls.specs.declared.call.Reply.{Reply}
+use Rattle.spec_core.specs.declared.numbers.TheConstants.{MAX_UNSIGNED_INT}
+use Rattle.spec_history.specs.Base.{Base}
+use Rattle.spec_history.specs.History.{changes_of, is_kind, state_at}
+use Rattle.spec_history.specs.ObjectId.{id_text}
+use Rattle.spec_history.specs.Pages.{Mention, created, destroyed, is_retained, is_within, mentions, page_end, size_of_page, updated}
+use Rattle.spec_history.specs.declared.entry.Change.{Change}
+use Rattle.spec_history.specs.declared.entry.Entry.{Entry}
+use Rattle.spec_history.specs.declared.entry.Kind.TheVariants.{Event}
+use Rattle.spec_json.specs.Data.{items_back, items_of, list_of, text}
+use Rattle.spec_json.specs.Number.{number_in}
+use Rattle.spec_queries.specs.States.{is_known_state}
+use Rattle.spec_site.specs.Configuration.{built_in}
 use Rattle.jmapd_run.specs.Headline.{IsWorkText}
 use Rattle.state_log.proofs.EndLemmas.{greatest-ge}
 use Rattle.state_log.proofs.LawLemmas.{gets_on, length-mentions, page_ends, page_fits}

@@ -2,25 +2,25 @@
 use Rattle.std.proofs.Common.{◌≡◌, ◌≤◌, ◌+◌, ◌++◌, ◌∷◌, [], ℕ, ℤ, List, Bool, true, false, Result, Ok, Err, IfOk, inl, inr, length, ap, arith, subst, sym, ◌∙◌}
 use Rattle.std.specs.Io.KnownBytes.{Consumes, IsAtEnd}
 use Rattle.std.specs.Prelude.{if◌then◌else◌}
-use Rattle.model_batch.proofs.Chains.{spent_stop, turns_counted}
-use Rattle.model_time.specs.Moments.{clamped}
-use Rattle.model_batch.specs.Reply.{Replies, asked_in}
-use Rattle.model_core.specs.declared.limits.TheConstants.{MAX_SIZE_REQUEST}
-use Rattle.model_batch.specs.Batch.{NextMeans}
-use Rattle.model_batch.specs.Chain.{Chain, Shown}
+use Rattle.spec_batch.proofs.Chains.{spent_stop, turns_counted}
+use Rattle.spec_time.specs.Moments.{clamped}
+use Rattle.spec_batch.specs.Reply.{Replies, asked_in}
+use Rattle.spec_core.specs.declared.limits.TheConstants.{MAX_SIZE_REQUEST}
+use Rattle.spec_batch.specs.Batch.{NextMeans}
+use Rattle.spec_batch.specs.Chain.{Chain, Shown}
 use Rattle.account_desk.specs.FreshDesk.{IsSole, fresh_desk}
 use Rattle.jmapd_run.specs.Headline.{AnswersInput, IsAnswer, Surroundings}
-use Rattle.model_json.specs.Json.{text_of}
-use Rattle.model_history.specs.MostTurns.{most_turns}
+use Rattle.spec_json.specs.Json.{text_of}
+use Rattle.spec_history.specs.MostTurns.{most_turns}
 use Rattle.io_edge.specs.Outside.{Grows, Ticks}
-use Rattle.model_site.specs.Configuration.{Site, user_at}
-use Rattle.model_json.specs.TreeData.{data_of}
-use Rattle.model_batch.specs.declared.desk.DeskError.{DeskError}
-use Rattle.model_batch.specs.declared.desk.DeskError.TheVariants.{NoMemory, PassSpent}
-use Rattle.model_batch.specs.declared.desk.Front.{Front}
+use Rattle.spec_site.specs.Configuration.{Site, user_at}
+use Rattle.spec_json.specs.TreeData.{data_of}
+use Rattle.spec_batch.specs.declared.desk.DeskError.{DeskError}
+use Rattle.spec_batch.specs.declared.desk.DeskError.TheVariants.{NoMemory, PassSpent}
+use Rattle.spec_batch.specs.declared.desk.Front.{Front}
 use Rattle.jmapd_run.specs.declared.status.Status.{Status}
 use Rattle.jmapd_run.specs.declared.status.Status.TheVariants.{Done, Refused}
-use Rattle.model_core.specs.declared.user.User.{User}
+use Rattle.spec_core.specs.declared.user.User.{User}
 use Rattle.conn_serve.specs.Answering.{IsOutcome, OutcomeHow}
 use Rattle.conn_serve.specs.declared.reply.RequestOutcome.{RequestOutcome}
 use Rattle.jmapd_run.specs.Runs.{BatchEnds}

@@ -5,13 +5,13 @@ use Rattle.std.specs.Prelude.{◌⊎◌, IfSome, if◌then◌else◌, option_and
 use Rattle.account_desk.specs.FreshDesk.{fresh_desk}
 use Rattle.conn_serve.proofs.Completeness.{EndsSo, all_end, end_of, taken_end}
 use Rattle.conn_serve.specs.Complete.{IsUnharmed}
-use Rattle.model_batch.specs.Chain.{Shown}
-use Rattle.model_connection.specs.declared.served.ConnEnd.TheVariants as end
-use Rattle.model_connection.specs.declared.served.TheConstants.{MOST_MESSAGES}
-use Rattle.model_core.specs.declared.limits.TheConstants.{MAX_SIZE_REQUEST}
-use Rattle.model_http.specs.Messages.{Message}
-use Rattle.model_http.specs.Pipeline.{Ending, undecided, bad_head, close_asked, quota_spent}
-use Rattle.model_site.specs.Configuration.{Site}
+use Rattle.spec_batch.specs.Chain.{Shown}
+use Rattle.spec_connection.specs.declared.served.ConnEnd.TheVariants as end
+use Rattle.spec_connection.specs.declared.served.TheConstants.{MOST_MESSAGES}
+use Rattle.spec_core.specs.declared.limits.TheConstants.{MAX_SIZE_REQUEST}
+use Rattle.spec_http.specs.Messages.{Message}
+use Rattle.spec_http.specs.Pipeline.{Ending, undecided, bad_head, close_asked, quota_spent}
+use Rattle.spec_site.specs.Configuration.{Site}
 use Rattle.io_edge.specs.Outside.{OpenerShown}
 use Rattle.jmapd_run.specs.declared.status.Status.{Status}
 use Rattle.jmapd_run.specs.declared.status.Status.TheVariants.{Config, Cut, Done, NoMemory, OpenFault, ReadFault, Refused, Usage, WriteFault}

@@ -1,17 +1,17 @@
 -- What a connection over fresh accounts comes to.
 use Rattle.std.proofs.Common.{◌≡◌, ◌≢◌, ◌+◌, ◌≤◌, ◌++◌, Some, inl, inr, length, length-append, refl, ap, arith, subst}
 use Rattle.std.specs.Prelude.{◌⊎◌}
-use Rattle.model_batch.proofs.Chains.{turns_counted}
-use Rattle.model_batch.specs.Chain.{Shown}
+use Rattle.spec_batch.proofs.Chains.{turns_counted}
+use Rattle.spec_batch.specs.Chain.{Shown}
 use Rattle.account_desk.specs.FreshDesk.{IsSole, fresh_desk}
-use Rattle.model_connection.specs.Serving.{Rests, Serves, Setting}
-use Rattle.model_connection.specs.Exchanges.{all_made}
+use Rattle.spec_connection.specs.Serving.{Rests, Serves, Setting}
+use Rattle.spec_connection.specs.Exchanges.{all_made}
 use Rattle.conn_serve.proofs.Completeness.{How, spent_behind}
-use Rattle.model_site.specs.Configuration.{Site}
-use Rattle.model_connection.specs.declared.served.ConnEnd.{ConnEnd}
-use Rattle.model_connection.specs.declared.served.ConnEnd.TheVariants as end
-use Rattle.model_connection.specs.declared.served.Served.{Served}
-use Rattle.model_connection.specs.declared.served.TheConstants.{MOST_MESSAGES}
+use Rattle.spec_site.specs.Configuration.{Site}
+use Rattle.spec_connection.specs.declared.served.ConnEnd.{ConnEnd}
+use Rattle.spec_connection.specs.declared.served.ConnEnd.TheVariants as end
+use Rattle.spec_connection.specs.declared.served.Served.{Served}
+use Rattle.spec_connection.specs.declared.served.TheConstants.{MOST_MESSAGES}
 use Rattle.jmapd_run.specs.declared.status.Status.{Status}
 use Rattle.jmapd_run.specs.Headline.{Surroundings}
 use Rattle.jmapd_run.specs.Runs.{RunsStdio, status_of, with_desk}

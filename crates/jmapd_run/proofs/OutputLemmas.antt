@@ -2,26 +2,26 @@
 use Rattle.std.proofs.Common.{◌≡◌, ◌≢◌, ◌+◌, ◌++◌, ◌∷◌, [], ℕ, ℤ, List, Option, Some, Bool, true, false, inl, inr, take, refl, sym, ap, ◌∙◌, subst}
 use Rattle.std.specs.Io.KnownBytes.{Consumes}
 use Rattle.std.specs.Prelude.{◌⊎◌, if◌then◌else◌}
-use Rattle.desk_laws.proofs.FreshLaws.{fresh_connections_determined, fresh_replies_determined}
-use Rattle.desk_laws.specs.Determined.{RepliesAlone, ServesAlone}
-use Rattle.model_time.specs.Moments.{clamped}
-use Rattle.model_batch.specs.Reply.{asked_in}
-use Rattle.model_core.specs.declared.limits.TheConstants.{MAX_SIZE_REQUEST}
-use Rattle.model_json.specs.Data.{Data}
+use Rattle.account_desk.proofs.FreshLaws.{fresh_connections_determined, fresh_replies_determined}
+use Rattle.account_desk.specs.Determined.{RepliesAlone, ServesAlone}
+use Rattle.spec_time.specs.Moments.{clamped}
+use Rattle.spec_batch.specs.Reply.{asked_in}
+use Rattle.spec_core.specs.declared.limits.TheConstants.{MAX_SIZE_REQUEST}
+use Rattle.spec_json.specs.Data.{Data}
 use Rattle.account_desk.specs.FreshDesk.{IsSole, fresh_desk}
 use Rattle.account_desk.specs.SoleDesk.{fresh_account}
 use Rattle.cal_model.specs.Answer.{added, answer}
 use Rattle.jmapd_run.specs.Headline.{AnswersInput, IsAnswer, IsWorkText, Surroundings}
-use Rattle.model_connection.specs.Serving.{refusal_text}
-use Rattle.model_connection.specs.Exchanges.{Ticked, all_bytes, all_moments, messages_of}
-use Rattle.model_json.specs.Json.{text_of}
+use Rattle.spec_connection.specs.Serving.{refusal_text}
+use Rattle.spec_connection.specs.Exchanges.{Ticked, all_bytes, all_moments, messages_of}
+use Rattle.spec_json.specs.Json.{text_of}
 use Rattle.io_edge.specs.Outside.{Grows, OpenerShown, Ticks}
-use Rattle.model_site.specs.Configuration.{Site, built_in, user_at}
+use Rattle.spec_site.specs.Configuration.{Site, built_in, user_at}
 use Rattle.workload.proofs.Outputs.{one_output}
-use Rattle.model_connection.specs.declared.served.ConnEnd.{ConnEnd}
-use Rattle.model_connection.specs.declared.served.ConnEnd.TheVariants as end
-use Rattle.model_connection.specs.declared.served.TheConstants.{MOST_MESSAGES}
-use Rattle.model_site.specs.declared.field.Field.{Field}
+use Rattle.spec_connection.specs.declared.served.ConnEnd.{ConnEnd}
+use Rattle.spec_connection.specs.declared.served.ConnEnd.TheVariants as end
+use Rattle.spec_connection.specs.declared.served.TheConstants.{MOST_MESSAGES}
+use Rattle.spec_site.specs.declared.field.Field.{Field}
 use Rattle.jmapd_run.specs.declared.status.Status.{Status}
 use Rattle.jmapd_run.specs.declared.status.Status.TheVariants.{Config, Cut, Done, NoMemory, OpenFault, ReadFault, Refused, Usage, WriteFault}
 use Rattle.conn_serve.proofs.Completeness.{How, faultless_determined, never_spent}

@@ -4,10 +4,10 @@ use Rattle.std.proofs.lemmas.Bool.Decides.{nat_tests}
 use Rattle.std.proofs.lemmas.List.{length-take-le, take_all}
 use Rattle.std.specs.Prelude.{IfSome, if◌then◌else◌, nat_le, option_and_then, unwrap_or}
 use Rattle.io_edge.specs.Outside.{IsMissing, OpenerShown, Rose, file_named}
-use Rattle.model_json.specs.Json.{reading}
-use Rattle.model_site.specs.Configuration.{Fault, Site, built_in, configured, site_read, user_named}
-use Rattle.model_site.specs.declared.field.Field.TheVariants.{Json}
-use Rattle.model_site.specs.declared.limits.TheConstants.{MAX_CONFIGURATION_BYTES}
+use Rattle.spec_json.specs.Json.{reading}
+use Rattle.spec_site.specs.Configuration.{Fault, Site, built_in, configured, site_read, user_named}
+use Rattle.spec_site.specs.declared.field.Field.TheVariants.{Json}
+use Rattle.spec_site.specs.declared.limits.TheConstants.{MAX_CONFIGURATION_BYTES}
 use Rattle.command_line.specs.Commands.{Command, batch, command_of, stdio, workload}
 use Rattle.jmapd_run.specs.Starts.{HasConfiguration, IsLoaded, IsNotOpened, IsSite, IsStart, IsUser, Start, batch_for, configuration_named, configuration_of, misconfigured, not_opened, stdio_of, usage, workload_by}
 

@@ -1,6 +1,6 @@
 -- A run that doesn't begin.
 use Rattle.std.proofs.Common.{ℕ, List, Option, Some, None, Ok, Err, inl, inr, refl}
-use Rattle.model_site.specs.Configuration.{Site}
+use Rattle.spec_site.specs.Configuration.{Site}
 use Rattle.io_edge.specs.Outside.{OpenerShown}
 use Rattle.jmapd_run.specs.declared.status.Status.{Status}
 use Rattle.jmapd_run.specs.declared.status.Status.TheVariants.{Config, Cut, Done, NoMemory, OpenFault, ReadFault, Refused, Usage, WriteFault}

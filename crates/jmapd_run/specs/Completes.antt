@@ -2,13 +2,13 @@
 use Rattle.std.specs.Prelude.{◌≡◌, ◌⊎◌, ◌+◌, ℕ, List, [], ◌∷◌, Option, Some, None, IfSome, Ok, take, if◌then◌else◌, ⊤}
 use Rattle.conn_serve.specs.Complete.{Holds}
 use Rattle.io_edge.specs.Outside.{OpenerShown, Rose}
-use Rattle.model_batch.specs.Asked.{is_refused}
-use Rattle.model_batch.specs.Reply.{asked_in}
-use Rattle.model_connection.specs.declared.served.TheConstants.{MOST_MESSAGES}
-use Rattle.model_core.specs.declared.limits.TheConstants.{MAX_SIZE_REQUEST}
-use Rattle.model_http.specs.Messages.{Message}
-use Rattle.model_http.specs.Pipeline.{Ending, undecided, bad_head, close_asked, quota_spent}
-use Rattle.model_site.specs.Configuration.{Site, built_in, configured}
+use Rattle.spec_batch.specs.Asked.{is_refused}
+use Rattle.spec_batch.specs.Reply.{asked_in}
+use Rattle.spec_connection.specs.declared.served.TheConstants.{MOST_MESSAGES}
+use Rattle.spec_core.specs.declared.limits.TheConstants.{MAX_SIZE_REQUEST}
+use Rattle.spec_http.specs.Messages.{Message}
+use Rattle.spec_http.specs.Pipeline.{Ending, undecided, bad_head, close_asked, quota_spent}
+use Rattle.spec_site.specs.Configuration.{Site, built_in, configured}
 use Rattle.jmapd_run.specs.declared.status.Status.{Status}
 use Rattle.jmapd_run.specs.declared.status.Status.TheVariants.{Cut, Done, NoMemory, Refused}
 use Rattle.command_line.specs.Commands.{Command, batch, command_of, stdio, workload}

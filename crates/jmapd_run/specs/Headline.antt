@@ -4,15 +4,15 @@ use Rattle.std.specs.Io.KnownBytes.{Consumes, IsAtEnd}
 use Rattle.account_desk.specs.FreshDesk.{IsSole, fresh_desk}
 use Rattle.account_desk.specs.SoleDesk.{fresh_account}
 use Rattle.cal_model.specs.Answer.{added, answer}
-use Rattle.model_batch.specs.Asked.{is_refused}
-use Rattle.model_batch.specs.Reply.{Replies, asked_in}
-use Rattle.model_time.specs.Moments.{clamped}
-use Rattle.model_core.specs.declared.limits.TheConstants.{MAX_SIZE_REQUEST}
-use Rattle.model_batch.specs.Chain.{Made, Chain, Shown}
-use Rattle.model_json.specs.Data.{Data}
-use Rattle.model_json.specs.Json.{text_of}
+use Rattle.spec_batch.specs.Asked.{is_refused}
+use Rattle.spec_batch.specs.Reply.{Replies, asked_in}
+use Rattle.spec_time.specs.Moments.{clamped}
+use Rattle.spec_core.specs.declared.limits.TheConstants.{MAX_SIZE_REQUEST}
+use Rattle.spec_batch.specs.Chain.{Made, Chain, Shown}
+use Rattle.spec_json.specs.Data.{Data}
+use Rattle.spec_json.specs.Json.{text_of}
 use Rattle.io_edge.specs.Outside.{SinkShown, SourceShown, Ticks}
-use Rattle.model_site.specs.Configuration.{Site, built_in, user_at}
+use Rattle.spec_site.specs.Configuration.{Site, built_in, user_at}
 use Rattle.workload.specs.Work.{IsOutput}
 
 -- what is shown of all that a command touches besides the files

@@ -1,16 +1,16 @@
 -- What a run does, whatever bytes come: the main theorem's statement for the program.
 use Rattle.std.specs.Prelude.{◌≡◌, ◌⊎◌, ◌+◌, ◌≤◌, ℕ, ℤ, List, Bool, true, false, Option, Some, None}
-use Rattle.model_core.specs.declared.limits.TheConstants.{MAX_SIZE_REQUEST}
-use Rattle.model_batch.specs.Chain.{Shown}
+use Rattle.spec_core.specs.declared.limits.TheConstants.{MAX_SIZE_REQUEST}
+use Rattle.spec_batch.specs.Chain.{Shown}
 use Rattle.account_desk.specs.FreshDesk.{IsSole, fresh_desk}
 use Rattle.jmapd_run.specs.Headline.{AnswersInput, IsWorkText, Surroundings}
-use Rattle.model_connection.specs.Serving.{Serves, Setting}
+use Rattle.spec_connection.specs.Serving.{Serves, Setting}
 use Rattle.io_edge.specs.Outside.{ConsumesAtMost, Grows, GrowsByPrefix, OpenerShown, Rose, SinkShown, Ticks}
-use Rattle.model_site.specs.Configuration.{Site}
-use Rattle.model_connection.specs.declared.served.ConnEnd.{ConnEnd}
-use Rattle.model_connection.specs.declared.served.ConnEnd.TheVariants as end
-use Rattle.model_connection.specs.declared.served.Served.{Served}
-use Rattle.model_connection.specs.declared.served.TheConstants.{MOST_MESSAGES}
+use Rattle.spec_site.specs.Configuration.{Site}
+use Rattle.spec_connection.specs.declared.served.ConnEnd.{ConnEnd}
+use Rattle.spec_connection.specs.declared.served.ConnEnd.TheVariants as end
+use Rattle.spec_connection.specs.declared.served.Served.{Served}
+use Rattle.spec_connection.specs.declared.served.TheConstants.{MOST_MESSAGES}
 use Rattle.jmapd_run.specs.declared.status.Status.{Status}
 use Rattle.jmapd_run.specs.declared.status.Status.TheVariants.{Config, Cut, Done, NoMemory, OpenFault, ReadFault, Refused, Usage, WriteFault}
 use Rattle.jmapd_run.specs.Starts.{IsStart, Start, batch_for, misconfigured, not_opened, stdio_of, usage, workload_by}

@@ -1,7 +1,7 @@
 -- What contracts see of a start, and of what a load came to.
 use Rattle.std.specs.Prelude.{◌≡◌, ℕ, ◌<◌, List, Option, Some, None, Result, Ok, Err, length, ⊤}
 use Rattle.io_edge.specs.Outside.{OpenerShown}
-use Rattle.model_site.specs.Configuration.{Fault, Site, user_named}
+use Rattle.spec_site.specs.Configuration.{Fault, Site, user_named}
 use Rattle.jmapd_run.specs.declared.status.Status.{Status}
 use Rattle.jmapd_run.specs.declared.status.Status.TheVariants.{Config, NoMemory, OpenFault, Usage}
 use Rattle.jmapd_run.specs.Starts as starts

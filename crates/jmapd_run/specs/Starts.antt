@@ -1,9 +1,9 @@
 -- What the words of the command line and the configuration come to, before the input is read.
 use Rattle.std.specs.Prelude.{◌≡◌, ◌⊎◌, ◌+◌, ℕ, List, Option, Some, None, Result, Ok, Err, option_and_then}
 use Rattle.io_edge.specs.Outside.{IsMissing, Loads, OpenerShown, Rose, file_named}
-use Rattle.model_site.specs.Configuration.{Fault, Site, built_in, configured, user_named}
-use Rattle.model_site.specs.declared.field.Field.{Field}
-use Rattle.model_site.specs.declared.limits.TheConstants.{MAX_CONFIGURATION_BYTES}
+use Rattle.spec_site.specs.Configuration.{Fault, Site, built_in, configured, user_named}
+use Rattle.spec_site.specs.declared.field.Field.{Field}
+use Rattle.spec_site.specs.declared.limits.TheConstants.{MAX_CONFIGURATION_BYTES}
 use Rattle.command_line.specs.Commands.{Command, batch, command_of, stdio, workload}
 
 pub data Start : Type 0 where

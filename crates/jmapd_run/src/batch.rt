@@ -1,8 +1,8 @@
 //! The command `batch`: one request and its answer.
 ghost use Rattle.std.specs.Prelude.{◌≡◌, ◌<◌, ◌++◌, ◌∷◌, [], IfOk, length, if◌then◌else◌};
 ghost use Rattle.jmapd_run.specs.Headline.{IsAnswer};
-ghost use Rattle.model_json.specs.Json.{text_of};
-ghost use Rattle.model_json.specs.TreeData.{data_of};
+ghost use Rattle.spec_json.specs.Json.{text_of};
+ghost use Rattle.spec_json.specs.TreeData.{data_of};
 ghost use Rattle.jmapd_run.specs.Runs.{RunsBatch};
 
 use crate::status::Status;
@@ -12,9 +12,9 @@ use io_edge::clock::Clock;
 use io_edge::sink::{Sink, put_all};
 use io_edge::source::{InputError, Source, read_up_to};
 use json_edge::write::tree_text;
-use model_batch::desk::DeskError;
-use model_core::limits::MAX_SIZE_REQUEST;
-use model_time::moment::Moment;
+use spec_batch::desk::DeskError;
+use spec_core::limits::MAX_SIZE_REQUEST;
+use spec_time::moment::Moment;
 use session_doc::Site;
 use std::alloc::{AllocError, Global};
 

@@ -1,13 +1,13 @@
 //! What the words of the command line and the configuration come to.
 ghost use Rattle.std.specs.Prelude.{◌≡◌, ◌≤◌, ◌+◌, IfOk, map, option_map, string_bytes};
-ghost use Rattle.model_site.specs.Configuration.{configured};
+ghost use Rattle.spec_site.specs.Configuration.{configured};
 ghost use Rattle.jmapd_run.specs.Shown.{BatchHow, HasItsUser, LoadHow, NamedHow, ReadHow, SiteHow, StartHow};
 
 use crate::status::Status;
 use command_line::command::{Command, read_command};
 use command_line::workload::Workload;
 use io_edge::opener::{LoadError, Opener};
-use model_site::limits::MAX_CONFIGURATION_BYTES;
+use spec_site::limits::MAX_CONFIGURATION_BYTES;
 use session_doc::{ConfigurationError, Site};
 use std::alloc::Global;
 

@@ -1,6 +1,6 @@
 //! How a command ended.
 
-use model_site::field::Field;
+use spec_site::field::Field;
 
 /// How a command ended.
 #[derive(Clone, Copy, Debug, PartialEq, Eq, Drop)]

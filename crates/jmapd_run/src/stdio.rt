@@ -9,7 +9,7 @@ use conn_serve::serve::serve_connection;
 use io_edge::clock::Clock;
 use io_edge::sink::Sink;
 use io_edge::source::Source;
-use model_connection::served::ConnEnd;
+use spec_connection::served::ConnEnd;
 use session_doc::Site;
 use std::alloc::Global;
 

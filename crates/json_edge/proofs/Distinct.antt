@@ -1,11 +1,11 @@
 -- The members that were kept so far, and those still to come.
 use Rattle.std.proofs.Common.{◌≡◌, ℕ, zero, suc, List, [], ◌∷◌, ◌++◌, Option, Some, None, option_map, true, false, length, get_or, map, refl, sym, ap, append_assoc, arith}
 use Rattle.std.proofs.lemmas.Bool.{and_from}
-use Rattle.model_json.proofs.KeyOrder.{both}
-use Rattle.model_json.specs.Data.{Data, Pair}
-use Rattle.model_json.specs.ObjectKeys.{is_above, keys_rise}
-use Rattle.model_json.specs.TreeData.{pair_of}
-use Rattle.model_json.specs.declared.tree.Member.{Member}
+use Rattle.spec_json.proofs.KeyOrder.{both}
+use Rattle.spec_json.specs.Data.{Data, Pair}
+use Rattle.spec_json.specs.ObjectKeys.{is_above, keys_rise}
+use Rattle.spec_json.specs.TreeData.{pair_of}
+use Rattle.spec_json.specs.declared.tree.Member.{Member}
 use Rattle.json_edge.specs.FoundMembers.{Found, whole_pairs, first_of_each, is_next, last_key}
 
 pub last_pushed : (ps : List Pair) (p : Pair) → last_key (ps ++ p ∷ []) ≡ Some p.0

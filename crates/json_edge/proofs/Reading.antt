@@ -6,13 +6,13 @@ use Rattle.json.specs.Json.{Parse, parse_map, after_end_array, read_key, items_s
 use Rattle.json.proofs.Grammar.{items_end, items_more, members_end, members_no_key, members_more}
 use Rattle.serde_json.specs.Data as serde
 use Rattle.serde_json.specs.Read.{number_of, of_json, of_items, converted, read}
-use Rattle.model_json.specs.Data.{Data}
-use Rattle.model_json.specs.Json.{whole_number, whole_of, whole_items}
+use Rattle.spec_json.specs.Data.{Data}
+use Rattle.spec_json.specs.Json.{whole_number, whole_of, whole_items}
 use Rattle.json_edge.specs.FoundMembers.{Found}
 use Rattle.json_edge.specs.Readings.{value_read, items_read, members_read, one_item, and_items, list_data}
 use Rattle.std.specs.Str.{IsUtf8, is_utf8}
 use Rattle.std.proofs.lemmas.Str.{IsUtf8-from_is_utf8, is_utf8-from_IsUtf8}
-use Rattle.model_json.specs.Json.{Reading, reading, not_json, reading_of_json, reading_of_whole}
+use Rattle.spec_json.specs.Json.{Reading, reading, not_json, reading_of_json, reading_of_whole}
 
 abbrev pub pick : {A : Type 0} → A → Option A → A
 pick d None = d

@@ -1,7 +1,7 @@
 -- The members of an object, sorted and with the last of each key, are those that `serde_json` keeps.
 use Rattle.std.proofs.Common.{◌≡◌, ℕ, List, [], ◌∷◌, ◌++◌, Option, Some, None, option_map, option_and_then, Bool, true, false, Ordering, Less, Equal, Greater, refl, sym, ap, ◌∙◌, cond, subst, reverse, map}
 use Rattle.std.proofs.lemmas.List.{reverse-append, map-append}
-use Rattle.model_json.proofs.KeyOrder.{less_of}
+use Rattle.spec_json.proofs.KeyOrder.{less_of}
 use Rattle.std.proofs.lemmas.Cmp.{nat_list_cmp_total}
 use Rattle.std.proofs.lemmas.Map.Text.{is_eq-slice_cmp}
 use Rattle.std.proofs.lemmas.Slice.Eq.{bytes_eq-Decides}
@@ -13,10 +13,10 @@ use Rattle.json.specs.Json.{parse_map}
 use Rattle.serde_json.specs.Data as serde
 use Rattle.serde_json.specs.Data.{put}
 use Rattle.serde_json.specs.Read.{of_json, of_members, converted}
-use Rattle.model_json.specs.Data.{Data, Pair, object, members_of}
-use Rattle.model_json.specs.Json.{whole_of, whole_members}
+use Rattle.spec_json.specs.Data.{Data, Pair, object, members_of}
+use Rattle.spec_json.specs.Json.{whole_of, whole_members}
 use Rattle.json_edge.specs.FoundMembers.{Found, put_found, put_each, whole_pairs, object_found, first_of_each, is_next}
-use Rattle.model_json.specs.InOrder.{put_in, in_order}
+use Rattle.spec_json.specs.InOrder.{put_in, in_order}
 use Rattle.json_edge.specs.FoundMembers.{key_below}
 use Rattle.json_edge.specs.Readings.{value_read, members_read}
 use Rattle.json_edge.proofs.Reading.{twice}

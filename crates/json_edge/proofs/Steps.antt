@@ -1,12 +1,12 @@
 -- What bytes that are a text are read as, and what tokens are printed as.
 use Rattle.std.proofs.Common.{◌≡◌, ℕ, List, Some, refl}
-use Rattle.model_json.specs.Data.{Data}
+use Rattle.spec_json.specs.Data.{Data}
 use Rattle.serde_json.specs.Data as json
 use Rattle.json.specs.Print.{print}
 use Rattle.serde_json.proofs.Texts.{print-outline}
-use Rattle.model_json.specs.Json.{json_of, text_of}
+use Rattle.spec_json.specs.Json.{json_of, text_of}
 use Rattle.json_edge.specs.Tokens.{tokens_of}
-use Rattle.model_json.specs.Json.{whole_of, reading, reading_of_whole}
+use Rattle.spec_json.specs.Json.{whole_of, reading, reading_of_whole}
 use Rattle.serde_json.specs.Read.{read}
 use Rattle.std.specs.Str.{IsUtf8}
 use Rattle.std.proofs.lemmas.Str.{is_utf8-from_IsUtf8}

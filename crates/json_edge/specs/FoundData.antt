@@ -2,9 +2,9 @@
 use Rattle.std.specs.Prelude.{List, Option, Some, None, Result, Ok, Err, option_map, map, Vec}
 use Rattle.std.specs.declared.alloc.Global.{Global}
 use Rattle.json.specs.declared.reader.Invalid.{Invalid}
-use Rattle.model_json.specs.Data.{Data}
-use Rattle.model_json.specs.TreeData.{data_of}
-use Rattle.model_json.specs.declared.tree.Tree.{Tree}
+use Rattle.spec_json.specs.Data.{Data}
+use Rattle.spec_json.specs.TreeData.{data_of}
+use Rattle.spec_json.specs.declared.tree.Tree.{Tree}
 use Rattle.json_edge.specs.FoundMembers.{Found}
 use Rattle.json_edge.specs.declared.object.FoundMember.{FoundMember}
 

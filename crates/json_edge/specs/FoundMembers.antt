@@ -2,7 +2,7 @@
 use Rattle.std.specs.Prelude.{ℕ, List, [], ◌∷◌, Bool, true, Option, Some, None, option_map, option_and_then, if◌then◌else◌}
 use Rattle.std.specs.Ordering.{nat_cmp, is_lt, match_ordering}
 use Rattle.std.specs.Cmp.Lexicographic.{slice_cmp}
-use Rattle.model_json.specs.Data.{Data, Pair, object, members_of}
+use Rattle.spec_json.specs.Data.{Data, Pair, object, members_of}
 
 abbrev pub Found : Type 0
 Found = List ℕ × Option Data

@@ -2,8 +2,8 @@
 use Rattle.std.specs.Prelude.{List, [], ◌∷◌, ◌++◌, Option, Some, None, option_map, option_and_then}
 use Rattle.json.specs.Json as json
 use Rattle.serde_json.specs.Read.{of_json}
-use Rattle.model_json.specs.Data.{Data, list, items_of}
-use Rattle.model_json.specs.Json.{whole_of}
+use Rattle.spec_json.specs.Data.{Data, list, items_of}
+use Rattle.spec_json.specs.Json.{whole_of}
 use Rattle.json_edge.specs.FoundMembers.{Found}
 
 -- No value where a number is too large for a float; and else the value, none where a number of it isn't whole.

@@ -1,13 +1,13 @@
 //! Numbers of JSON (RFC 8259 section 6), as `serde_json` reads them.
 ghost use Rattle.std.specs.Prelude.{◌≡◌, ◌<◌, ◌==◌, option_map, true, false, IsTrue, slice_index, length};
-ghost use Rattle.model_json.specs.Json.{whole_number};
+ghost use Rattle.spec_json.specs.Json.{whole_number};
 ghost use Rattle.serde_json.specs.Read.{number_of, number_from, float_of};
 ghost use Rattle.json_edge.specs.FoundData.{read_as};
 
 use fast_float::Numeral;
 use json::Invalid;
-use model_json::num::Num;
-use model_json::tree::Tree;
+use spec_json::num::Num;
+use spec_json::tree::Tree;
 
 /// The number that a token writes, none where it isn't whole: with a fraction or an exponent, `-0`, or outside -2^63 to 2^64 - 1.
 ///

@@ -1,16 +1,16 @@
 //! The members of an object: in byte order of their keys, and of a key that comes twice the last.
 ghost use Rattle.std.specs.Prelude.{◌≡◌, [], IfOk, IfErr, OnOk, IfSome, map, option_map};
-ghost use Rattle.model_json.specs.TreeData.{data_of, pair_of};
-ghost use Rattle.model_json.specs.ObjectKeys.{HasOrderedKeys};
+ghost use Rattle.spec_json.specs.TreeData.{data_of, pair_of};
+ghost use Rattle.spec_json.specs.ObjectKeys.{HasOrderedKeys};
 ghost use Rattle.json_edge.specs.declared.error.ReadError.TheVariants.{NoMemory};
 ghost use Rattle.json_edge.specs.FoundMembers.{object_found, whole_pairs, first_of_each, is_next, last_key};
-ghost use Rattle.model_json.specs.InOrder.{in_order};
+ghost use Rattle.spec_json.specs.InOrder.{in_order};
 ghost use Rattle.json_edge.specs.FoundMembers.{key_below};
 ghost use Rattle.json_edge.specs.FoundData.{found_of};
 
 use crate::error::ReadError;
-use model_json::text::Text;
-use model_json::tree::{Member, Tree, TreeObject};
+use spec_json::text::Text;
+use spec_json::tree::{Member, Tree, TreeObject};
 use std::alloc::{AllocError, Global};
 
 /// A key and its value, none where a number of the value isn't whole.

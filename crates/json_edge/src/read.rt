@@ -2,8 +2,8 @@
 ghost use Rattle.std.specs.Prelude.{◌≡◌, ◌≢◌, ◌<◌, [], length, Some, None, Err, IfOk, IfErr, OnOk, map, option_map};
 ghost use Rattle.json.specs.Json.{value as json_value, items, members};
 ghost use Rattle.serde_json.specs.Read.{converted, read as read_text};
-ghost use Rattle.model_json.specs.Json.{reading, whole_of, not_json, not_whole, value};
-ghost use Rattle.model_json.specs.TreeData.{data_of};
+ghost use Rattle.spec_json.specs.Json.{reading, whole_of, not_json, not_whole, value};
+ghost use Rattle.spec_json.specs.TreeData.{data_of};
 ghost use Rattle.json_edge.specs.declared.error.ReadError.TheVariants.{NotJson, NotWhole, NoMemory};
 ghost use Rattle.json_edge.specs.Readings.{value_read, items_read, members_read, one_item, and_items, list_data};
 ghost use Rattle.json_edge.specs.FoundData.{found_of, all_data};
@@ -12,8 +12,8 @@ pub use crate::error::ReadError;
 use crate::number::number;
 use crate::object::{FoundMember, object};
 use json::{Reader, Scratch, Token};
-use model_json::text::Text;
-use model_json::tree::{Tree, TreeList};
+use spec_json::text::Text;
+use spec_json::tree::{Tree, TreeList};
 use std::alloc::Global;
 
 /// How deep arrays and objects may nest, as in `serde_json`.

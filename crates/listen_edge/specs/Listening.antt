@@ -1,7 +1,7 @@
 -- What contracts see of where connections come from.
 use Rattle.std.specs.Prelude.{◌≡◌, ℕ, ◌<◌, ◌≤◌, List, [], ◌∷◌, ◌++◌, Option, IfSome, length, option_map}
 use Rattle.io_edge.specs.Outside.{SinkShown, SourceShown}
-use Rattle.model_connection.specs.declared.served.Served.{Served}
+use Rattle.spec_connection.specs.declared.served.Served.{Served}
 
 -- a connection as it was when it was handed out
 pub record Connection : Type 0 where

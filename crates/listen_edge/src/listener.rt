@@ -6,7 +6,7 @@ ghost use Rattle.listen_edge.specs.Listening.{HasOneOut, IsBalanced, ListenerSho
 use io_edge::fault::Failed;
 use io_edge::sink::Sink;
 use io_edge::source::Source;
-use model_connection::served::Served;
+use spec_connection::served::Served;
 
 /// Hands out connections, one after the other, and takes them back when they were served.
 pub trait Listener: Drop + 'static {

@@ -9,7 +9,7 @@ use io_edge::failing_calls::FailingCalls;
 use io_edge::fault::Failed;
 use io_edge::memory_sink::MemSink;
 use io_edge::memory_source::MemSource;
-use model_connection::served::Served;
+use spec_connection::served::Served;
 use std::alloc::{AllocError, Global};
 use std::sync::{Arc, Mutex, Wait};
 

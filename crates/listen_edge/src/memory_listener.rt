@@ -9,7 +9,7 @@ use io_edge::memory_sink::MemSink;
 use io_edge::memory_source::MemSource;
 use io_edge::sink::Sink;
 use io_edge::source::Source;
-use model_connection::served::Served;
+use spec_connection::served::Served;
 use std::alloc::{AllocError, Global};
 use std::snapshot::Snapshot;
 

@@ -5,7 +5,7 @@ use crate::listener::{Listener, ThreadListener};
 use io_edge::fault::Failed;
 use io_edge::source::Source;
 use io_edge::streams::{ReaderSource, WriterSink};
-use model_connection::served::Served;
+use spec_connection::served::Served;
 use std::io::{self, Read, Write};
 use std::net::{OpenListener, OpenStream, Shutdown};
 use std::sync::Wait;

@@ -2,7 +2,7 @@
 use io_edge::memory_sink::MemSink;
 use io_edge::memory_source::MemSource;
 use listen_edge::memory_listener::MemConnection;
-use model_json::tree::Tree;
+use spec_json::tree::Tree;
 use row_table::files::bytes_of;
 use std::alloc::{AllocError, Global};
 use std::fmt::Write;

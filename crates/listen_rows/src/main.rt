@@ -6,7 +6,7 @@ mod sites;
 mod workers;
 
 use io_edge::memory_opener::MemOpener;
-use model_json::tree::Tree;
+use spec_json::tree::Tree;
 use row_table::files::{Files, files_in};
 use row_table::line::{tree_in, unrolled};
 use row_table::row::{Row, read_rows};

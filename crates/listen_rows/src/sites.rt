@@ -9,7 +9,7 @@ use jmapd_run::status::Status;
 use listen_edge::in_place::InPlace;
 use listen_edge::memory_host::MemHost;
 use listen_edge::real_threads::RealThreads;
-use model_json::tree::Tree;
+use spec_json::tree::Tree;
 use row_table::line::words_in;
 use std::alloc::{AllocError, Global};
 use std::fmt::Write;

@@ -3,13 +3,13 @@
 use crate::connections::{connections_of, failing, tell_output};
 use account_desk::gate::Gate;
 use account_desk::shared_desk::SharedDesk;
-use conn_worker::worker::worker;
+use listen_workers::worker::worker;
 use io_edge::memory_clock::StillClock;
 use listen_edge::memory_listener::MemListener;
-use model_json::tree::Tree;
+use spec_json::tree::Tree;
 use row_table::files::bytes_of;
 use session_doc::Site;
-use shared_accounts::accounts::{Office, open_office};
+use listen_workers::accounts::{Office, open_office};
 use std::alloc::{AllocError, Global};
 use std::sync::Wait;
 

@@ -1,6 +1,6 @@
 //! What calls of `next_message` give, as a table writes it.
 use http_edge::message::Message;
-use model_json::tree::{Tree, TreeList, TreeObject};
+use spec_json::tree::{Tree, TreeList, TreeObject};
 use std::alloc::{AllocError, Global};
 
 /// What one call of `next_message` gives.

@@ -9,7 +9,7 @@ mod responses;
 use findings::Findings;
 use given::named_in;
 use messages::try_input;
-use model_json::tree::Tree;
+use spec_json::tree::Tree;
 use responses::try_response;
 use row_table::line::tree_in;
 use row_table::row::{Row, read_rows};

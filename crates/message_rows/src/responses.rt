@@ -1,13 +1,13 @@
 //! Rows of responses: what a response says, and its bytes.
 ghost use Rattle.std.specs.Prelude.{IfSome};
-ghost use Rattle.model_http.specs.Responses.{IsStatus};
+ghost use Rattle.spec_http.specs.Responses.{IsStatus};
 
 use crate::findings::Findings;
 use crate::given::{is_true_at, text_at};
 use http_edge::bytes::Bytes;
 use http_edge::response::{Response, response_bytes};
-use model_json::text::Text;
-use model_json::tree::{Tree, TreeObject};
+use spec_json::text::Text;
+use spec_json::tree::{Tree, TreeObject};
 use std::alloc::{AllocError, Global};
 
 /// The statuses of responses.

@@ -2,7 +2,7 @@
 ghost use Rattle.std.specs.Prelude.{IfSome};
 ghost use Rattle.residue_solve.specs.Cong.{IsInRange};
 
-use model_json::tree::Tree;
+use spec_json::tree::Tree;
 use residue_solve::{Cong, least};
 use std::alloc::{AllocError, Global};
 

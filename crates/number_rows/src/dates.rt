@@ -1,6 +1,6 @@
 //! Rows of dates.
 use civil_days::{civil, day_of, weekday};
-use model_json::tree::Tree;
+use spec_json::tree::Tree;
 use std::alloc::{AllocError, Global};
 
 /// The end of the sizes of days that have a date here.

@@ -6,7 +6,7 @@ mod dates;
 
 use congruences::least_text;
 use dates::{date_text, day_text};
-use model_json::tree::Tree;
+use spec_json::tree::Tree;
 use row_table::line::tree_in;
 use row_table::row::Row;
 use row_table::trial::{Trial, try_rows, unless_answered};

@@ -6,15 +6,15 @@ use Rattle.cal_model.specs.Fits.{IsObjectFit}
 use Rattle.cal_model.specs.Operations.{Ground, after_tests, bad_of_calendar, exceeds_resources, has_other_zone, put, stored_calendar_outcome, within_quota, zone_given}
 use Rattle.cal_model.specs.declared.outcome.Outcome.TheVariants.{Refused}
 use Rattle.cal_model.specs.declared.set_error.SetError.TheVariants.{InvalidProperties}
-use Rattle.model_history.specs.History.{live_object}
-use Rattle.model_history.specs.declared.entry.Change.{Change}
-use Rattle.model_history.specs.declared.entry.Kind.TheVariants.{Calendar}
-use Rattle.model_json.specs.Data.{Data}
-use Rattle.model_json.specs.SameData.{same_data}
-use Rattle.model_json.specs.declared.tree.Tree.{Tree}
-use Rattle.model_json.specs.declared.tree.Tree.TheVariants.{Object}
-use Rattle.model_resource.specs.Resources.{is_resource, zone_of_resource}
-use Rattle.model_site.specs.TimeZones.{ZoneText}
+use Rattle.spec_history.specs.History.{live_object}
+use Rattle.spec_history.specs.declared.entry.Change.{Change}
+use Rattle.spec_history.specs.declared.entry.Kind.TheVariants.{Calendar}
+use Rattle.spec_json.specs.Data.{Data}
+use Rattle.spec_json.specs.SameData.{same_data}
+use Rattle.spec_json.specs.declared.tree.Tree.{Tree}
+use Rattle.spec_json.specs.declared.tree.Tree.TheVariants.{Object}
+use Rattle.spec_bookings.specs.Resources.{is_resource, zone_of_resource}
+use Rattle.spec_site.specs.TimeZones.{ZoneText}
 use Rattle.object_outcomes.specs.Judging.{IsBefore}
 use Rattle.object_outcomes.proofs.NameLemmas.{refused_names}
 

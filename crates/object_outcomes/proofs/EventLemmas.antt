@@ -5,15 +5,15 @@ use Rattle.cal_model.specs.Fits.{IsObjectFit}
 use Rattle.cal_model.specs.Operations.{Ground, after_tests, bad_of_booking, bad_of_event, is_in_use, put, stored_event_outcome, within_quota}
 use Rattle.cal_model.specs.declared.outcome.Outcome.TheVariants.{Refused}
 use Rattle.cal_model.specs.declared.set_error.SetError.TheVariants.{InvalidProperties}
-use Rattle.model_history.specs.declared.entry.Change.{Change}
-use Rattle.model_history.specs.declared.entry.Kind.{Kind}
-use Rattle.model_history.specs.declared.entry.Kind.TheVariants.{Calendar, Event}
-use Rattle.model_json.specs.Data.{Data, Pair, members_of, object}
-use Rattle.model_json.specs.declared.tree.Tree.{Tree}
-use Rattle.model_recurrence.specs.Recurrence.{bad_properties_of_event}
-use Rattle.model_resource.specs.BookingRules.{has_long_override, is_long_booking}
-use Rattle.model_resource.specs.Bookings.{clash_of_event, has_full_resource}
-use Rattle.model_site.specs.TimeZones.{ZoneText}
+use Rattle.spec_history.specs.declared.entry.Change.{Change}
+use Rattle.spec_history.specs.declared.entry.Kind.{Kind}
+use Rattle.spec_history.specs.declared.entry.Kind.TheVariants.{Calendar, Event}
+use Rattle.spec_json.specs.Data.{Data, Pair, members_of, object}
+use Rattle.spec_json.specs.declared.tree.Tree.{Tree}
+use Rattle.spec_recurrence.specs.Recurrence.{bad_properties_of_event}
+use Rattle.spec_bookings.specs.BookingRules.{has_long_override, is_long_booking}
+use Rattle.spec_bookings.specs.BookedResources.{clash_of_event, has_full_resource}
+use Rattle.spec_site.specs.TimeZones.{ZoneText}
 use Rattle.object_outcomes.proofs.NameLemmas.{none_named, refused_names}
 
 -- what an event without bad properties is

@@ -1,8 +1,8 @@
 -- The members of an object that aren't null.
 use Rattle.std.proofs.Common.{◌≡◌, ℕ, List, true, Option, Some, None, not, if◌then◌else◌, refl, ◌∙◌}
-use Rattle.model_json.specs.Data.{Data, Pair, lookup}
-use Rattle.model_json.specs.Parts.{is_null}
-use Rattle.model_json.specs.ObjectKeys.{keys_rise}
+use Rattle.spec_json.specs.Data.{Data, Pair, lookup}
+use Rattle.spec_json.specs.Parts.{is_null}
+use Rattle.spec_json.specs.ObjectKeys.{keys_rise}
 use Rattle.property_table.specs.Table.{given}
 use Rattle.property_table.proofs.TableLemmas.{lookup_filter, value_kept}
 

@@ -4,3 +4,4 @@ pub mod GivenLemmas
 pub mod MemberLemmas
 pub mod NameLemmas
 pub mod ResolvedLemmas
+mod BookingLemmas

@@ -1,11 +1,11 @@
 -- The members of an object.
 use Rattle.std.proofs.Common.{◌≡◌, ◌∷◌, ◌++◌, ℕ, List, [], map, refl, ap, ◌∙◌}
 use Rattle.std.proofs.lemmas.List.{map-append}
-use Rattle.model_json.specs.Data.{Data, Pair, field, list, lookup, null, object, text, truth, whole}
-use Rattle.model_json.specs.Edit.{put_all, with_pair}
-use Rattle.model_json.specs.Parts.{members_in}
-use Rattle.model_json.specs.TreeData.{data_of, pair_of}
-use Rattle.model_json.specs.declared.tree.Member.{Member}
+use Rattle.spec_json.specs.Data.{Data, Pair, field, list, lookup, null, object, text, truth, whole}
+use Rattle.spec_json.specs.Edit.{put_all, with_pair}
+use Rattle.spec_json.specs.Parts.{members_in}
+use Rattle.spec_json.specs.TreeData.{data_of, pair_of}
+use Rattle.spec_json.specs.declared.tree.Member.{Member}
 
 pub field_is : (k : List ℕ) (d : Data) → field k d ≡ lookup k (members_in d)
 field_is k null = refl

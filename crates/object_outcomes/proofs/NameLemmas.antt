@@ -7,8 +7,8 @@ use Rattle.std.specs.Str.{bytes_eq}
 use Rattle.cal_model.specs.Operations.{after_tests, with_name_if}
 use Rattle.cal_model.specs.declared.outcome.Outcome.TheVariants.{Refused}
 use Rattle.cal_model.specs.declared.set_error.SetError.TheVariants.{InvalidProperties}
-use Rattle.model_history.specs.declared.entry.Change.{Change}
-use Rattle.model_room.specs.declared.clash.Clash.{Clash}
+use Rattle.spec_history.specs.declared.entry.Change.{Change}
+use Rattle.spec_bookings.specs.declared.clash.Clash.{Clash}
 use Rattle.property_table.specs.Names.{put_name}
 
 put_some : (n m : List ℕ) (ms : List (List ℕ)) (below same : Bool) → (if below then m ∷ put_name n ms else if same then m ∷ ms else n ∷ m ∷ ms) ≡ [] → ⊥

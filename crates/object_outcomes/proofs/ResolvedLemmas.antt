@@ -6,7 +6,7 @@ use Rattle.std.proofs.lemmas.Slice.Eq.{bytes_eq-Decides}
 use Rattle.std.specs.Str.{bytes_eq}
 use Rattle.std.specs.Str.Pattern.{FindsTextPrefix, StripsPrefix}
 use Rattle.cal_model.specs.CreatedIds.{below_calendar_ids}
-use Rattle.model_json.specs.Parts.{behind_hash}
+use Rattle.spec_json.specs.Parts.{behind_hash}
 
 no_hash : (s : List ℕ) → ((rest : List ℕ) → s ≢ 35 ∷ rest) → None ≡ behind_hash s
 no_hash [] h = refl

@@ -6,13 +6,13 @@ use Rattle.cal_model.specs.Fits.{IsFit}
 use Rattle.cal_model.specs.Quota.{size_of_object}
 use Rattle.cal_model.specs.declared.outcome.Outcome.{Outcome}
 use Rattle.cal_model.specs.declared.outcome.Outcome.TheVariants.{Accepted, Refused}
-use Rattle.model_history.specs.History.{live_object, next_number}
-use Rattle.model_history.specs.declared.entry.Change.{Change}
-use Rattle.model_history.specs.declared.entry.Kind.{Kind}
-use Rattle.model_json.specs.Parts.{members_in}
-use Rattle.model_json.specs.TreeData.{data_of}
-use Rattle.model_json.specs.declared.tree.Tree.{Tree}
-use Rattle.model_site.specs.TimeZones.{ZoneText}
+use Rattle.spec_history.specs.History.{live_object, next_number}
+use Rattle.spec_history.specs.declared.entry.Change.{Change}
+use Rattle.spec_history.specs.declared.entry.Kind.{Kind}
+use Rattle.spec_json.specs.Parts.{members_in}
+use Rattle.spec_json.specs.TreeData.{data_of}
+use Rattle.spec_json.specs.declared.tree.Tree.{Tree}
+use Rattle.spec_site.specs.TimeZones.{ZoneText}
 use Rattle.object_outcomes.specs.declared.operation.Operation.{Operation}
 use Rattle.object_outcomes.specs.declared.operation.Operation.TheVariants.{Update, Destroy}
 use Rattle.object_outcomes.specs.declared.setting.Judged.{Judged}

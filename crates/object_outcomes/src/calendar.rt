@@ -2,25 +2,25 @@
 ghost use Rattle.std.specs.Prelude.{◌≡◌, ◌++◌, ◌==◌, None, IfOk, codes, false, filter, length, not, option_map};
 ghost use Rattle.cal_model.specs.Calendar.{calendar_in, stored, text_or_null};
 ghost use Rattle.cal_model.specs.Operations.{calendar_outcome, exceeds_resources, has_other_zone, put, stored_calendar_outcome, with_name_if, within_quota};
-ghost use Rattle.model_history.specs.declared.entry.Kind.TheVariants.{Calendar as calendar_kind};
-ghost use Rattle.model_json.specs.SameData.{same_data};
-ghost use Rattle.model_json.specs.TreeData.{data_of};
+ghost use Rattle.spec_history.specs.declared.entry.Kind.TheVariants.{Calendar as calendar_kind};
+ghost use Rattle.spec_json.specs.SameData.{same_data};
+ghost use Rattle.spec_json.specs.TreeData.{data_of};
 ghost use Rattle.object_outcomes.specs.Judging.{IsAllowed, IsBefore, ground_in};
 
 use crate::given::{note_if, refused_for, with_own_id};
 use crate::quota::within_quota;
 use crate::setting::{Judged, Setting};
 use crate::texts::copies;
-use booking_rules::against::Against;
+use crate::against::Against;
 use cal_model::set_error::SetError;
 use cal_model::view::AccountView;
 use calendar_model::calendar::Calendar;
 use calendar_model::read::{CalendarError, read_calendar};
-use model_history::entry::{Change, Kind};
-use model_json::lists::Texts;
-use model_json::text::Text;
-use model_json::tree::{Tree, TreeObject};
-use model_resource::limits::MAX_RESOURCES;
+use spec_history::entry::{Change, Kind};
+use spec_json::lists::Texts;
+use spec_json::text::Text;
+use spec_json::tree::{Tree, TreeObject};
+use spec_bookings::limits::MAX_RESOURCES;
 use std::alloc::{AllocError, Global};
 
 /// What comes of storing a calendar of this number in place of what it was before. `names_id` says whether the client gives an id that

@@ -3,9 +3,9 @@ ghost use Rattle.std.specs.Prelude.{◌≡◌, ◌++◌, ◌∷◌, [], IfOk, Li
 ghost use Rattle.std.specs.BTreeMap.{get_by_text};
 ghost use Rattle.std.specs.Str.{bytes_eq};
 ghost use Rattle.cal_model.specs.CreatedIds.{created_id_at, resolved_id};
-ghost use Rattle.model_json.specs.Parts.{behind_hash};
+ghost use Rattle.spec_json.specs.Parts.{behind_hash};
 
-use model_json::text::Text;
+use spec_json::text::Text;
 use std::alloc::{AllocError, Global};
 use std::collections::BTreeMap;
 use std::marker::Model;

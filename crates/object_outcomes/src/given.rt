@@ -3,17 +3,17 @@ ghost use Rattle.std.specs.Prelude.{◌≡◌, [], IfOk, OnOk, false, option_map
 ghost use Rattle.cal_model.specs.Operations.{has_other_id, is_this_text, with_name_if, with_own_id};
 ghost use Rattle.cal_model.specs.declared.outcome.Outcome.TheVariants.{Refused};
 ghost use Rattle.cal_model.specs.declared.set_error.SetError.TheVariants.{InvalidProperties};
-ghost use Rattle.model_json.specs.Data.{lookup};
-ghost use Rattle.model_json.specs.Parts.{members_in};
-ghost use Rattle.model_json.specs.TreeData.{data_of};
+ghost use Rattle.spec_json.specs.Data.{lookup};
+ghost use Rattle.spec_json.specs.Parts.{members_in};
+ghost use Rattle.spec_json.specs.TreeData.{data_of};
 ghost use Rattle.property_table.specs.Table.{given};
 
 use crate::setting::Judged;
 use cal_model::set_error::SetError;
-use model_history::entry::Kind;
-use model_json::lists::Texts;
-use model_json::text::Text;
-use model_json::tree::{Tree, TreeObject};
+use spec_history::entry::Kind;
+use spec_json::lists::Texts;
+use spec_json::text::Text;
+use spec_json::tree::{Tree, TreeObject};
 use property_table::names::put_name;
 use std::alloc::{AllocError, Global};
 use time_text::object_id_text;

@@ -1,9 +1,9 @@
 //! Objects of members.
 ghost use Rattle.std.specs.Prelude.{◌≡◌, [], IfOk, map};
-ghost use Rattle.model_json.specs.Edit.{put_all};
-ghost use Rattle.model_json.specs.TreeData.{pair_of};
+ghost use Rattle.spec_json.specs.Edit.{put_all};
+ghost use Rattle.spec_json.specs.TreeData.{pair_of};
 
-use model_json::tree::{Member, TreeObject};
+use spec_json::tree::{Member, TreeObject};
 use std::alloc::{AllocError, Global};
 
 /// An object of these members, which may stand in any order. Of two with one key the later counts.

@@ -1,15 +1,15 @@
 //! Occurrences of events, which clients name by synthetic ids.
 ghost use Rattle.std.specs.Prelude.{◌≡◌, ◌++◌, IfOk, is_some, true};
 ghost use Rattle.cal_model.specs.Occurrences.{occurrence_numbered, occurrence_named};
-ghost use Rattle.model_history.specs.declared.entry.Kind.TheVariants.{Event as event_kind};
-ghost use Rattle.model_time.specs.Walls.{is_in_years};
+ghost use Rattle.spec_history.specs.declared.entry.Kind.TheVariants.{Event as event_kind};
+ghost use Rattle.spec_time.specs.Walls.{is_in_years};
 
 use cal_model::view::AccountView;
 use event_model::ids::read_occurrence_id;
 use event_model::occurrence::occurrence;
-use model_history::entry::Kind;
-use model_json::text::Text;
-use model_time::wall::Wall;
+use spec_history::entry::Kind;
+use spec_json::text::Text;
+use spec_time::wall::Wall;
 use std::alloc::{AllocError, Global};
 
 /// Whether an id names an occurrence of a live event. Takes memory for the occurrence.

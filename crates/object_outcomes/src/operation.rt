@@ -1,7 +1,7 @@
 //! Operations of a set.
 
-use model_json::text::Text;
-use model_json::tree::Tree;
+use spec_json::text::Text;
+use spec_json::tree::Tree;
 
 /// One object that a set changes (RFC 8620 section 5.3). Its id is the one that the text of the call stands for.
 #[derive(Clone, Copy, Drop)]

@@ -6,13 +6,13 @@ ghost use Rattle.cal_model.specs.Quota.{exceeds_quota, size_of_object};
 ghost use Rattle.object_outcomes.specs.Judging.{HasNumber, IsAllowed};
 
 use crate::setting::Judged;
-use booking_rules::against::Against;
+use crate::against::Against;
 use cal_model::limits::{MAX_ENTRIES, MAX_OBJECT_BYTES};
 use cal_model::outcome::Outcome;
 use cal_model::set_error::SetError;
 use cal_model::view::AccountView;
 use json_edge::write::tree_text;
-use model_history::entry::Change;
+use spec_history::entry::Change;
 use std::alloc::{AllocError, Global};
 
 /// What comes of a change: it is refused where the account has no room for it or a resource is full, and then where it clashes.

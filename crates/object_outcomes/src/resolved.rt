@@ -1,15 +1,15 @@
 //! What a client gives of an event, with created ids in place of `#key` (RFC 8620 section 5.3).
 ghost use Rattle.std.specs.Prelude.{◌≡◌, ◌++◌, IfOk, map, option_map};
 ghost use Rattle.cal_model.specs.CreatedIds.{below_calendar_ids, resolved_calendar_ids, resolved_id, resolved_member_value, resolved_object, resolved_patch, resolved_pointer, resolved_value};
-ghost use Rattle.model_json.specs.Parts.{members_in};
-ghost use Rattle.model_json.specs.TreeData.{data_of, pair_of};
+ghost use Rattle.spec_json.specs.Parts.{members_in};
+ghost use Rattle.spec_json.specs.TreeData.{data_of, pair_of};
 
 use crate::created_ids::CreatedIds;
 use crate::given::copy_of_object;
 use crate::objects::object_of;
-use model_history::entry::Kind;
-use model_json::text::Text;
-use model_json::tree::{Member, Tree, TreeObject};
+use spec_history::entry::Kind;
+use spec_json::text::Text;
+use spec_json::tree::{Member, Tree, TreeObject};
 use std::alloc::{AllocError, Global};
 
 /// A copy of an object, in which `calendarIds` of an event has created ids in place of `#key`.
@@ -89,7 +89,7 @@ fn member_value(alloc: Global, created: &CreatedIds, member: &Member) -> Result<
 }
 
 // A copy of a value of `calendarIds`.
-#[tactic(auto, using(model_json::specs::Data::pairs_back))]
+#[tactic(auto, using(spec_json::specs::Data::pairs_back))]
 fn calendar_ids(alloc: Global, created: &CreatedIds, value: &Tree) -> Result<Tree, AllocError>
     ensures { IfOk result (λ t. data_of t ≡ resolved_value created.now (data_of value.now)) }
 {

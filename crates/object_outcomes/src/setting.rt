@@ -4,9 +4,9 @@ ghost use Rattle.cal_model.specs.declared.outcome.Outcome.TheVariants.{Refused};
 
 use cal_model::outcome::Outcome;
 use cal_model::set_error::SetError;
-use model_history::entry::Kind;
-use model_json::text::Text;
-use model_time::moment::Moment;
+use spec_history::entry::Kind;
+use spec_json::text::Text;
+use spec_time::moment::Moment;
 use zone_table::Zones;
 
 /// What the operations of a set are judged against, beside the changes before them.

@@ -1,10 +1,10 @@
 //! Lists of texts.
 ghost use Rattle.std.specs.Prelude.{◌≡◌, IfOk, map};
-ghost use Rattle.model_json.specs.Data.{items_of, list, text};
-ghost use Rattle.model_json.specs.TreeData.{data_of};
+ghost use Rattle.spec_json.specs.Data.{items_of, list, text};
+ghost use Rattle.spec_json.specs.TreeData.{data_of};
 
-use model_json::text::Text;
-use model_json::tree::{Tree, TreeList};
+use spec_json::text::Text;
+use spec_json::tree::{Tree, TreeList};
 use std::alloc::{AllocError, Global};
 
 /// A list of these texts. Takes memory for the list, and copies no text.

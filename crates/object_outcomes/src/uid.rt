@@ -2,8 +2,8 @@
 ghost use Rattle.std.specs.Prelude.{◌≡◌, IfOk};
 ghost use Rattle.cal_model.specs.EventObject.{named_uuid, supplied_uid};
 
-use model_history::entry::Kind;
-use model_json::text::Text;
+use spec_history::entry::Kind;
+use spec_json::text::Text;
 use std::alloc::{AllocError, Global};
 use time_text::object_id_text;
 use uuid::Uuid;

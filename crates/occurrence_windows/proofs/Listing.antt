@@ -3,7 +3,7 @@ use Rattle.std.proofs.Common.{◌≡◌, ℕ, zero, suc, ◌⊎◌, inl, inr, Bo
 use Rattle.std.proofs.lemmas.Int.{by_lt_z}
 use Rattle.std.proofs.lemmas.Option.{slice_get_within}
 use Rattle.jiff_core.proofs.SignedLemmas.{signed_arith}
-use Rattle.model_series.specs.declared.occurrence.Occurrence.{Occurrence}
+use Rattle.spec_series.specs.declared.occurrence.Occurrence.{Occurrence}
 use Rattle.occurrence_windows.specs.Listing.{IsAfter, IsListOf}
 use Rattle.occurrence_windows.proofs.Walking.{after_trans, after_by, after_cases, after_self, sooner_by}
 use Rattle.occurrence_windows.proofs.Meeting.{AreSingle}

@@ -5,14 +5,14 @@ use Rattle.std.specs.Option.{option_map_or}
 use Rattle.std.proofs.lemmas.Int.{by_lt_z}
 use Rattle.jiff_core.proofs.SignedLemmas.{signed_arith}
 use Rattle.jiff_core.specs.Calendar.{IsWithin}
-use Rattle.model_event.specs.declared.limits.TheConstants.{FIRST_START, LAST_START}
-use Rattle.model_series.specs.declared.occurrence.Occurrence.{Occurrence}
-use Rattle.model_series.specs.declared.series.Series.{Series}
-use Rattle.model_series.specs.Occurrences.{IsOccurrence}
-use Rattle.model_series.specs.SeriesLimits.{wall_seconds}
-use Rattle.model_window.specs.declared.period.Period.{Period}
-use Rattle.model_window.specs.declared.window.Window.{Window}
-use Rattle.model_window.specs.Windows.{IsMeeting, period_of, span_at, keeps_limits, meets_window}
+use Rattle.spec_events.specs.declared.limits.TheConstants.{FIRST_START, LAST_START}
+use Rattle.spec_series.specs.declared.occurrence.Occurrence.{Occurrence}
+use Rattle.spec_series.specs.declared.series.Series.{Series}
+use Rattle.spec_series.specs.Occurrences.{IsOccurrence}
+use Rattle.spec_series.specs.SeriesLimits.{wall_seconds}
+use Rattle.spec_windows.specs.declared.period.Period.{Period}
+use Rattle.spec_windows.specs.declared.window.Window.{Window}
+use Rattle.spec_windows.specs.Windows.{IsMeeting, period_of, span_at, keeps_limits, meets_window}
 use Rattle.occurrence_windows.specs.Bounds.{first_wall, last_wall}
 use Rattle.occurrence_windows.specs.Listing.{IsAfter}
 use Rattle.occurrence_windows.proofs.Walking.{after_trans, beyond, after_by, after_cases, sooner_after}

@@ -7,18 +7,18 @@ use Rattle.std.proofs.lemmas.Int.{by_lt_z}
 use Rattle.jiff_core.proofs.SignedLemmas.{signed_arith}
 use Rattle.jiff_core.specs.Calendar.{IsWithin}
 use Rattle.jiff_tz.specs.PosixText.{TzText}
-use Rattle.model_event.specs.Values.{is_showing}
-use Rattle.model_series.specs.declared.exception.Exception.{Exception}
-use Rattle.model_series.specs.declared.exception.Span.{Span}
-use Rattle.model_series.specs.declared.occurrence.Occurrence.{Occurrence}
-use Rattle.model_series.specs.declared.series.Series.{Series}
-use Rattle.model_series.specs.Occurrences.{IsOccurrence, is_rid}
-use Rattle.model_series.specs.SeriesLimits.{are_distinct, is_named}
-use Rattle.model_series.specs.Shared.{first_from, first_second}
-use Rattle.model_window.specs.Clocks.{instant_in}
-use Rattle.model_window.specs.Meetings.{exception_with, has_meeting, has_passing, occurrence_with, passes_with, regular, replacement}
-use Rattle.model_window.specs.Windows.{HasMeeting, meets_window}
-use Rattle.model_window.specs.declared.window.Window.{Window}
+use Rattle.spec_events.specs.Values.{is_showing}
+use Rattle.spec_series.specs.declared.exception.Exception.{Exception}
+use Rattle.spec_series.specs.declared.exception.Span.{Span}
+use Rattle.spec_series.specs.declared.occurrence.Occurrence.{Occurrence}
+use Rattle.spec_series.specs.declared.series.Series.{Series}
+use Rattle.spec_series.specs.Occurrences.{IsOccurrence, is_rid}
+use Rattle.spec_series.specs.SeriesLimits.{are_distinct, is_named}
+use Rattle.spec_series.specs.Shared.{first_from, first_second}
+use Rattle.spec_windows.specs.Clocks.{instant_in}
+use Rattle.spec_windows.specs.Meetings.{exception_with, has_meeting, has_passing, occurrence_with, passes_with, regular, replacement}
+use Rattle.spec_windows.specs.Windows.{HasMeeting, meets_window}
+use Rattle.spec_windows.specs.declared.window.Window.{Window}
 use Rattle.occurrence_windows.proofs.Meeting.{IsShowing, has_met, showing_near, some_holds}
 use Rattle.occurrence_windows.proofs.Series.{distinct_parts, names, replaced_of, rid_of, rids_near, showing_is, some_same}
 use Rattle.rule_expand.proofs.Sets.{same_truth}

@@ -7,15 +7,15 @@ use Rattle.jiff_core.proofs.SignedLemmas.{signed_arith}
 use Rattle.jiff_core.specs.Calendar.{IsWithin}
 use Rattle.jiff_tz.specs.declared.posix.TimeZone.{TimeZone}
 use Rattle.jiff_tz.specs.PosixText.{tz_view}
-use Rattle.model_event.specs.Values.{is_showing}
-use Rattle.model_series.specs.declared.exception.Exception.{Exception}
-use Rattle.model_series.specs.declared.exception.Span.{Span}
-use Rattle.model_series.specs.declared.occurrence.Occurrence.{Occurrence}
-use Rattle.model_series.specs.declared.series.Series.{Series}
-use Rattle.model_series.specs.Occurrences.{IsOccurrence, IsReplacement}
-use Rattle.model_series.specs.SeriesLimits.{are_distinct, are_short, is_named, is_span_short, wall_seconds}
-use Rattle.model_time.specs.declared.length.Length.{Length}
-use Rattle.model_window.specs.Clocks.{instant_in}
+use Rattle.spec_events.specs.Values.{is_showing}
+use Rattle.spec_series.specs.declared.exception.Exception.{Exception}
+use Rattle.spec_series.specs.declared.exception.Span.{Span}
+use Rattle.spec_series.specs.declared.occurrence.Occurrence.{Occurrence}
+use Rattle.spec_series.specs.declared.series.Series.{Series}
+use Rattle.spec_series.specs.Occurrences.{IsOccurrence, IsReplacement}
+use Rattle.spec_series.specs.SeriesLimits.{are_distinct, are_short, is_named, is_span_short, wall_seconds}
+use Rattle.spec_time.specs.declared.length.Length.{Length}
+use Rattle.spec_windows.specs.Clocks.{instant_in}
 use Rattle.occurrence_windows.specs.Bounds.{lasts_up_to}
 use Rattle.occurrence_windows.proofs.Meeting.{AreInstants, AreSingle, IsShowing}
 use Rattle.rule_expand.proofs.Least.{by_lt}

@@ -1,10 +1,10 @@
 -- Between which wall seconds occurrences start that meet a window.
 use Rattle.std.specs.Prelude.{ℕ, ℤ, pos, ◌+ℤ◌, ◌-ℤ◌, Bool, true, nat_le, Option, Some, None, IfSome}
 use Rattle.jiff_core.specs.Calendar.{IsWithin}
-use Rattle.model_event.specs.declared.limits.TheConstants.{FIRST_START, LAST_START}
-use Rattle.model_series.specs.declared.exception.Span.{Span}
-use Rattle.model_series.specs.SeriesLimits.{wall_seconds}
-use Rattle.model_window.specs.declared.window.Window.{Window}
+use Rattle.spec_events.specs.declared.limits.TheConstants.{FIRST_START, LAST_START}
+use Rattle.spec_series.specs.declared.exception.Span.{Span}
+use Rattle.spec_series.specs.SeriesLimits.{wall_seconds}
+use Rattle.spec_windows.specs.declared.window.Window.{Window}
 use Rattle.occurrence_windows.specs.declared.walk.TheConstants.{FARTHEST}
 
 -- the limits that are there lie less than 9,500 years from 1970

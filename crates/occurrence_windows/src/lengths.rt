@@ -1,14 +1,14 @@
 //! How long occurrences of a series last.
 ghost use Rattle.std.specs.Prelude.{◌≡◌, ◌≤◌, ◌<◌, ℕ, true, Some, slice_get};
-ghost use Rattle.model_series.specs.Occurrences.{IsOccurrence};
-ghost use Rattle.model_series.specs.SeriesLimits.{are_short, is_span_short, wall_seconds};
-ghost use Rattle.model_series.specs.declared.exception.Exception.{Exception};
-ghost use Rattle.model_series.specs.declared.occurrence.Occurrence.{Occurrence};
+ghost use Rattle.spec_series.specs.Occurrences.{IsOccurrence};
+ghost use Rattle.spec_series.specs.SeriesLimits.{are_short, is_span_short, wall_seconds};
+ghost use Rattle.spec_series.specs.declared.exception.Exception.{Exception};
+ghost use Rattle.spec_series.specs.declared.occurrence.Occurrence.{Occurrence};
 ghost use Rattle.occurrence_windows.specs.Bounds.{lasts_up_to};
 
-use model_series::exception::{Exception, Span};
-use model_series::series::Series;
-use model_time::length::Length;
+use spec_series::exception::{Exception, Span};
+use spec_series::series::Series;
+use spec_time::length::Length;
 
 // All of a length in wall seconds.
 fn wall_seconds(length: Length) -> u64

@@ -2,14 +2,14 @@
 ghost use Rattle.std.specs.Prelude.{◌≡◌, ◌≤◌, ◌*◌, pos, ◌+ℤ◌};
 ghost use Rattle.jiff_core.specs.Calendar.{IsWithin};
 ghost use Rattle.jiff_tz.specs.PosixText.{tz_view};
-ghost use Rattle.model_series.specs.SeriesLimits.{wall_seconds};
-ghost use Rattle.model_window.specs.Clocks.{instant_in};
-ghost use Rattle.model_window.specs.Windows.{span_at};
+ghost use Rattle.spec_series.specs.SeriesLimits.{wall_seconds};
+ghost use Rattle.spec_windows.specs.Clocks.{instant_in};
+ghost use Rattle.spec_windows.specs.Windows.{span_at};
 
 use jiff_tz::posix::TimeZone;
-use model_series::occurrence::Occurrence;
-use model_time::wall::Wall;
-use model_window::period::Period;
+use spec_series::occurrence::Occurrence;
+use spec_time::wall::Wall;
+use spec_windows::period::Period;
 use zone_instants::instant;
 
 // The wall second so many days later.
@@ -32,7 +32,7 @@ fn seconds_later(instant: i64, seconds: u64) -> i64
 
 /// The instants from the start of an occurrence up to its end, or `None` where one of the two wall seconds has no instant. Takes no
 /// memory.
-#[tactic(auto, unfolding(model_window::specs::Windows::span_at))]
+#[tactic(auto, unfolding(spec_windows::specs::Windows::span_at))]
 pub fn span_of(rule: &TimeZone, o: &Occurrence) -> Option<Period>
     requires start { IsWithin 400000000000 o.now.start }
     requires length { wall_seconds o.now.length ≤ 31622400 }

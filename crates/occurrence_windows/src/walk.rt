@@ -2,10 +2,10 @@
 ghost use Rattle.std.specs.Prelude.{◌≡◌, ◌↔◌, ◌≤◌, int_lt, IfSome, IfOk, IsTrue};
 ghost use Rattle.jiff_core.specs.Calendar.{IsWithin};
 ghost use Rattle.jiff_tz.specs.PosixText.{tz_view};
-ghost use Rattle.model_series.specs.SeriesLimits.{wall_seconds};
-ghost use Rattle.model_window.specs.Clocks.{instant_in};
-ghost use Rattle.model_window.specs.Meetings.{has_meeting};
-ghost use Rattle.model_window.specs.Windows.{HasMeeting, IsMeeting, meets_window};
+ghost use Rattle.spec_series.specs.SeriesLimits.{wall_seconds};
+ghost use Rattle.spec_windows.specs.Clocks.{instant_in};
+ghost use Rattle.spec_windows.specs.Meetings.{has_meeting};
+ghost use Rattle.spec_windows.specs.Windows.{HasMeeting, IsMeeting, meets_window};
 ghost use Rattle.occurrence_windows.specs.Bounds.{first_wall, last_wall, AreNear};
 ghost use Rattle.occurrence_windows.specs.Listing.{IsAfter, IsListOf};
 ghost use Rattle.rule_expand.specs.Later.{IsFirstOf};
@@ -13,11 +13,11 @@ ghost use Rattle.rule_expand.specs.Later.{IsFirstOf};
 use crate::lengths::longest;
 use crate::span::span_of;
 use jiff_tz::posix::TimeZone;
-use model_event::limits::{FIRST_START, LAST_START};
-use model_series::occurrence::Occurrence;
-use model_series::series::Series;
-use model_time::wall::Wall;
-use model_window::window::Window;
+use spec_events::limits::{FIRST_START, LAST_START};
+use spec_series::occurrence::Occurrence;
+use spec_series::series::Series;
+use spec_time::wall::Wall;
+use spec_windows::window::Window;
 use rule_expand::next_from;
 use std::alloc::{AllocError, Global};
 
@@ -25,7 +25,7 @@ use std::alloc::{AllocError, Global};
 pub const FARTHEST: i64 = 93_599;
 
 // Whether an occurrence meets the window.
-#[tactic(auto, unfolding(model_window::specs::Windows::meets_window))]
+#[tactic(auto, unfolding(spec_windows::specs::Windows::meets_window))]
 fn meets_window(rule: &TimeZone, o: &Occurrence, window: Window) -> bool
     requires start { IsWithin 400000000000 o.now.start }
     requires length { wall_seconds o.now.length ≤ 31622400 }

@@ -1,10 +1,10 @@
 //! Made-up events, before and after some of them were touched.
 ghost use Rattle.std.specs.Prelude.{◌≡◌, [], ◌∷◌, IfOk, true, false};
-ghost use Rattle.model_query.specs.declared.comparator.Property.TheVariants.{Start, Title};
+ghost use Rattle.spec_queries.specs.declared.comparator.Property.TheVariants.{Start, Title};
 
-use model_json::text::Text;
-use model_query::comparator::{Comparator, Property};
-use model_query::item::Item;
+use spec_json::text::Text;
+use spec_queries::comparator::{Comparator, Property};
+use spec_queries::item::Item;
 use query_order::order::Order;
 use std::alloc::{AllocError, Global};
 

@@ -1,7 +1,7 @@
 //! How often each part of the work is done.
 use crate::events::Events;
-use model_history::ids::Ids;
-use model_query::delta::Delta;
+use spec_history::ids::Ids;
+use spec_queries::delta::Delta;
 use query_order::change::{changes_of, splice};
 use query_order::result::result;
 use std::alloc::{AllocError, Global};

@@ -2,9 +2,9 @@
 use crate::items::{ids_at, items_at};
 use crate::numbers::{list_of, number_in, numbers_at, whole, word};
 use crate::results::{order_in, refusal};
-use model_history::ids::Ids;
-use model_json::tree::{Tree, TreeList};
-use model_query::delta::{Delta, Place, Places};
+use spec_history::ids::Ids;
+use spec_json::tree::{Tree, TreeList};
+use spec_queries::delta::{Delta, Place, Places};
 use query_order::change::{changes_of, splice};
 use query_order::order::Order;
 use query_order::result;

@@ -1,8 +1,8 @@
 //! The items of the rows.
 use crate::numbers::{number_at, signed_at};
-use model_json::text::Text;
-use model_json::tree::Tree;
-use model_query::item::Item;
+use spec_json::text::Text;
+use spec_json::tree::Tree;
+use spec_queries::item::Item;
 use std::alloc::{AllocError, Global};
 
 /// The items of the list at a key, a member of which that is left out being 0 or empty.

@@ -7,7 +7,7 @@ mod numbers;
 mod results;
 mod windows;
 
-use model_json::tree::Tree;
+use spec_json::tree::Tree;
 use row_table::line::tree_in;
 use row_table::row::Row;
 use row_table::trial::{NOT_READ, Trial, try_rows};

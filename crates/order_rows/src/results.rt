@@ -1,7 +1,7 @@
 //! Rows of results: a sort and the items that are put in order by it.
 use crate::items::items_at;
 use crate::numbers::{list_of, word};
-use model_json::tree::Tree;
+use spec_json::tree::Tree;
 use query_order::order::Order;
 use query_order::result::result;
 use query_order::sort_argument::SortError;

@@ -1,9 +1,9 @@
 //! Rows of windows.
-ghost use Rattle.model_query.specs.Windows.{IsInMemory};
+ghost use Rattle.spec_queries.specs.Windows.{IsInMemory};
 
 use crate::numbers::{list_of, number_at, signed_at};
-use model_json::tree::Tree;
-use model_query::window::Anchor;
+use spec_json::tree::Tree;
+use spec_queries::window::Anchor;
 use query_order::window::window;
 use std::alloc::{AllocError, Global};
 

@@ -4,11 +4,11 @@ use Rattle.std.proofs.lemmas.Slice.Eq.{bytes_eq-Decides}
 use Rattle.std.specs.Cmp.Lexicographic.{slice_cmp}
 use Rattle.std.specs.Ordering.{nat_cmp, is_lt}
 use Rattle.std.specs.Str.{bytes_eq}
-use Rattle.model_json.proofs.EditLemmas.{below_else, lookup_below, with_below}
-use Rattle.model_json.proofs.KeyOrder.{above_later, both}
-use Rattle.model_json.specs.Data.{Data, Pair, lookup}
-use Rattle.model_json.specs.Edit.{with_pair}
-use Rattle.model_json.specs.ObjectKeys.{is_above, keys_rise}
+use Rattle.spec_json.proofs.EditLemmas.{below_else, lookup_below, with_below}
+use Rattle.spec_json.proofs.KeyOrder.{above_later, both}
+use Rattle.spec_json.specs.Data.{Data, Pair, lookup}
+use Rattle.spec_json.specs.Edit.{with_pair}
+use Rattle.spec_json.specs.ObjectKeys.{is_above, keys_rise}
 use Rattle.property_table.specs.Names.{has_name}
 use Rattle.overrides.proofs.PatchLemmas.{above_filter, lookup_kept, not_kept}
 use Rattle.overrides.specs.Parts.{always_needed, is_needed, kept, put_missing, with_member, with_each_member}

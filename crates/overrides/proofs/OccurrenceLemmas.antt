@@ -5,21 +5,21 @@ use Rattle.std.proofs.lemmas.Slice.Eq.{bytes_eq-Decides}
 use Rattle.std.specs.List.{list_all}
 use Rattle.std.specs.Option.{option_map_or}
 use Rattle.std.specs.Str.{bytes_eq}
-use Rattle.model_event.specs.Events.{event_table}
-use Rattle.model_event.specs.Values.{is_one_of}
-use Rattle.model_json.proofs.EditLemmas.{rises_with}
-use Rattle.model_json.proofs.KeyOrder.{both}
-use Rattle.model_json.specs.Data.{Data, Pair, field, lookup, pairs_back, text}
-use Rattle.model_json.specs.Edit.{with_pair}
-use Rattle.model_json.specs.ObjectKeys.{keys_rise}
-use Rattle.model_json.specs.Parts.{as_text, is_null, some_of}
-use Rattle.model_json.specs.Patch.{first_failing, placed_all, unless_failing}
-use Rattle.model_json.specs.Pointer.{parts}
-use Rattle.model_recurrence.specs.Overrides.{changed_at, span_in, span_of, valid_span}
-use Rattle.model_series.specs.declared.exception.Span.{Span}
-use Rattle.model_site.specs.TimeZones.{ZoneText}
-use Rattle.model_time.specs.Durations.{duration_in, length_of}
-use Rattle.model_time.specs.LocalTimes.{local_in}
+use Rattle.spec_events.specs.Events.{event_table}
+use Rattle.spec_events.specs.Values.{is_one_of}
+use Rattle.spec_json.proofs.EditLemmas.{rises_with}
+use Rattle.spec_json.proofs.KeyOrder.{both}
+use Rattle.spec_json.specs.Data.{Data, Pair, field, lookup, pairs_back, text}
+use Rattle.spec_json.specs.Edit.{with_pair}
+use Rattle.spec_json.specs.ObjectKeys.{keys_rise}
+use Rattle.spec_json.specs.Parts.{as_text, is_null, some_of}
+use Rattle.spec_json.specs.Patch.{first_failing, placed_all, unless_failing}
+use Rattle.spec_json.specs.Pointer.{parts}
+use Rattle.spec_recurrence.specs.Overrides.{changed_at, span_in, span_of, valid_span}
+use Rattle.spec_series.specs.declared.exception.Span.{Span}
+use Rattle.spec_site.specs.TimeZones.{ZoneText}
+use Rattle.spec_time.specs.Durations.{duration_in, length_of}
+use Rattle.spec_time.specs.LocalTimes.{local_in}
 use Rattle.property_table.proofs.NameLemmas.{has_append}
 use Rattle.property_table.proofs.TableLemmas.{lookup_filter, rises_filter, value_kept}
 use Rattle.property_table.specs.Names.{has_name}

@@ -1,8 +1,8 @@
 -- A list of names is empty, or isn't; and the members that are kept stand in order.
 use Rattle.std.proofs.Common.{◌≡◌, ℕ, List, [], ◌∷◌, ◌==◌, true, false, length, arith, refl}
 use Rattle.std.proofs.lemmas.Bool.Decides.{nat_tests}
-use Rattle.model_json.specs.Data.{Pair}
-use Rattle.model_json.specs.ObjectKeys.{keys_rise}
+use Rattle.spec_json.specs.Data.{Pair}
+use Rattle.spec_json.specs.ObjectKeys.{keys_rise}
 use Rattle.property_table.proofs.TableLemmas.{rises_filter}
 use Rattle.overrides.specs.Parts.{is_needed, kept}
 

@@ -6,13 +6,13 @@ use Rattle.std.specs.List.{list_any}
 use Rattle.std.specs.Option.{option_map_or}
 use Rattle.std.specs.Ordering.{nat_cmp, is_lt}
 use Rattle.std.specs.Str.{bytes_eq}
-use Rattle.model_json.proofs.EditLemmas.{below_else, rises_with, rises_without, with_below}
-use Rattle.model_json.proofs.KeyOrder.{above_later, both}
-use Rattle.model_json.specs.Data.{Data, Pair, null, truth, whole, text, list, object, field, lookup, pairs_back}
-use Rattle.model_json.specs.Edit.{with_pair, without}
-use Rattle.model_json.specs.ObjectKeys.{is_above, keys_rise}
-use Rattle.model_json.specs.Patch.{fails, first_failing, has_parent, is_object, is_prefix, noted, on_found, on_members, placed, placed_all, placed_in, put_or_removed}
-use Rattle.model_json.specs.Pointer.{parts, value_at}
+use Rattle.spec_json.proofs.EditLemmas.{below_else, rises_with, rises_without, with_below}
+use Rattle.spec_json.proofs.KeyOrder.{above_later, both}
+use Rattle.spec_json.specs.Data.{Data, Pair, null, truth, whole, text, list, object, field, lookup, pairs_back}
+use Rattle.spec_json.specs.Edit.{with_pair, without}
+use Rattle.spec_json.specs.ObjectKeys.{is_above, keys_rise}
+use Rattle.spec_json.specs.Patch.{fails, first_failing, has_parent, is_object, is_prefix, noted, on_found, on_members, placed, placed_all, placed_in, put_or_removed}
+use Rattle.spec_json.specs.Pointer.{parts, value_at}
 use Rattle.property_table.proofs.TableLemmas.{lookup_filter, value_kept}
 use Rattle.overrides.specs.Parts.{all_begin_in, begins_in, begins_out, kept, none_begins_in, object_of}
 

@@ -4,8 +4,8 @@ use Rattle.std.proofs.lemmas.Bool.{and_from}
 use Rattle.std.proofs.lemmas.Slice.Eq.{bytes_eq-Decides}
 use Rattle.std.specs.List.{list_all}
 use Rattle.std.specs.Str.{bytes_eq}
-use Rattle.model_json.proofs.KeyOrder.{both}
-use Rattle.model_json.specs.Data.{Pair, lookup}
+use Rattle.spec_json.proofs.KeyOrder.{both}
+use Rattle.spec_json.specs.Data.{Pair, lookup}
 use Rattle.property_table.proofs.NameLemmas.{has_append, has_filter, has_keys}
 use Rattle.property_table.proofs.TableLemmas.{all_failing}
 use Rattle.property_table.specs.Names.{has_name}

@@ -2,10 +2,10 @@
 use Rattle.std.specs.Prelude.{◌≡◌, ℕ, List, [], ◌∷◌, ◌++◌, ◌||◌, Bool, true, false, Option, Some, None, codes, filter, not}
 use Rattle.std.specs.List.{list_all}
 use Rattle.std.specs.Option.{option_map_or}
-use Rattle.model_json.specs.Data.{Data, Pair, lookup, members_of, object}
-use Rattle.model_json.specs.Edit.{with_pair}
-use Rattle.model_json.specs.Parts.{some_of}
-use Rattle.model_json.specs.Pointer.{parts}
+use Rattle.spec_json.specs.Data.{Data, Pair, lookup, members_of, object}
+use Rattle.spec_json.specs.Edit.{with_pair}
+use Rattle.spec_json.specs.Parts.{some_of}
+use Rattle.spec_json.specs.Pointer.{parts}
 use Rattle.property_table.specs.Names.{has_name}
 use Rattle.property_table.specs.Table.{Table, failing, required_names}
 

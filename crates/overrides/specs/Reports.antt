@@ -1,10 +1,10 @@
 -- What calls say of the objects of occurrences, and what a failure says of an event.
 use Rattle.std.specs.Prelude.{◌≡◌, ℕ, List, Option, Some, None, Result, Ok, Err}
-use Rattle.model_json.specs.Data.{Data}
-use Rattle.model_json.specs.TreeData.{data_of}
-use Rattle.model_json.specs.declared.tree.Tree.{Tree}
-use Rattle.model_recurrence.specs.Overrides.{overrides_in, refused_in}
-use Rattle.model_site.specs.TimeZones.{ZoneText}
+use Rattle.spec_json.specs.Data.{Data}
+use Rattle.spec_json.specs.TreeData.{data_of}
+use Rattle.spec_json.specs.declared.tree.Tree.{Tree}
+use Rattle.spec_recurrence.specs.Overrides.{overrides_in, refused_in}
+use Rattle.spec_site.specs.TimeZones.{ZoneText}
 use Rattle.overrides.specs.declared.exceptions.OverrideError.{OverrideError}
 use Rattle.overrides.specs.declared.exceptions.OverrideError.TheVariants.{BadOverride, BadOverrides, NoMemory}
 

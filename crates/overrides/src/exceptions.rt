@@ -1,23 +1,23 @@
 //! What the overrides of an event come to.
 ghost use Rattle.std.specs.Prelude.{◌≡◌, IfErr, IfOk, Some, codes, if◌then◌else◌, None, map, option_map};
-ghost use Rattle.model_event.specs.Events.{bad_event_properties};
-ghost use Rattle.model_event.specs.Values.{is_showing};
-ghost use Rattle.model_json.specs.Data.{lookup};
-ghost use Rattle.model_json.specs.Parts.{all_some, members_in};
-ghost use Rattle.model_json.specs.TreeData.{data_of, pair_of};
-ghost use Rattle.model_recurrence.specs.Overrides.{changed_at, changed_span, patch_changes, exception_at, exception_in, exception_of, exceptions_in, few_members, first_refused, is_excluded, overrides_in, overrides_of, recurrence_id_in, replaced_by, single, span_of, valid_span};
+ghost use Rattle.spec_events.specs.Events.{bad_event_properties};
+ghost use Rattle.spec_events.specs.Values.{is_showing};
+ghost use Rattle.spec_json.specs.Data.{lookup};
+ghost use Rattle.spec_json.specs.Parts.{all_some, members_in};
+ghost use Rattle.spec_json.specs.TreeData.{data_of, pair_of};
+ghost use Rattle.spec_recurrence.specs.Overrides.{changed_at, changed_span, patch_changes, exception_at, exception_in, exception_of, exceptions_in, few_members, first_refused, is_excluded, overrides_in, overrides_of, recurrence_id_in, replaced_by, single, span_of, valid_span};
 ghost use Rattle.overrides.specs.Reports.{Reports, ReportsAmong};
 ghost use Rattle.overrides.specs.declared.exceptions.OverrideError.TheVariants.{NoMemory};
 
 use crate::fixed::touches_fixed;
 use crate::occurrence::{changed_at, patch_changes, single};
 use crate::part::{are_needed, firsts_of, part_of};
-use model_event::limits::{FIRST_START, LAST_START};
-use model_json::text::Text;
-use model_json::tree::{Member, Tree, TreeObject};
-use model_recurrence::limits::MAX_OVERRIDES;
-use model_series::exception::{Exception, Exceptions, Span};
-use model_time::wall::Wall;
+use spec_events::limits::{FIRST_START, LAST_START};
+use spec_json::text::Text;
+use spec_json::tree::{Member, Tree, TreeObject};
+use spec_recurrence::limits::MAX_OVERRIDES;
+use spec_series::exception::{Exception, Exceptions, Span};
+use spec_time::wall::Wall;
 use single_event::read::{EventError, bad_event_names, read_event};
 use std::alloc::{AllocError, AllocFailed, Global};
 use time_text::read_local;
@@ -83,7 +83,7 @@ fn overrides_in(event: &Tree) -> Option<&[Member]>
     }
 }
 
-#[tactic(auto, using(model_json::specs::Data::pairs_back))]
+#[tactic(auto, using(spec_json::specs::Data::pairs_back))]
 fn overrides_of(overrides: &Tree) -> Option<&[Member]>
     ensures { option_map (λ members. map pair_of members.now) result ≡ overrides_of (data_of overrides.now) }
 {
@@ -104,7 +104,7 @@ fn few_members(members: &[Member]) -> Option<&[Member]>
     }
 }
 
-#[tactic(auto, using(model_json::proofs::Appending::push_option))]
+#[tactic(auto, using(spec_json::proofs::Appending::push_option))]
 fn exceptions_among(
     alloc: Global,
     alone: &Tree,
@@ -130,7 +130,7 @@ fn exceptions_among(
     Ok(exceptions)
 }
 
-#[tactic(auto, unfolding(model_recurrence::specs::Overrides::exception_in))]
+#[tactic(auto, unfolding(spec_recurrence::specs::Overrides::exception_in))]
 fn exception_in(
     alloc: Global,
     alone: &Tree,

@@ -2,12 +2,12 @@
 ghost use Rattle.std.specs.Prelude.{◌≡◌, IfOk, false, map};
 ghost use Rattle.std.specs.List.{list_any};
 ghost use Rattle.std.specs.Option.{option_map_or};
-ghost use Rattle.model_json.specs.Pointer.{parts};
-ghost use Rattle.model_json.specs.TreeData.{pair_of};
-ghost use Rattle.model_recurrence.specs.Overrides.{first_is_fixed, touches_fixed};
+ghost use Rattle.spec_json.specs.Pointer.{parts};
+ghost use Rattle.spec_json.specs.TreeData.{pair_of};
+ghost use Rattle.spec_recurrence.specs.Overrides.{first_is_fixed, touches_fixed};
 
-use model_json::text::Text;
-use model_json::tree::Member;
+use spec_json::text::Text;
+use spec_json::tree::Member;
 use patch_object::{Pointer, PointerError};
 use property_table::names::has_name;
 use std::alloc::{AllocError, Global};

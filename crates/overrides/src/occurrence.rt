@@ -1,13 +1,13 @@
 //! The objects of occurrences.
 ghost use Rattle.std.specs.Prelude.{◌≡◌, IfOk};
-ghost use Rattle.model_json.specs.Parts.{members_in};
-ghost use Rattle.model_json.specs.Patch.{patched};
-ghost use Rattle.model_json.specs.TreeData.{data_of};
-ghost use Rattle.model_recurrence.specs.Overrides.{changed_at, patch_changes, occurrence_in, single};
+ghost use Rattle.spec_json.specs.Parts.{members_in};
+ghost use Rattle.spec_json.specs.Patch.{patched};
+ghost use Rattle.spec_json.specs.TreeData.{data_of};
+ghost use Rattle.spec_recurrence.specs.Overrides.{changed_at, patch_changes, occurrence_in, single};
 ghost use Rattle.overrides.specs.Reports.{IsPatched};
 
-use model_json::text::Text;
-use model_json::tree::{Tree, TreeObject};
+use spec_json::text::Text;
+use spec_json::tree::{Tree, TreeObject};
 use patch_object::{PatchError, apply};
 use std::alloc::{AllocError, Global};
 
@@ -30,14 +30,14 @@ pub fn occurrence_tree(
 }
 
 /// A copy of an event without its rules and overrides.
-#[tactic(auto, using(model_json::specs::Data::pairs_back))]
+#[tactic(auto, using(spec_json::specs::Data::pairs_back))]
 pub(crate) fn single(alloc: Global, event: &Tree) -> Result<Tree, AllocError>
     ensures { IfOk result (λ t. members_in (data_of t) ≡ single (members_in (data_of event.now))) }
 {
     Ok(Tree::Object(single_members(alloc, event)?))
 }
 
-#[tactic(auto, using(model_json::specs::Data::pairs_back))]
+#[tactic(auto, using(spec_json::specs::Data::pairs_back))]
 fn single_members(alloc: Global, event: &Tree) -> Result<TreeObject, AllocError>
     ensures { IfOk result (λ o. o ≡ single (members_in (data_of event.now))) }
 {

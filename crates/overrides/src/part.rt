@@ -1,13 +1,13 @@
 //! The part of an event that a patch looks at.
 ghost use Rattle.std.specs.Prelude.{◌≡◌, IfOk, OnOk, Some, map};
-ghost use Rattle.model_json.specs.Parts.{members_in};
-ghost use Rattle.model_json.specs.Pointer.{parts};
-ghost use Rattle.model_json.specs.TreeData.{data_of, pair_of};
+ghost use Rattle.spec_json.specs.Parts.{members_in};
+ghost use Rattle.spec_json.specs.Pointer.{parts};
+ghost use Rattle.spec_json.specs.TreeData.{data_of, pair_of};
 ghost use Rattle.property_table.specs.Names.{has_name as is_name_of};
 ghost use Rattle.overrides.specs.Parts.{always_needed, are_all_needed, first_part, firsts_of, is_needed, part_with, with_member, with_each_member};
 
-use model_json::text::Text;
-use model_json::tree::{Member, Tree, TreeObject};
+use spec_json::text::Text;
+use spec_json::tree::{Member, Tree, TreeObject};
 use patch_object::{Pointer, PointerError};
 use property_table::names::has_name;
 use std::alloc::{AllocError, Global};

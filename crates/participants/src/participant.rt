@@ -2,11 +2,11 @@
 ghost use Rattle.std.specs.Prelude.{◌≡◌, IfOk, false};
 ghost use Rattle.std.specs.List.{list_any};
 ghost use Rattle.std.specs.Option.{option_map_or};
-ghost use Rattle.model_event.specs.Participants.{has_text, meets};
+ghost use Rattle.spec_events.specs.Participants.{has_text, meets};
 
 use crate::finds::Finds;
-use model_json::lists::Texts;
-use model_json::text::Text;
+use spec_json::lists::Texts;
+use spec_json::text::Text;
 use std::alloc::AllocError;
 use std::marker::Model;
 
@@ -20,7 +20,7 @@ pub struct Participant {
 }
 
 impl Model for Participant {
-    ghost use Rattle.model_event.specs.Participants.{ParticipantProperties};
+    ghost use Rattle.spec_events.specs.Participants.{ParticipantProperties};
 
     ghost Value = { ParticipantProperties };
 

@@ -1,10 +1,10 @@
 //! All participants of an event.
 ghost use Rattle.std.specs.Prelude.{◌≡◌, IfOk, option_map};
-ghost use Rattle.model_event.specs.Participants.{any_meets};
+ghost use Rattle.spec_events.specs.Participants.{any_meets};
 
 use crate::finds::Finds;
 use crate::participant::Participant;
-use model_json::text::Text;
+use spec_json::text::Text;
 use std::alloc::AllocError;
 use std::marker::Model;
 
@@ -16,7 +16,7 @@ pub struct People {
 
 impl Model for People {
     ghost use Rattle.std.specs.Prelude.{List};
-    ghost use Rattle.model_event.specs.Participants.{ParticipantProperties};
+    ghost use Rattle.spec_events.specs.Participants.{ParticipantProperties};
 
     ghost Value = { List ParticipantProperties };
 

@@ -1,19 +1,19 @@
 //! Reads participants.
 ghost use Rattle.std.specs.Prelude.{◌≡◌, [], IfErr, IfOk, OnOk, codes, map, true, unwrap_or};
-ghost use Rattle.model_event.specs.Participants.{are_participants, participant_in, people_in, texts_among};
-ghost use Rattle.model_event.specs.Values.{is_object_that};
-ghost use Rattle.model_json.specs.Parts.{object_at, text_at};
-ghost use Rattle.model_json.specs.TreeData.{data_of, pair_of};
+ghost use Rattle.spec_events.specs.Participants.{are_participants, participant_in, people_in, texts_among};
+ghost use Rattle.spec_events.specs.Values.{is_object_that};
+ghost use Rattle.spec_json.specs.Parts.{object_at, text_at};
+ghost use Rattle.spec_json.specs.TreeData.{data_of, pair_of};
 ghost use Rattle.participants.specs.Reports.{Reports};
 ghost use Rattle.participants.specs.declared.read.ParticipantsError.TheVariants.{NoMemory};
 
 use crate::participant::Participant;
 use crate::people::People;
 use crate::table::are_participants;
-use model_event::values::copy_at;
-use model_json::lists::Texts;
-use model_json::text::Text;
-use model_json::tree::{Member, Tree};
+use spec_events::values::copy_at;
+use spec_json::lists::Texts;
+use spec_json::text::Text;
+use spec_json::tree::{Member, Tree};
 use std::alloc::{AllocError, Global};
 
 /// Why there are no participants.

@@ -1,22 +1,22 @@
 //! The table of a participant's properties.
 ghost use Rattle.std.specs.Prelude.{◌≡◌, ◌∷◌, [], Some, IfOk, codes, map};
 ghost use Rattle.std.specs.List.{list_all};
-ghost use Rattle.model_event.specs.Participants.{are_participants, are_roles, are_texts, is_participant, is_participant_member, is_participation_status, participant_table};
-ghost use Rattle.model_event.specs.Values.{is_object_that, is_one_of, is_true};
-ghost use Rattle.model_json.specs.TreeData.{data_of, pair_of};
+ghost use Rattle.spec_events.specs.Participants.{are_participants, are_roles, are_texts, is_participant, is_participant_member, is_participation_status, participant_table};
+ghost use Rattle.spec_events.specs.Values.{is_object_that, is_one_of, is_true};
+ghost use Rattle.spec_json.specs.TreeData.{data_of, pair_of};
 ghost use Rattle.property_table.specs.Table.{test_at};
 ghost use Rattle.property_table.specs.Values.{is_text};
 
-use model_event::limits::MAX_PARTICIPANTS;
-use model_event::values::{is_one_of, is_true};
-use model_json::tree::{Member, Tree};
+use spec_events::limits::MAX_PARTICIPANTS;
+use spec_events::values::{is_one_of, is_true};
+use spec_json::tree::{Member, Tree};
 use property_table::table::{PropertyTable, failing_names};
 use property_table::values::is_text;
 use std::alloc::{AllocError, Global};
 use time_text::read_id;
 
 /// Whether this is an object of participants by their Ids. Takes memory for the names of bad properties.
-#[tactic(auto, using(model_json::specs::Data::pairs_back))]
+#[tactic(auto, using(spec_json::specs::Data::pairs_back))]
 pub fn are_participants(alloc: Global, value: &Tree) -> Result<bool, AllocError>
     ensures { IfOk result (λ b. b ≡ is_object_that are_participants (data_of value.now)) }
 {
@@ -66,7 +66,7 @@ fn is_participant(alloc: Global, value: &Tree) -> Result<bool, AllocError>
 struct ParticipantTable;
 
 impl PropertyTable for ParticipantTable {
-    ghost use Rattle.model_event.specs.Participants.{participant_table};
+    ghost use Rattle.spec_events.specs.Participants.{participant_table};
 
     ghost table = { λ t. participant_table };
 
@@ -74,13 +74,13 @@ impl PropertyTable for ParticipantTable {
         Ok(passes(name, value))
     }
 
-    #[tactic(auto, unfolding(model_event::specs::Participants::participant_table))]
+    #[tactic(auto, unfolding(spec_events::specs::Participants::participant_table))]
     fn required_names(&self) -> &'static [&'static str] {
         &["roles"]
     }
 }
 
-#[tactic(auto, unfolding(model_event::specs::Participants::participant_table))]
+#[tactic(auto, unfolding(spec_events::specs::Participants::participant_table))]
 fn passes(name: &str, value: &Tree) -> bool
     ensures { result ≡ test_at participant_table name.now (Some (data_of value.now)) }
 {
@@ -115,7 +115,7 @@ fn is_participation_status(value: &Tree) -> bool
     )
 }
 
-#[tactic(auto, using(model_json::specs::Data::pairs_back))]
+#[tactic(auto, using(spec_json::specs::Data::pairs_back))]
 fn are_roles(value: &Tree) -> bool
     ensures { result ≡ is_object_that are_roles (data_of value.now) }
 {
@@ -142,7 +142,7 @@ fn all_true(members: &[Member]) -> bool
     true
 }
 
-#[tactic(auto, using(model_json::specs::Data::pairs_back))]
+#[tactic(auto, using(spec_json::specs::Data::pairs_back))]
 fn are_texts(value: &Tree) -> bool
     ensures { result ≡ is_object_that are_texts (data_of value.now) }
 {

@@ -6,14 +6,14 @@ use Rattle.std.proofs.lemmas.Slice.Eq.{bytes_eq-Decides}
 use Rattle.std.specs.Cmp.Lexicographic.{slice_cmp}
 use Rattle.std.specs.Ordering.{nat_cmp, is_lt}
 use Rattle.std.specs.Str.{bytes_eq}
-use Rattle.model_json.proofs.EditLemmas.{below_unlike, equal_not_below, with_pair-without}
-use Rattle.model_json.proofs.KeyOrder.{both}
-use Rattle.model_json.specs.Data as own
-use Rattle.model_json.specs.Data.{Data, Pair, lookup, members_of, object, pairs_back, pairs_of}
-use Rattle.model_json.specs.Edit.{with_pair, without}
-use Rattle.model_json.specs.ObjectKeys.{keys_rise}
-use Rattle.model_json.specs.Patch.{on_members, placed_in, put_or_removed}
-use Rattle.model_json.specs.TreeData.{data_of}
+use Rattle.spec_json.proofs.EditLemmas.{below_unlike, equal_not_below, with_pair-without}
+use Rattle.spec_json.proofs.KeyOrder.{both}
+use Rattle.spec_json.specs.Data as own
+use Rattle.spec_json.specs.Data.{Data, Pair, lookup, members_of, object, pairs_back, pairs_of}
+use Rattle.spec_json.specs.Edit.{with_pair, without}
+use Rattle.spec_json.specs.ObjectKeys.{keys_rise}
+use Rattle.spec_json.specs.Patch.{on_members, placed_in, put_or_removed}
+use Rattle.spec_json.specs.TreeData.{data_of}
 use Rattle.patch_object.proofs.Paths.{without-absent}
 use Rattle.patch_object.specs.Edits.{Change, all_through, all_through_first, behind_first, change_from, goes_through, is_group, longest, placed_each}
 use Rattle.patch_object.specs.declared.place.Edit.{Edit}

@@ -5,14 +5,14 @@ use Rattle.std.proofs.lemmas.Cmp.{nat_list_cmp_total}
 use Rattle.std.specs.Cmp.Lexicographic.{slice_cmp}
 use Rattle.std.specs.Ordering.{nat_cmp, is_lt}
 use Rattle.std.specs.Str.{bytes_eq}
-use Rattle.model_json.proofs.EditLemmas.{below_else, below_unlike, lookup_below, rises_with, rises_without, without_below}
-use Rattle.model_json.proofs.KeyOrder.{above_later, both, less_of}
-use Rattle.model_json.specs.Data.{Data, Pair, lookup}
-use Rattle.model_json.specs.Edit.{with_pair, without}
-use Rattle.model_json.specs.Merge.{begins_below, without_first}
-use Rattle.model_json.specs.ObjectKeys.{is_above, keys_rise}
-use Rattle.model_json.specs.TreeData.{pair_of}
-use Rattle.model_json.specs.declared.tree.Member.{Member}
+use Rattle.spec_json.proofs.EditLemmas.{below_else, below_unlike, lookup_below, rises_with, rises_without, without_below}
+use Rattle.spec_json.proofs.KeyOrder.{above_later, both, less_of}
+use Rattle.spec_json.specs.Data.{Data, Pair, lookup}
+use Rattle.spec_json.specs.Edit.{with_pair, without}
+use Rattle.spec_json.specs.Merge.{begins_below, without_first}
+use Rattle.spec_json.specs.ObjectKeys.{is_above, keys_rise}
+use Rattle.spec_json.specs.TreeData.{pair_of}
+use Rattle.spec_json.specs.declared.tree.Member.{Member}
 use Rattle.patch_object.specs.Cursor.{IsParted, all_below, first_at}
 
 below_below : (i j k : List ℕ) → is_lt (slice_cmp nat_cmp i j) ≡ true → is_lt (slice_cmp nat_cmp j k) ≡ true → is_lt (slice_cmp nat_cmp i k) ≡ true

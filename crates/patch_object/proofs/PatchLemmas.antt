@@ -2,11 +2,11 @@
 use Rattle.std.proofs.Common.{◌≡◌, ℕ, List, [], ◌∷◌, ◌++◌, ◌||◌, not, Bool, false, Option, Some, None, map, sym, ap, refl, ◌∙◌}
 use Rattle.std.proofs.lemmas.List.{map-append}
 use Rattle.std.specs.List.{list_any}
-use Rattle.model_json.specs.Data as own
-use Rattle.model_json.specs.Data.{Data, Members, Pair, member, members_of, no_members, object, pairs_of}
-use Rattle.model_json.specs.Patch.{fails, first_failing, has_parent, is_prefix, on_members, patched, placed_all, placed_in, unless_failing}
-use Rattle.model_json.specs.Pointer.{parts}
-use Rattle.model_json.specs.TreeData.{data_of}
+use Rattle.spec_json.specs.Data as own
+use Rattle.spec_json.specs.Data.{Data, Members, Pair, member, members_of, no_members, object, pairs_of}
+use Rattle.spec_json.specs.Patch.{fails, first_failing, has_parent, is_prefix, on_members, patched, placed_all, placed_in, unless_failing}
+use Rattle.spec_json.specs.Pointer.{parts}
+use Rattle.spec_json.specs.TreeData.{data_of}
 use Rattle.patch_object.proofs.ChangeLemmas.{on_on, placed_on}
 use Rattle.patch_object.proofs.PointerLemmas.{or_swap}
 use Rattle.patch_object.specs.Edits.{change_of, placed_each, pointer_of}

@@ -1,8 +1,8 @@
 -- A key that isn't there can't be taken out.
 use Rattle.std.proofs.Common.{◌≡◌, ℕ, List, [], ◌∷◌, Bool, true, false, Option, Some, None, if◌then◌else◌, ap, refl}
 use Rattle.std.specs.Str.{bytes_eq}
-use Rattle.model_json.specs.Data.{Data, Pair, lookup}
-use Rattle.model_json.specs.Edit.{without}
+use Rattle.spec_json.specs.Data.{Data, Pair, lookup}
+use Rattle.spec_json.specs.Edit.{without}
 
 absent_step : (b : Bool) (d : Data) (o : Option Data) (x y z : List Pair) → (if b then Some d else o) ≡ None → (o ≡ None → y ≡ z) → (if b then x else y) ≡ z
 absent_step true d o x y z h f = cc

@@ -11,8 +11,8 @@ use Rattle.std.specs.List.{list_any}
 use Rattle.std.specs.Ordering.{is_eq, match_ordering, ordering_then}
 use Rattle.std.specs.Str.{bytes_eq}
 use Rattle.std.specs.String.{string_cmp}
-use Rattle.model_json.proofs.KeyOrder.{both}
-use Rattle.model_json.specs.Patch.{is_prefix}
+use Rattle.spec_json.proofs.KeyOrder.{both}
+use Rattle.spec_json.specs.Patch.{is_prefix}
 use Rattle.patch_object.specs.Paths.{String, string_parts}
 
 equal_then : (o p : Ordering) → is_eq (ordering_then o p) ≡ true → (is_eq o ≡ true) × (is_eq p ≡ true)

@@ -3,8 +3,8 @@ use Rattle.std.specs.Prelude.{◌≡◌, ℕ, List, [], ◌∷◌, ◌++◌, ◌
 use Rattle.std.specs.Cmp.Lexicographic.{slice_cmp}
 use Rattle.std.specs.Ordering.{nat_cmp, is_lt}
 use Rattle.std.specs.Str.{bytes_eq}
-use Rattle.model_json.specs.Data.{Data, Pair}
-use Rattle.model_json.specs.Merge.{begins_below}
+use Rattle.spec_json.specs.Data.{Data, Pair}
+use Rattle.spec_json.specs.Merge.{begins_below}
 
 -- all keys are below this one
 abbrev pub all_below : List ℕ → List Pair → Bool

@@ -1,9 +1,9 @@
 -- Members that are put in or taken out, one after the other.
 use Rattle.std.specs.Prelude.{ℕ, List, [], ◌∷◌, ◌&&◌, Bool, true, false, drop, max, length}
 use Rattle.std.specs.Str.{bytes_eq}
-use Rattle.model_json.specs.Data.{Data, Pair}
-use Rattle.model_json.specs.Patch.{placed_in}
-use Rattle.model_json.specs.TreeData.{data_of}
+use Rattle.spec_json.specs.Data.{Data, Pair}
+use Rattle.spec_json.specs.Patch.{placed_in}
+use Rattle.spec_json.specs.TreeData.{data_of}
 use Rattle.patch_object.specs.declared.place.Edit.{Edit}
 
 -- the path to a member and its value, null where it is to be taken out

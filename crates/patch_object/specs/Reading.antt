@@ -1,6 +1,6 @@
 -- What a reader of a key makes of the characters to come.
 use Rattle.std.specs.Prelude.{ℕ, List, ◌++◌, Option, None, option_map, string_bytes}
-use Rattle.model_json.specs.Pointer.{parts_from, after_tilde}
+use Rattle.spec_json.specs.Pointer.{parts_from, after_tilde}
 use Rattle.patch_object.specs.declared.reader.Escape.{Escape}
 use Rattle.patch_object.specs.declared.reader.Escape.TheVariants.{Whole, Begun, Bad}
 use Rattle.patch_object.specs.declared.reader.Reader.{Reader}

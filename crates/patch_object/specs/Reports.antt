@@ -1,6 +1,6 @@
 -- What a failure says of a patch.
 use Rattle.std.specs.Prelude.{◌≡◌, ℕ, List, Bool, true, Result, Err}
-use Rattle.model_json.specs.Data.{Data}
+use Rattle.spec_json.specs.Data.{Data}
 use Rattle.patch_object.specs.declared.patch.PatchError.{PatchError}
 use Rattle.patch_object.specs.declared.patch.PatchError.TheVariants.{InvalidPatch, NoMemory}
 

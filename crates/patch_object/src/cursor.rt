@@ -1,15 +1,15 @@
 //! The members of an object, edited at one place after another.
 ghost use Rattle.std.specs.Prelude.{◌≡◌, ◌++◌, IfOk, OnOk, map, option_map};
-ghost use Rattle.model_json.specs.Data.{lookup};
-ghost use Rattle.model_json.specs.Edit.{with_pair, without};
-ghost use Rattle.model_json.specs.Merge.{without_first};
-ghost use Rattle.model_json.specs.ObjectKeys.{HasOrderedKeys};
-ghost use Rattle.model_json.specs.TreeData.{data_of, pair_of};
+ghost use Rattle.spec_json.specs.Data.{lookup};
+ghost use Rattle.spec_json.specs.Edit.{with_pair, without};
+ghost use Rattle.spec_json.specs.Merge.{without_first};
+ghost use Rattle.spec_json.specs.ObjectKeys.{HasOrderedKeys};
+ghost use Rattle.spec_json.specs.TreeData.{data_of, pair_of};
 ghost use Rattle.patch_object.specs.Cursor.{IsParted, TakesFrom, first_at};
 
-use model_json::text::Text;
-use model_json::tree::merge::pop_below;
-use model_json::tree::{Member, Tree, TreeObject};
+use spec_json::text::Text;
+use spec_json::tree::merge::pop_below;
+use spec_json::tree::{Member, Tree, TreeObject};
 use std::alloc::AllocError;
 use std::collections::VecDeque;
 use std::marker::Model;
@@ -26,10 +26,10 @@ pub(crate) struct Cursor {
 impl Model for Cursor {
     ghost use Rattle.std.specs.Prelude.{List, ◌++◌, map};
     ghost use Rattle.std.specs.Coded.{coded_list};
-    ghost use Rattle.model_json.specs.Data.{Pair};
-    ghost use Rattle.model_json.specs.DataCode.{pair_code};
-    ghost use Rattle.model_json.specs.ObjectKeys.{HasOrderedKeys};
-    ghost use Rattle.model_json.specs.TreeData.{pair_of};
+    ghost use Rattle.spec_json.specs.Data.{Pair};
+    ghost use Rattle.spec_json.specs.DataCode.{pair_code};
+    ghost use Rattle.spec_json.specs.ObjectKeys.{HasOrderedKeys};
+    ghost use Rattle.spec_json.specs.TreeData.{pair_of};
 
     ghost Value = { List Pair };
 

@@ -1,8 +1,8 @@
 //! Patches of a tree.
 ghost use Rattle.std.specs.Prelude.{◌≡◌, ◌<◌, IfErr, IfOk, Ok, Some, false, length, map};
-ghost use Rattle.model_json.specs.Patch.{fails, has_parent, on_members, patched};
-ghost use Rattle.model_json.specs.Pointer.{parts};
-ghost use Rattle.model_json.specs.TreeData.{data_of};
+ghost use Rattle.spec_json.specs.Patch.{fails, has_parent, on_members, patched};
+ghost use Rattle.spec_json.specs.Pointer.{parts};
+ghost use Rattle.spec_json.specs.TreeData.{data_of};
 ghost use Rattle.patch_object.specs.Edits.{change_of, placed_each};
 ghost use Rattle.patch_object.specs.Reports.{Reports, ReportsKey};
 ghost use Rattle.patch_object.specs.declared.patch.PatchError.TheVariants.{InvalidPatch, NoMemory};
@@ -10,8 +10,8 @@ ghost use Rattle.patch_object.specs.declared.patch.PatchError.TheVariants.{Inval
 use crate::place::{Edit, place};
 use crate::pointer::{Pointer, PointerError, value_at_parts};
 use crate::pointer_set::PointerSet;
-use model_json::text::Text;
-use model_json::tree::{Tree, TreeObject};
+use spec_json::text::Text;
+use spec_json::tree::{Tree, TreeObject};
 use std::alloc::{AllocError, AllocFailed, Global};
 
 /// Why there is no patched tree.

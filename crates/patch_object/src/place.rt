@@ -1,13 +1,13 @@
 //! Puts values into a tree at the ends of paths, or takes out what stands there.
 ghost use Rattle.std.specs.Prelude.{◌≡◌, ◌+◌, ◌<◌, ◌≤◌, IfOk, IsTrue, drop, length, map, take};
-ghost use Rattle.model_json.specs.Patch.{on_members, put_or_removed};
-ghost use Rattle.model_json.specs.TreeData.{data_of};
+ghost use Rattle.spec_json.specs.Patch.{on_members, put_or_removed};
+ghost use Rattle.spec_json.specs.TreeData.{data_of};
 ghost use Rattle.patch_object.specs.Edits.{all_through, change_from, goes_through, is_group, placed_each};
 
 use crate::cursor::Cursor;
 use crate::pointer::Pointer;
-use model_json::text::Text;
-use model_json::tree::{Tree, TreeObject};
+use spec_json::text::Text;
+use spec_json::tree::{Tree, TreeObject};
 use std::alloc::AllocError;
 
 /// Where a value is to be put, or taken out where it is null.
@@ -22,7 +22,7 @@ pub(crate) struct Edit<'a> {
 /// A path that leads nowhere changes nothing. Edits that stand together and go through the same member are made in it at once, so edits in
 /// byte order of their keys go over each object once. Takes memory for what is put in.
 #[cycle(place)]
-#[tactic(auto, using(model_json::specs::Data::pairs_back))]
+#[tactic(auto, using(spec_json::specs::Data::pairs_back))]
 pub(crate) fn place(tree: Tree, edits: &[Edit], i: usize) -> Result<Tree, AllocError>
     ensures { IfOk result (λ t. data_of t ≡ on_members (placed_each (map (change_from i) edits.now)) (data_of tree)) }
 {

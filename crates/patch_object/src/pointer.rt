@@ -1,12 +1,12 @@
 //! Pointers: a key of a patch in parts, and the value that the parts lead to.
 ghost use Rattle.std.specs.Prelude.{◌≡◌, ◌<◌, IfOk, None, Some, length, option_map};
-ghost use Rattle.model_json.specs.Pointer.{parts, value_at};
-ghost use Rattle.model_json.specs.TreeData.{data_of};
+ghost use Rattle.spec_json.specs.Pointer.{parts, value_at};
+ghost use Rattle.spec_json.specs.TreeData.{data_of};
 ghost use Rattle.patch_object.specs.declared.pointer.PointerError.TheVariants.{BadEscape, NoMemory};
 
 use crate::reader::Reader;
-use model_json::text::Text;
-use model_json::tree::Tree;
+use spec_json::text::Text;
+use spec_json::tree::Tree;
 use std::alloc::{AllocError, AllocFailed, Global};
 use std::marker::Model;
 

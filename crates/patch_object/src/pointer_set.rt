@@ -1,10 +1,10 @@
 //! Pointers among which the prefixes of another are found.
 ghost use Rattle.std.specs.Prelude.{◌≡◌, ◌||◌, IfOk, List, OnOk, [], map, string_bytes, ℕ};
 ghost use Rattle.std.specs.List.{list_any};
-ghost use Rattle.model_json.specs.Patch.{is_prefix};
+ghost use Rattle.spec_json.specs.Patch.{is_prefix};
 ghost use Rattle.patch_object.specs.Paths.{string_parts};
 
-use model_json::text::Text;
+use spec_json::text::Text;
 use std::alloc::{AllocError, Global};
 use std::collections::BTreeSet;
 use std::marker::Model;

@@ -1,9 +1,9 @@
 //! Reads the parts of a key, a character at a time.
 ghost use Rattle.std.specs.Prelude.{◌≡◌, ◌<◌, ◌∷◌, [], IfOk, IfSome, OnOk, List, ℕ, length, option_map};
 ghost use Rattle.patch_object.specs.Reading.{read_on};
-ghost use Rattle.model_json.specs.Pointer.{parts_from};
+ghost use Rattle.spec_json.specs.Pointer.{parts_from};
 
-use model_json::text::Text;
+use spec_json::text::Text;
 use std::alloc::{AllocError, Global};
 
 /// What was read of a key.

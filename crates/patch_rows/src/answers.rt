@@ -1,7 +1,7 @@
 //! What rows are answered.
 use json_edge::write::tree_text;
-use model_json::text::Text;
-use model_json::tree::{Tree, TreeObject};
+use spec_json::text::Text;
+use spec_json::tree::{Tree, TreeObject};
 use patch_object::{PatchError, Pointer, PointerError, apply, lookup};
 use std::alloc::{AllocError, Global};
 

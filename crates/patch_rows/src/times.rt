@@ -1,6 +1,6 @@
 //! How long a patch takes.
 use json_edge::read::read_tree;
-use model_json::tree::{Tree, TreeObject};
+use spec_json::tree::{Tree, TreeObject};
 use patch_object::apply;
 use std::io::{self, BufRead, BufReader};
 use std::time::Instant;

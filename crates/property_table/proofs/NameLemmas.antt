@@ -6,11 +6,11 @@ use Rattle.std.proofs.lemmas.Slice.Eq.{bytes_eq-Decides}
 use Rattle.std.specs.Cmp.Lexicographic.{slice_cmp}
 use Rattle.std.specs.Ordering.{nat_cmp, is_lt, is_eq, ordering_reverse}
 use Rattle.std.specs.Str.{bytes_eq}
-use Rattle.model_json.proofs.EditLemmas.{lookup_below, rises_with}
-use Rattle.model_json.proofs.KeyOrder.{both}
-use Rattle.model_json.specs.Data.{Pair, lookup, null}
-use Rattle.model_json.specs.Edit.{with_pair}
-use Rattle.model_json.specs.ObjectKeys.{is_above, keys_rise}
+use Rattle.spec_json.proofs.EditLemmas.{lookup_below, rises_with}
+use Rattle.spec_json.proofs.KeyOrder.{both}
+use Rattle.spec_json.specs.Data.{Pair, lookup, null}
+use Rattle.spec_json.specs.Edit.{with_pair}
+use Rattle.spec_json.specs.ObjectKeys.{is_above, keys_rise}
 use Rattle.property_table.specs.Names.{put_name, in_byte_order, has_name, is_below_first, names_rise}
 use Rattle.property_table.specs.Table.{keys_of}
 

@@ -3,11 +3,11 @@ use Rattle.std.proofs.Common.{◌≡◌, ℕ, List, [], ◌∷◌, ◌++◌, ◌
 use Rattle.std.proofs.lemmas.Bool.{and_from}
 use Rattle.std.proofs.lemmas.Slice.Eq.{bytes_eq-Decides}
 use Rattle.std.specs.Str.{bytes_eq}
-use Rattle.model_json.proofs.EditLemmas.{lookup_below}
-use Rattle.model_json.proofs.KeyOrder.{both, above_later}
-use Rattle.model_json.specs.Data.{Data, Pair, object, field, lookup}
-use Rattle.model_json.specs.Parts.{is_null, members_in}
-use Rattle.model_json.specs.ObjectKeys.{is_above, keys_rise}
+use Rattle.spec_json.proofs.EditLemmas.{lookup_below}
+use Rattle.spec_json.proofs.KeyOrder.{both, above_later}
+use Rattle.spec_json.specs.Data.{Data, Pair, object, field, lookup}
+use Rattle.spec_json.specs.Parts.{is_null, members_in}
+use Rattle.spec_json.specs.ObjectKeys.{is_above, keys_rise}
 use Rattle.property_table.specs.Names.{has_name, names_rise, put_name}
 use Rattle.property_table.specs.OnePass.{fails_given, failing_keys, with_missing}
 use Rattle.property_table.specs.Table.{NamesAllFailing, Table, Test, failing, fails_at, given, keys_of, names_of, required_names, test_at}

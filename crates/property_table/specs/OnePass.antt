@@ -1,7 +1,7 @@
 -- The names that fail, found in one pass over an object's members and a look-up for each required name.
 use Rattle.std.specs.Prelude.{ℕ, List, [], ◌∷◌, ◌&&◌, not, Bool, Some, filter, is_some, if◌then◌else◌}
-use Rattle.model_json.specs.Data.{Pair, lookup}
-use Rattle.model_json.specs.Parts.{is_null}
+use Rattle.spec_json.specs.Data.{Pair, lookup}
+use Rattle.spec_json.specs.Parts.{is_null}
 use Rattle.property_table.specs.Names.{put_name}
 use Rattle.property_table.specs.Table.{Table, keys_of, test_at}
 

@@ -1,8 +1,8 @@
 -- Tables of properties: a row for each, with its name and the test of its value (RFC 8620 section 5.3, `invalidProperties`).
 use Rattle.std.specs.Prelude.{◌≡◌, ℕ, List, ◌++◌, [], ◌∷◌, ◌&&◌, not, Bool, true, false, Option, Some, None, filter, map, if◌then◌else◌}
 use Rattle.std.specs.Str.{bytes_eq}
-use Rattle.model_json.specs.Data.{Data, Pair, lookup}
-use Rattle.model_json.specs.Parts.{is_null, members_in}
+use Rattle.spec_json.specs.Data.{Data, Pair, lookup}
+use Rattle.spec_json.specs.Parts.{is_null, members_in}
 use Rattle.property_table.specs.Names.{has_name, in_byte_order, names_rise}
 
 -- a test of the value at a name, None where there is none

@@ -1,8 +1,8 @@
 -- Tests of values that more than one table has.
 use Rattle.std.specs.Prelude.{ℕ, pos, List, ◌&&◌, Bool, false, is_some, int_le}
-use Rattle.model_core.specs.declared.numbers.TheConstants.{MAX_UNSIGNED_INT}
-use Rattle.model_json.specs.Data.{Data, text, whole}
-use Rattle.model_json.specs.Parts.{as_text, as_truth}
+use Rattle.spec_core.specs.declared.numbers.TheConstants.{MAX_UNSIGNED_INT}
+use Rattle.spec_json.specs.Data.{Data, text, whole}
+use Rattle.spec_json.specs.Parts.{as_text, as_truth}
 
 abbrev pub is_text : Data → Bool
 is_text d = is_some (as_text d)

@@ -1,6 +1,6 @@
 //! The laws of tables.
 ghost use Rattle.std.specs.Prelude.{List};
-ghost use Rattle.model_json.specs.Data.{Pair};
+ghost use Rattle.spec_json.specs.Data.{Pair};
 ghost use Rattle.property_table.specs.Table.{NamesAllFailing, Table};
 
 /// The names that fail are all those at which the value doesn't pass, and no others. They stand in byte order, each once.

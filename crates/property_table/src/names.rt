@@ -4,7 +4,7 @@ ghost use Rattle.std.specs.Cmp.Lexicographic.{slice_cmp};
 ghost use Rattle.std.specs.Ordering.{nat_cmp, is_lt};
 ghost use Rattle.property_table.specs.Names.{has_name, put_name};
 
-use model_json::text::Text;
+use spec_json::text::Text;
 use std::alloc::AllocError;
 use std::cmp::Ordering;
 

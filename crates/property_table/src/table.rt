@@ -1,14 +1,14 @@
 //! Objects beside a table of properties.
 ghost use Rattle.std.specs.Prelude.{◌≡◌, Some, IfOk, OnOk, is_some, map};
-ghost use Rattle.model_json.specs.Data.{lookup};
-ghost use Rattle.model_json.specs.Parts.{members_in};
-ghost use Rattle.model_json.specs.TreeData.{data_of, pair_of};
+ghost use Rattle.spec_json.specs.Data.{lookup};
+ghost use Rattle.spec_json.specs.Parts.{members_in};
+ghost use Rattle.spec_json.specs.TreeData.{data_of, pair_of};
 ghost use Rattle.property_table.specs.OnePass.{failing_keys, fails_given, with_missing};
 ghost use Rattle.property_table.specs.Table.{Table, failing_of, given, required_names, test_at};
 
 use crate::names::put_name;
-use model_json::text::Text;
-use model_json::tree::{Member, Tree};
+use spec_json::text::Text;
+use spec_json::tree::{Member, Tree};
 use std::alloc::{AllocError, Global};
 
 /// The properties that an object may have, and what values.

@@ -1,12 +1,12 @@
 //! Tests of values that more than one table has.
 ghost use Rattle.std.specs.Prelude.{◌≡◌};
-ghost use Rattle.model_core.specs.Names.{is_name};
-ghost use Rattle.model_json.specs.TreeData.{data_of};
+ghost use Rattle.spec_core.specs.Names.{is_name};
+ghost use Rattle.spec_json.specs.TreeData.{data_of};
 ghost use Rattle.property_table.specs.Values.{is_text, is_text_that, is_truth, is_unsigned_int};
 
-use model_core::names;
-use model_core::numbers::MAX_UNSIGNED_INT;
-use model_json::tree::Tree;
+use spec_core::names;
+use spec_core::numbers::MAX_UNSIGNED_INT;
+use spec_json::tree::Tree;
 
 /// Whether this is a text. Takes no memory.
 pub fn is_text(value: &Tree) -> bool

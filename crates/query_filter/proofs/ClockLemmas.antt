@@ -10,8 +10,8 @@ use Rattle.jiff_core.proofs.SignedLemmas.{signed_arith}
 use Rattle.jiff_core.specs.Calendar.{IsWithin}
 use Rattle.jiff_tz.specs.declared.posix.TimeZone.{TimeZone}
 use Rattle.jiff_tz.specs.PosixText.{TzText, tz_view}
-use Rattle.model_time.specs.LocalTimes.{local_in}
-use Rattle.model_window.specs.Clocks.{instant_in}
+use Rattle.spec_time.specs.LocalTimes.{local_in}
+use Rattle.spec_windows.specs.Clocks.{instant_in}
 use Rattle.occurrence_windows.proofs.Series.{rule_instants}
 use Rattle.query_filter.specs.TimesRead.{are_times, is_time}
 use Rattle.query_filter.specs.declared.clock.TimeRead.{TimeRead}

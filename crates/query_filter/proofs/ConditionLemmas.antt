@@ -3,10 +3,10 @@ use Rattle.std.proofs.Common.{◌≡◌, ◌∙◌, ℕ, ◌<◌, ◌≤◌, Lis
 use Rattle.std.specs.Prelude.{codes, option_and_then, option_map, unwrap_or}
 use Rattle.std.specs.Option.{option_map_or}
 use Rattle.std.specs.Str.{bytes_eq}
-use Rattle.model_filter.specs.Filters.{FilterMeaning, Sought, holding, holds, is_found, meaning_of, operator_holds, said, said_at, said_items, said_list, some_true}
-use Rattle.model_filter.specs.Members.{given_at}
-use Rattle.model_json.specs.Data.{Data, null, truth, whole, text, list, object, Items, no_items, item, Pair, list_of, pairs_back, lookup, items_of, members_of, depth, items_depth, members_depth}
-use Rattle.model_json.specs.Parts.{as_list, as_text}
+use Rattle.spec_filters.specs.Filters.{FilterMeaning, Sought, holding, holds, is_found, meaning_of, operator_holds, said, said_at, said_items, said_list, some_true}
+use Rattle.spec_filters.specs.Members.{given_at}
+use Rattle.spec_json.specs.Data.{Data, null, truth, whole, text, list, object, Items, no_items, item, Pair, list_of, pairs_back, lookup, items_of, members_of, depth, items_depth, members_depth}
+use Rattle.spec_json.specs.Parts.{as_list, as_text}
 use Rattle.query_filter.specs.Conditions.{conditions_in}
 
 by_bool : {Q : Type 0} (b : Bool) → (b ≡ true → Q) → (b ≡ false → Q) → Q

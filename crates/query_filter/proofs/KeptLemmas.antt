@@ -4,12 +4,12 @@ use Rattle.std.specs.Prelude.{codes, unwrap_or}
 use Rattle.std.specs.Option.{option_map_or}
 use Rattle.std.specs.Str.{bytes_eq}
 use Rattle.jiff_tz.specs.PosixText.{TzText}
-use Rattle.model_filter.specs.Filters.{asks_time, holding, holds, operator_holds, said_at}
-use Rattle.model_filter.specs.Matches.{asks, has_uid, instants_asked, is_in_calendar, meets_by, meets_condition, times_meet}
-use Rattle.model_filter.specs.Members.{given_at, has_other_than, text_given}
-use Rattle.model_json.specs.Data.{Data, null, truth, whole, text, list, object, Pair, pairs_of}
-use Rattle.model_json.specs.Parts.{as_text, is_null, members_in}
-use Rattle.model_series.specs.declared.series.Series.{Series}
+use Rattle.spec_filters.specs.Filters.{asks_time, holding, holds, operator_holds, said_at}
+use Rattle.spec_filters.specs.Matches.{asks, has_uid, instants_asked, is_in_calendar, meets_by, meets_condition, times_meet}
+use Rattle.spec_filters.specs.Members.{given_at, has_other_than, text_given}
+use Rattle.spec_json.specs.Data.{Data, null, truth, whole, text, list, object, Pair, pairs_of}
+use Rattle.spec_json.specs.Parts.{as_text, is_null, members_in}
+use Rattle.spec_series.specs.declared.series.Series.{Series}
 use Rattle.property_table.specs.Names.{has_name}
 use Rattle.query_filter.proofs.ClockLemmas.{same_text}
 use Rattle.query_filter.specs.KeptTimes.{condition_times, has_ids, object_times, others_meet, texts_meet, time_names, times_of}

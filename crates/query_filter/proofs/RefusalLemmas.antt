@@ -6,22 +6,22 @@ use Rattle.std.specs.Str.{bytes_eq}
 use Rattle.std.proofs.lemmas.Bool.Decides.{Decides-int_eq, nat_tests}
 use Rattle.jiff_core.proofs.SignedLemmas.{signed_arith}
 use Rattle.jiff_tz.specs.PosixText.{TzText}
-use Rattle.model_event.specs.Events.{time_zone_in}
-use Rattle.model_event.specs.Values.{is_showing}
-use Rattle.model_filter.specs.Matches.{matches_by, meets_by}
-use Rattle.model_json.specs.Data.{Data}
-use Rattle.model_series.specs.Occurrences.{IsOccurrence, is_day}
-use Rattle.model_series.specs.SeriesLimits.{wall_seconds}
-use Rattle.model_series.specs.declared.occurrence.Occurrence.{Occurrence}
-use Rattle.model_series.specs.declared.rule.Rule.{Rule}
-use Rattle.model_series.specs.declared.series.Series.{Series}
-use Rattle.model_site.specs.TimeZones.{ZoneText}
-use Rattle.model_time.specs.Walls.{day_of_wall, second_of_wall}
-use Rattle.model_window.specs.Clocks.{instant_in}
-use Rattle.model_window.specs.Meetings.{has_meeting}
-use Rattle.model_window.specs.Windows.{keeps_limits, meets_window}
-use Rattle.model_window.specs.ZoneRules.{listed_rule, rule_of, rule_of_event, utc_rule}
-use Rattle.model_window.specs.declared.window.Window.{Window}
+use Rattle.spec_events.specs.Events.{time_zone_in}
+use Rattle.spec_events.specs.Values.{is_showing}
+use Rattle.spec_filters.specs.Matches.{matches_by, meets_by}
+use Rattle.spec_json.specs.Data.{Data}
+use Rattle.spec_series.specs.Occurrences.{IsOccurrence, is_day}
+use Rattle.spec_series.specs.SeriesLimits.{wall_seconds}
+use Rattle.spec_series.specs.declared.occurrence.Occurrence.{Occurrence}
+use Rattle.spec_series.specs.declared.rule.Rule.{Rule}
+use Rattle.spec_series.specs.declared.series.Series.{Series}
+use Rattle.spec_site.specs.TimeZones.{ZoneText}
+use Rattle.spec_time.specs.Walls.{day_of_wall, second_of_wall}
+use Rattle.spec_windows.specs.Clocks.{instant_in}
+use Rattle.spec_windows.specs.Meetings.{has_meeting}
+use Rattle.spec_windows.specs.Windows.{keeps_limits, meets_window}
+use Rattle.spec_windows.specs.ZoneRules.{listed_rule, rule_of, rule_of_event, utc_rule}
+use Rattle.spec_windows.specs.declared.window.Window.{Window}
 use Rattle.occurrence_windows.proofs.Meeting.{AreInstants, has_met}
 use Rattle.occurrence_windows.proofs.Passing.{meeting_is}
 use Rattle.occurrence_windows.proofs.Series.{showing_is}

@@ -4,12 +4,12 @@ use Rattle.std.specs.Prelude.{codes, unwrap_or}
 use Rattle.std.specs.Option.{option_map_or}
 use Rattle.std.specs.Str.{bytes_eq}
 use Rattle.jiff_tz.specs.PosixText.{TzText}
-use Rattle.model_filter.specs.Filters.{asks_time, has_time, holding, meaning_of, operator_holds, said, said_at, said_items, said_list, some_true, time}
-use Rattle.model_filter.specs.Matches.{matches_by, meets_condition}
-use Rattle.model_filter.specs.Members.{given_at}
-use Rattle.model_json.specs.Data.{Data, null, truth, whole, text, list, object, Items, no_items, item, Members, no_members, member, Pair, pairs_of}
-use Rattle.model_json.specs.Parts.{as_text}
-use Rattle.model_series.specs.declared.series.Series.{Series}
+use Rattle.spec_filters.specs.Filters.{asks_time, has_time, holding, meaning_of, operator_holds, said, said_at, said_items, said_list, some_true, time}
+use Rattle.spec_filters.specs.Matches.{matches_by, meets_condition}
+use Rattle.spec_filters.specs.Members.{given_at}
+use Rattle.spec_json.specs.Data.{Data, null, truth, whole, text, list, object, Items, no_items, item, Members, no_members, member, Pair, pairs_of}
+use Rattle.spec_json.specs.Parts.{as_text}
+use Rattle.spec_series.specs.declared.series.Series.{Series}
 
 by_bool : {Q : Type 0} (b : Bool) → (b ≡ true → Q) → (b ≡ false → Q) → Q
 by_bool true f g = f refl

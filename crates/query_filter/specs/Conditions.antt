@@ -1,7 +1,7 @@
 -- The conditions of an operator.
 use Rattle.std.specs.Prelude.{List, Option, codes, option_and_then}
-use Rattle.model_json.specs.Data.{Data, Pair, lookup}
-use Rattle.model_json.specs.Parts.{as_list}
+use Rattle.spec_json.specs.Data.{Data, Pair, lookup}
+use Rattle.spec_json.specs.Parts.{as_list}
 
 -- the items of `conditions`, where it is a list
 abbrev pub conditions_in : List Pair → Option (List Data)

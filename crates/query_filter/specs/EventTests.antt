@@ -1,9 +1,9 @@
 -- Events by which conditions are tested.
 use Rattle.std.specs.Prelude.{List, Bool, option_map}
 use Rattle.jiff_tz.specs.PosixText.{tz_view}
-use Rattle.model_filter.specs.Matches.{meets_condition}
-use Rattle.model_json.specs.Data.{Pair}
-use Rattle.model_json.specs.TreeData.{data_of}
+use Rattle.spec_filters.specs.Matches.{meets_condition}
+use Rattle.spec_json.specs.Data.{Pair}
+use Rattle.spec_json.specs.TreeData.{data_of}
 use Rattle.query_filter.specs.declared.condition.EventTest.{EventTest}
 
 -- the event meets a condition

@@ -1,11 +1,11 @@
 -- What is kept of a filter that asks when an event is.
 use Rattle.std.specs.Prelude.{ℕ, List, [], ◌∷◌, ◌&&◌, ◌||◌, Bool, not, Option, Some, None, codes, is_some, if◌then◌else◌}
 use Rattle.jiff_tz.specs.PosixText.{TzText}
-use Rattle.model_filter.specs.Filters.{asks_time}
-use Rattle.model_filter.specs.Matches.{asks, contains_at, has_uid, instants_asked, is_in_calendar, people_meet, says}
-use Rattle.model_filter.specs.Members.{given_at, has_other_than, text_given}
-use Rattle.model_json.specs.Data.{Data, Pair}
-use Rattle.model_json.specs.Parts.{members_in}
+use Rattle.spec_filters.specs.Filters.{asks_time}
+use Rattle.spec_filters.specs.Matches.{asks, contains_at, has_uid, instants_asked, is_in_calendar, people_meet, says}
+use Rattle.spec_filters.specs.Members.{given_at, has_other_than, text_given}
+use Rattle.spec_json.specs.Data.{Data, Pair}
+use Rattle.spec_json.specs.Parts.{members_in}
 use Rattle.query_filter.specs.declared.times.Times.{Times}
 
 abbrev pub time_names : List (List ℕ)

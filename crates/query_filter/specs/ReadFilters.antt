@@ -1,7 +1,7 @@
 -- What comes of reading a filter.
 use Rattle.std.specs.Prelude.{◌≡◌, true, false, Result, Ok, Err}
-use Rattle.model_filter.specs.Filters.{is_bad_filter, is_unsupported_filter}
-use Rattle.model_json.specs.Data.{Data}
+use Rattle.spec_filters.specs.Filters.{is_bad_filter, is_unsupported_filter}
+use Rattle.spec_json.specs.Data.{Data}
 use Rattle.query_filter.specs.declared.filter.FilterError.{FilterError}
 use Rattle.query_filter.specs.declared.filter.FilterError.TheVariants.{Bad, Unsupported, NoMemory}
 

@@ -1,15 +1,15 @@
 -- Events that are refused before the rule of their zone is known.
 use Rattle.std.specs.Prelude.{◌≡◌, ◌==◌, ◌&&◌, ◌||◌, ◌+ℤ◌, ◌-ℤ◌, ℕ, ℤ, pos, List, length, Bool, true, false, not, Option, Some, None}
 use Rattle.std.specs.Option.{option_map_or}
-use Rattle.model_filter.specs.Matches.{matches_by}
-use Rattle.model_json.specs.Data.{Data}
-use Rattle.model_series.specs.SeriesLimits.{wall_seconds}
-use Rattle.model_series.specs.declared.series.Series.{Series}
-use Rattle.model_site.specs.TimeZones.{ZoneText}
-use Rattle.model_window.specs.Windows.{keeps_limits}
-use Rattle.model_window.specs.ZoneRules.{rule_of_event}
-use Rattle.model_window.specs.declared.period.Period.{Period}
-use Rattle.model_window.specs.declared.window.Window.{Window}
+use Rattle.spec_filters.specs.Matches.{matches_by}
+use Rattle.spec_json.specs.Data.{Data}
+use Rattle.spec_series.specs.SeriesLimits.{wall_seconds}
+use Rattle.spec_series.specs.declared.series.Series.{Series}
+use Rattle.spec_site.specs.TimeZones.{ZoneText}
+use Rattle.spec_windows.specs.Windows.{keeps_limits}
+use Rattle.spec_windows.specs.ZoneRules.{rule_of_event}
+use Rattle.spec_windows.specs.declared.period.Period.{Period}
+use Rattle.spec_windows.specs.declared.window.Window.{Window}
 use Rattle.occurrence_windows.specs.declared.walk.TheConstants.{FARTHEST}
 use Rattle.query_filter.specs.InZone.{FilterInZone}
 use Rattle.query_filter.specs.KeptTimes.{times_of}

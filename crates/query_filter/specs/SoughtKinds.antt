@@ -1,5 +1,5 @@
 -- What is looked for in a filter.
-use Rattle.model_filter.specs.Filters.{Sought, fault, time, unknown}
+use Rattle.spec_filters.specs.Filters.{Sought, fault, time, unknown}
 use Rattle.query_filter.specs.declared.sought.SoughtKind.{SoughtKind}
 use Rattle.query_filter.specs.declared.sought.SoughtKind.TheVariants.{Fault, Unknown, Time}
 

@@ -4,8 +4,8 @@ use Rattle.std.specs.List.{list_all}
 use Rattle.std.specs.Option.{option_map_or}
 use Rattle.std.specs.Ordering.{int_eq}
 use Rattle.jiff_tz.specs.PosixText.{TzText}
-use Rattle.model_time.specs.LocalTimes.{local_in}
-use Rattle.model_window.specs.Clocks.{instant_in}
+use Rattle.spec_time.specs.LocalTimes.{local_in}
+use Rattle.spec_windows.specs.Clocks.{instant_in}
 use Rattle.query_filter.specs.declared.clock.TimeRead.{TimeRead}
 
 -- the instant is that of the text

@@ -1,14 +1,14 @@
 //! Series whose occurrence can't meet a window, whatever the rule of the zone.
 ghost use Rattle.std.specs.Prelude.{◌≡◌, ◌≤◌, option_map, true};
-ghost use Rattle.model_series.specs.SeriesLimits.{wall_seconds};
-ghost use Rattle.model_time.specs.Walls.{is_in_years};
+ghost use Rattle.spec_series.specs.SeriesLimits.{wall_seconds};
+ghost use Rattle.spec_time.specs.Walls.{is_in_years};
 ghost use Rattle.query_filter.specs.Refusals.{is_alone, may_meet, widest};
 
-use model_series::series::Series;
-use model_time::length::Length;
-use model_time::wall::Wall;
-use model_window::period::Period;
-use model_window::window::Window;
+use spec_series::series::Series;
+use spec_time::length::Length;
+use spec_time::wall::Wall;
+use spec_windows::period::Period;
+use spec_windows::window::Window;
 use occurrence_windows::FARTHEST;
 
 /// Whether an event with this series may meet the window, as far as that can be told without the rule of its zone. Takes no memory.

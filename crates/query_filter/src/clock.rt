@@ -2,12 +2,12 @@
 ghost use Rattle.std.specs.Prelude.{◌≡◌, IfSome, option_and_then, true};
 ghost use Rattle.jiff_core.specs.Calendar.{IsWithin};
 ghost use Rattle.jiff_tz.specs.PosixText.{tz_view};
-ghost use Rattle.model_time.specs.LocalTimes.{local_in};
-ghost use Rattle.model_window.specs.Clocks.{instant_in};
+ghost use Rattle.spec_time.specs.LocalTimes.{local_in};
+ghost use Rattle.spec_windows.specs.Clocks.{instant_in};
 ghost use Rattle.query_filter.specs.TimesRead.{are_times};
 
 use jiff_tz::posix::TimeZone;
-use model_json::text::Text;
+use spec_json::text::Text;
 use std::alloc::{AllocError, Global};
 use std::marker::Model;
 use time_text::read_local;

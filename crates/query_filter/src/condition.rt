@@ -2,9 +2,9 @@
 ghost use Rattle.std.specs.Prelude.{◌≡◌, IfOk, IfSome, codes, option_and_then, option_map};
 ghost use Rattle.jiff_core.specs.Calendar.{IsWithin};
 ghost use Rattle.jiff_tz.specs.PosixText.{tz_view};
-ghost use Rattle.model_filter.specs.Matches.{asks, contains_at, has_uid, instants_asked, is_in_calendar, meets_by, says, times_meet, wall_given};
-ghost use Rattle.model_json.specs.TreeData.{data_of};
-ghost use Rattle.model_window.specs.Clocks.{instant_in};
+ghost use Rattle.spec_filters.specs.Matches.{asks, contains_at, has_uid, instants_asked, is_in_calendar, meets_by, says, times_meet, wall_given};
+ghost use Rattle.spec_json.specs.TreeData.{data_of};
+ghost use Rattle.spec_windows.specs.Clocks.{instant_in};
 ghost use Rattle.occurrence_windows.specs.Bounds.{AreNear};
 ghost use Rattle.query_filter.specs.EventTests.{event_meets};
 ghost use Rattle.query_filter.specs.KeptTimes.{has_ids, others_meet, texts_meet};
@@ -14,9 +14,9 @@ use crate::needles::Needles;
 use crate::sought::asks_time;
 use crate::texts::{has_uid, is_in_calendar};
 use jiff_tz::posix::TimeZone;
-use model_json::tree::{Tree, TreeObject};
-use model_series::series::Series;
-use model_window::window::Window;
+use spec_json::tree::{Tree, TreeObject};
+use spec_series::series::Series;
+use spec_windows::window::Window;
 use occurrence_windows::matches_window;
 use std::alloc::{AllocError, Global};
 
@@ -36,7 +36,7 @@ pub(crate) struct EventTest<'a> {
 
 impl<'a> EventTest<'a> {
     /// Whether a condition holds. Takes memory for folded texts.
-    #[tactic(auto, unfolding(model_filter::specs::Matches::meets_condition))]
+    #[tactic(auto, unfolding(spec_filters::specs::Matches::meets_condition))]
     pub(crate) fn meets(&self, condition: &TreeObject) -> Result<bool, AllocError>
         ensures { IfOk result (λ b. b ≡ event_meets self.now condition.now) }
     {

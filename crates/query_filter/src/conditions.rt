@@ -1,10 +1,10 @@
 //! The conditions of an operator.
 ghost use Rattle.std.specs.Prelude.{◌≡◌, ◌<◌, IfSome, map, option_map};
-ghost use Rattle.model_json.specs.Data.{items_depth, items_of, members_depth, members_of};
-ghost use Rattle.model_json.specs.TreeData.{data_of};
+ghost use Rattle.spec_json.specs.Data.{items_depth, items_of, members_depth, members_of};
+ghost use Rattle.spec_json.specs.TreeData.{data_of};
 ghost use Rattle.query_filter.specs.Conditions.{conditions_in};
 
-use model_json::tree::{Tree, TreeObject};
+use spec_json::tree::{Tree, TreeObject};
 
 /// The conditions, where `conditions` is a list. Takes no memory.
 #[tactic(auto, using(crate::proofs::ConditionLemmas::conditions_fall))]

@@ -1,17 +1,17 @@
 //! Filters that were read.
 ghost use Rattle.std.specs.Prelude.{◌≡◌, None, codes, false, is_some, if◌then◌else◌};
-ghost use Rattle.model_filter.specs.Filters.{has_time};
-ghost use Rattle.model_filter.specs.Matches.{wall_given, walls_asked, window_asked};
-ghost use Rattle.model_filter.specs.Members.{given_at};
-ghost use Rattle.model_json.specs.TreeData.{data_of};
+ghost use Rattle.spec_filters.specs.Filters.{has_time};
+ghost use Rattle.spec_filters.specs.Matches.{wall_given, walls_asked, window_asked};
+ghost use Rattle.spec_filters.specs.Members.{given_at};
+ghost use Rattle.spec_json.specs.TreeData.{data_of};
 ghost use Rattle.query_filter.specs.AnyTime.{IsForAnyTime};
 ghost use Rattle.query_filter.specs.ReadFilters.{IsRead};
 ghost use Rattle.query_filter.specs.declared.filter.FilterError.TheVariants.{NoMemory};
 
 use crate::members::given;
 use crate::sought::SoughtKind;
-use model_json::tree::{Tree, TreeObject};
-use model_time::wall::Wall;
+use spec_json::tree::{Tree, TreeObject};
+use spec_time::wall::Wall;
 use std::alloc::AllocError;
 use std::marker::Model;
 use time_text::read_local;
@@ -42,9 +42,9 @@ pub struct Filter {
 }
 
 impl Model for Filter {
-    ghost use Rattle.model_json.specs.Data.{Data};
-    ghost use Rattle.model_json.specs.DataCode.{data_code};
-    ghost use Rattle.model_json.specs.TreeData.{data_of};
+    ghost use Rattle.spec_json.specs.Data.{Data};
+    ghost use Rattle.spec_json.specs.DataCode.{data_code};
+    ghost use Rattle.spec_json.specs.TreeData.{data_of};
 
     ghost Value = { Data };
 
@@ -78,7 +78,7 @@ impl Filter {
     }
 
     /// The wall seconds of `after` and `before`, where the filter is one condition with both. Takes no memory.
-    #[tactic(auto, using(model_json::specs::Data::pairs_back))]
+    #[tactic(auto, using(spec_json::specs::Data::pairs_back))]
     pub fn window(&self) -> Option<(Wall, Wall)>
         ensures { result ≡ window_asked self.now }
     {

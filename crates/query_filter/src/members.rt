@@ -1,13 +1,13 @@
 //! The members of conditions and operators.
 ghost use Rattle.std.specs.Prelude.{◌≡◌, Some, map, option_map};
-ghost use Rattle.model_event.specs.Values.{is_start};
-ghost use Rattle.model_filter.specs.Members.{condition_table, given_at, has_bad_member, has_other_than};
-ghost use Rattle.model_json.specs.TreeData.{data_of, pair_of};
+ghost use Rattle.spec_events.specs.Values.{is_start};
+ghost use Rattle.spec_filters.specs.Members.{condition_table, given_at, has_bad_member, has_other_than};
+ghost use Rattle.spec_json.specs.TreeData.{data_of, pair_of};
 ghost use Rattle.property_table.specs.OnePass.{fails_given};
 ghost use Rattle.property_table.specs.Table.{test_at};
 ghost use Rattle.property_table.specs.Values.{is_text_that};
 
-use model_json::tree::{Member, Tree, TreeObject};
+use spec_json::tree::{Member, Tree, TreeObject};
 use property_table::names::has_name;
 use property_table::values::is_text;
 use single_event::times::is_start as names_start;
@@ -62,7 +62,7 @@ fn fails(member: &Member) -> bool
     !member.value.is_null() && !passes(member.key.as_str(), &member.value)
 }
 
-#[tactic(auto, unfolding(model_filter::specs::Members::condition_table))]
+#[tactic(auto, unfolding(spec_filters::specs::Members::condition_table))]
 fn passes(name: &str, value: &Tree) -> bool
     ensures { result ≡ test_at condition_table name.now (Some (data_of value.now)) }
 {

@@ -4,7 +4,7 @@ ghost use Rattle.folded_text.specs.Contains.{contains, folded};
 
 use crate::ascii::stands_in;
 use folded_text::FoldedText;
-use model_json::text::Text;
+use spec_json::text::Text;
 use std::alloc::{AllocError, Global};
 
 /// The most texts that are kept. Others are folded for each event.

@@ -1,14 +1,14 @@
 //! What is looked for in a filter.
 ghost use Rattle.std.specs.Prelude.{◌≡◌, Some, None, map};
-ghost use Rattle.model_filter.specs.Filters.{asks_time, is_found, meaning_of, said, some_true};
-ghost use Rattle.model_json.specs.Data.{members_of, object};
-ghost use Rattle.model_json.specs.TreeData.{data_of};
+ghost use Rattle.spec_filters.specs.Filters.{asks_time, is_found, meaning_of, said, some_true};
+ghost use Rattle.spec_json.specs.Data.{members_of, object};
+ghost use Rattle.spec_json.specs.TreeData.{data_of};
 ghost use Rattle.query_filter.specs.SoughtKinds.{sought_of};
 
 use crate::conditions::conditions_of;
 use crate::members::{CONDITION_NAMES, OPERATOR_NAMES, given, has_bad_member, has_other_than};
-use model_filter::operator::is_operator;
-use model_json::tree::{Tree, TreeObject};
+use spec_filters::operator::is_operator;
+use spec_json::tree::{Tree, TreeObject};
 use property_table::values::is_text;
 
 /// What is looked for in a filter and in the conditions of its operators.
@@ -95,7 +95,7 @@ impl SoughtKind {
     }
 
     #[cycle(sought)]
-    #[tactic(auto, using(model_json::specs::TreeDepth::item_falls))]
+    #[tactic(auto, using(spec_json::specs::TreeDepth::item_falls))]
     fn is_found_among(self, filters: &[Tree]) -> bool
         ensures { result ≡ some_true (map (said (meaning_of (sought_of self))) (map data_of filters.now)) }
     {

@@ -4,14 +4,14 @@ ghost use Rattle.std.specs.List.{list_any};
 ghost use Rattle.std.specs.Option.{option_map_or};
 ghost use Rattle.std.specs.Str.{bytes_eq};
 ghost use Rattle.folded_text.specs.Contains.{contains};
-ghost use Rattle.model_event.specs.Events.{participants_of};
-ghost use Rattle.model_event.specs.Participants.{has_text, meets, participant_in, texts_among};
-ghost use Rattle.model_filter.specs.Matches.{contains_at, has_uid, is_called, is_in_calendar, people_meet, says};
-ghost use Rattle.model_json.specs.TreeData.{data_of, pair_of};
+ghost use Rattle.spec_events.specs.Events.{participants_of};
+ghost use Rattle.spec_events.specs.Participants.{has_text, meets, participant_in, texts_among};
+ghost use Rattle.spec_filters.specs.Matches.{contains_at, has_uid, is_called, is_in_calendar, people_meet, says};
+ghost use Rattle.spec_json.specs.TreeData.{data_of, pair_of};
 
 use crate::needles::Needles;
-use model_json::text::Text;
-use model_json::tree::{Member, Tree};
+use spec_json::text::Text;
+use spec_json::tree::{Member, Tree};
 use std::alloc::{AllocError, Global};
 
 /// Whether an event is in the calendar of an id. Takes no memory.

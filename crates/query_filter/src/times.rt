@@ -1,8 +1,8 @@
 //! When an event has to be for a filter that is one condition.
 ghost use Rattle.std.specs.Prelude.{◌≡◌, IfOk, IfSome, Some};
-ghost use Rattle.model_filter.specs.Filters.{holds};
-ghost use Rattle.model_json.specs.Parts.{members_in};
-ghost use Rattle.model_json.specs.TreeData.{data_of};
+ghost use Rattle.spec_filters.specs.Filters.{holds};
+ghost use Rattle.spec_json.specs.Parts.{members_in};
+ghost use Rattle.spec_json.specs.TreeData.{data_of};
 ghost use Rattle.occurrence_windows.specs.Bounds.{AreNear};
 ghost use Rattle.query_filter.specs.EventTests.{event_meets};
 ghost use Rattle.query_filter.specs.KeptTimes.{condition_times, object_times, others_meet, times_of};
@@ -11,8 +11,8 @@ use crate::clock::Clock;
 use crate::condition::{EventTest, instants_asked};
 use crate::members::{TIME_NAMES, given, has_other_than};
 use crate::sought::asks_time;
-use model_json::tree::{Tree, TreeObject};
-use model_window::window::Window;
+use spec_json::tree::{Tree, TreeObject};
+use spec_windows::window::Window;
 use std::alloc::AllocError;
 
 /// The times of a condition that asks when an event is.
@@ -25,7 +25,7 @@ pub(crate) struct Times {
 }
 
 /// The times of a filter that is one condition which asks when an event is. Takes no memory.
-#[tactic(auto, using(model_json::specs::Data::pairs_back))]
+#[tactic(auto, using(spec_json::specs::Data::pairs_back))]
 pub(crate) fn times_of(clock: &Clock, filter: &Tree) -> Option<Times>
     ensures value { result ≡ times_of clock.now (data_of filter.now) }
     ensures near { IfSome result (λ t. AreNear t.window) }
@@ -75,7 +75,7 @@ impl<'a> EventTest<'a> {
     }
 
     // Whether all holds that a condition asks for but times.
-    #[tactic(auto, using(model_json::specs::Data::pairs_back))]
+    #[tactic(auto, using(spec_json::specs::Data::pairs_back))]
     fn others_hold(&self, filter: &Tree) -> Result<bool, AllocError>
         ensures { IfOk result (λ b. b ≡ others_meet (data_of self.now.event.now) (members_in (data_of filter.now))) }
     {

@@ -1,11 +1,11 @@
 //! Filters whose times are those of a zone.
 ghost use Rattle.std.specs.Prelude.{◌≡◌, [], IfOk, false, map, option_map, unwrap_or};
 ghost use Rattle.jiff_tz.specs.PosixText.{tz_view};
-ghost use Rattle.model_filter.specs.Filters.{all_true, holds, operator_holds, some_true};
-ghost use Rattle.model_filter.specs.Matches.{instants_asked, matches_by};
-ghost use Rattle.model_json.specs.Data.{members_of, object};
-ghost use Rattle.model_json.specs.Parts.{as_text, members_in};
-ghost use Rattle.model_json.specs.TreeData.{data_of};
+ghost use Rattle.spec_filters.specs.Filters.{all_true, holds, operator_holds, some_true};
+ghost use Rattle.spec_filters.specs.Matches.{instants_asked, matches_by};
+ghost use Rattle.spec_json.specs.Data.{members_of, object};
+ghost use Rattle.spec_json.specs.Parts.{as_text, members_in};
+ghost use Rattle.spec_json.specs.TreeData.{data_of};
 ghost use Rattle.occurrence_windows.specs.Bounds.{AreNear};
 ghost use Rattle.query_filter.specs.EventTests.{event_meets};
 ghost use Rattle.query_filter.specs.Refusals.{IsForNoneOf, may_match};
@@ -19,10 +19,10 @@ use crate::members::given;
 use crate::needles::Needles;
 use crate::times::{Times, times_of};
 use jiff_tz::posix::TimeZone;
-use model_json::text::Text;
-use model_json::tree::{Tree, TreeObject};
-use model_series::series::Series;
-use model_window::window::Window;
+use spec_json::text::Text;
+use spec_json::tree::{Tree, TreeObject};
+use spec_series::series::Series;
+use spec_windows::window::Window;
 use std::alloc::{AllocError, Global};
 use std::marker::Model;
 
@@ -39,7 +39,7 @@ pub struct ZonedFilter {
 impl Model for ZonedFilter {
     ghost use Rattle.std.specs.Prelude.{◌≡◌, IfSome};
     ghost use Rattle.std.specs.Coded.{codes};
-    ghost use Rattle.model_json.specs.DataCode.{data_code};
+    ghost use Rattle.spec_json.specs.DataCode.{data_code};
     ghost use Rattle.occurrence_windows.specs.Bounds.{AreNear};
     ghost use Rattle.query_filter.specs.InZone.{FilterInZone};
     ghost use Rattle.query_filter.specs.KeptTimes.{times_of};
@@ -159,7 +159,7 @@ impl<'a> EventTest<'a> {
     }
 
     #[cycle(holds)]
-    #[tactic(auto, using(model_json::specs::TreeDepth::item_falls))]
+    #[tactic(auto, using(spec_json::specs::TreeDepth::item_falls))]
     fn all_hold(&self, filters: &[Tree]) -> Result<bool, AllocError>
         ensures { IfOk result (λ b. b ≡ all_true (map (holds (event_meets self.now)) (map data_of filters.now))) }
     {
@@ -172,7 +172,7 @@ impl<'a> EventTest<'a> {
     }
 
     #[cycle(holds)]
-    #[tactic(auto, using(model_json::specs::TreeDepth::item_falls))]
+    #[tactic(auto, using(spec_json::specs::TreeDepth::item_falls))]
     fn any_holds(&self, filters: &[Tree]) -> Result<bool, AllocError>
         ensures { IfOk result (λ b. b ≡ some_true (map (holds (event_meets self.now)) (map data_of filters.now))) }
     {
@@ -186,7 +186,7 @@ impl<'a> EventTest<'a> {
 }
 
 // The window of a filter that is one condition.
-#[tactic(auto, using(model_json::specs::Data::pairs_back))]
+#[tactic(auto, using(spec_json::specs::Data::pairs_back))]
 fn window_asked(clock: &Clock, filter: &Tree) -> Window
     ensures value { result ≡ instants_asked clock.now (members_in (data_of filter.now)) }
     ensures near { AreNear result }
@@ -242,7 +242,7 @@ fn keep_object(
 }
 
 #[cycle(keep)]
-#[tactic(auto, using(model_json::specs::TreeDepth::item_falls))]
+#[tactic(auto, using(spec_json::specs::TreeDepth::item_falls))]
 fn keep_each(
     alloc: Global,
     filters: &[Tree],

@@ -1,14 +1,14 @@
 -- When methods are refused whose criteria aren't.
 use Rattle.std.proofs.Common.{◌≡◌, ℕ, List, Bool, true, false, if◌then◌else◌, Option, Some, None, refl, ap, sym}
 use Rattle.std.specs.Prelude.{unwrap_or}
-use Rattle.model_history.specs.declared.entry.Change.{Change}
-use Rattle.model_history.specs.declared.entry.Kind.TheVariants.{Event}
-use Rattle.model_queries.specs.Changed.{Since, size_refusal}
-use Rattle.model_queries.specs.Criteria.{Criteria, criteria_refusal, order_of, sight_of}
-use Rattle.model_queries.specs.Found.{Paging, anchor_refusal}
-use Rattle.model_queries.specs.Queries.{is_paging, query_changes_refusal, query_refusal}
-use Rattle.model_queries.specs.States.{is_known_state, is_maximum}
-use Rattle.model_site.specs.TimeZones.{ZoneText}
+use Rattle.spec_history.specs.declared.entry.Change.{Change}
+use Rattle.spec_history.specs.declared.entry.Kind.TheVariants.{Event}
+use Rattle.spec_queries.specs.Changed.{Since, size_refusal}
+use Rattle.spec_queries.specs.Criteria.{Criteria, criteria_refusal, order_of, sight_of}
+use Rattle.spec_queries.specs.Found.{Paging, anchor_refusal}
+use Rattle.spec_queries.specs.Queries.{is_paging, query_changes_refusal, query_refusal}
+use Rattle.spec_queries.specs.States.{is_known_state, is_maximum}
+use Rattle.spec_site.specs.TimeZones.{ZoneText}
 use Rattle.time_text.specs.State.{state_in}
 
 -- a query is refused then for its anchor alone

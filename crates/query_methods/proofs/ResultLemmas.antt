@@ -5,19 +5,19 @@ use Rattle.std.proofs.lemmas.List.Elements.{filter-append}
 use Rattle.std.proofs.lemmas.List.Sums.{length-filter}
 use Rattle.account_store.proofs.EarlierLemmas.{ids_of_kind}
 use Rattle.account_store.specs.Earlier.{changes_up_to, live_ids}
-use Rattle.model_history.specs.History.{changes_of, ids_at, is_kind, live_object, state_at}
-use Rattle.model_history.specs.Pages.{is_in}
-use Rattle.model_history.specs.declared.entry.Change.{Change}
-use Rattle.model_history.specs.declared.entry.Entry.{Entry}
-use Rattle.model_history.specs.declared.entry.Kind.TheVariants.{Event}
-use Rattle.model_json.specs.InOrder.{in_order, put_in}
-use Rattle.model_json.specs.declared.tree.Tree.{Tree}
-use Rattle.model_queries.specs.Changed.{delta_since}
-use Rattle.model_query.specs.Matching.{match_of, matches, of_events, result_at, result_of, touched_since, with_number}
-use Rattle.model_query.specs.QueryChanges.{delta_of, indexed}
-use Rattle.model_query.specs.Results.{numbers_at, places}
-use Rattle.model_query.specs.declared.comparator.Comparator.{Comparator}
-use Rattle.model_query.specs.declared.item.Item.{Item}
+use Rattle.spec_history.specs.History.{changes_of, ids_at, is_kind, live_object, state_at}
+use Rattle.spec_history.specs.Pages.{is_in}
+use Rattle.spec_history.specs.declared.entry.Change.{Change}
+use Rattle.spec_history.specs.declared.entry.Entry.{Entry}
+use Rattle.spec_history.specs.declared.entry.Kind.TheVariants.{Event}
+use Rattle.spec_json.specs.InOrder.{in_order, put_in}
+use Rattle.spec_json.specs.declared.tree.Tree.{Tree}
+use Rattle.spec_queries.specs.Changed.{delta_since}
+use Rattle.spec_queries.specs.Matching.{match_of, matches, of_events, result_at, result_of, touched_since, with_number}
+use Rattle.spec_queries.specs.QueryChanges.{delta_of, indexed}
+use Rattle.spec_queries.specs.Results.{numbers_at, places}
+use Rattle.spec_queries.specs.declared.comparator.Comparator.{Comparator}
+use Rattle.spec_queries.specs.declared.item.Item.{Item}
 use Rattle.query_methods.specs.Among.{matches_among, number_if, result_among}
 use Rattle.query_order.proofs.Histories.{matches_of_events, none_kept, results_agree}
 use Rattle.query_order.proofs.Places.{named_places}

@@ -1,12 +1,12 @@
 -- Events that a filter is known not to hold of by their series.
 use Rattle.std.proofs.Common.{◌≡◌, ◌∙◌, List, ℕ, Option, false, sym}
 use Rattle.std.specs.Prelude.{unwrap_or}
-use Rattle.model_filter.specs.Matches.{event_matches, matches_by}
-use Rattle.model_json.specs.Data.{Data}
-use Rattle.model_recurrence.specs.SeriesOf.{series_in}
-use Rattle.model_series.specs.declared.series.Series.{Series}
-use Rattle.model_site.specs.TimeZones.{ZoneText}
-use Rattle.model_window.specs.ZoneRules.{rule_of, rule_of_event, utc_rule}
+use Rattle.spec_filters.specs.Matches.{event_matches, matches_by}
+use Rattle.spec_json.specs.Data.{Data}
+use Rattle.spec_recurrence.specs.SeriesOf.{series_in}
+use Rattle.spec_series.specs.declared.series.Series.{Series}
+use Rattle.spec_site.specs.TimeZones.{ZoneText}
+use Rattle.spec_windows.specs.ZoneRules.{rule_of, rule_of_event, utc_rule}
 use Rattle.query_filter.specs.InZone.{FilterInZone}
 use Rattle.query_filter.specs.Refusals.{IsForNoneOf}
 

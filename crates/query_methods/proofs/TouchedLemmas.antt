@@ -4,10 +4,10 @@ use Rattle.std.proofs.Math.Seq.{drop-append_seam}
 use Rattle.std.proofs.lemmas.List.{take-append-drop, take_rest}
 use Rattle.std.proofs.lemmas.List.Elements.{filter-append}
 use Rattle.std.proofs.lemmas.List.Filters.{length-filter_more}
-use Rattle.model_history.specs.History.{changes_of, is_kind}
-use Rattle.model_history.specs.declared.entry.Entry.{Entry}
-use Rattle.model_history.specs.declared.entry.Kind.TheVariants.{Event}
-use Rattle.model_query.specs.Matching.{of_events, touched_by, touched_since}
+use Rattle.spec_history.specs.History.{changes_of, is_kind}
+use Rattle.spec_history.specs.declared.entry.Entry.{Entry}
+use Rattle.spec_history.specs.declared.entry.Kind.TheVariants.{Event}
+use Rattle.spec_queries.specs.Matching.{of_events, touched_by, touched_since}
 
 abbrev pub is_of_event : Entry → Bool
 is_of_event e = is_kind Event e.change.kind

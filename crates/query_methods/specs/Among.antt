@@ -1,13 +1,13 @@
 -- Results of queries that look at some events alone.
 use Rattle.std.specs.Prelude.{ℕ, List, [], ◌∷◌, Bool, Option, flat_map, map, if◌then◌else◌}
-use Rattle.model_history.specs.History.{live_object}
-use Rattle.model_history.specs.declared.entry.Change.{Change}
-use Rattle.model_history.specs.declared.entry.Kind.TheVariants.{Event}
-use Rattle.model_json.specs.declared.tree.Tree.{Tree}
-use Rattle.model_query.specs.Matching.{match_of}
-use Rattle.model_query.specs.Results.{numbers_at, places}
-use Rattle.model_query.specs.declared.comparator.Comparator.{Comparator}
-use Rattle.model_query.specs.declared.item.Item.{Item}
+use Rattle.spec_history.specs.History.{live_object}
+use Rattle.spec_history.specs.declared.entry.Change.{Change}
+use Rattle.spec_history.specs.declared.entry.Kind.TheVariants.{Event}
+use Rattle.spec_json.specs.declared.tree.Tree.{Tree}
+use Rattle.spec_queries.specs.Matching.{match_of}
+use Rattle.spec_queries.specs.Results.{numbers_at, places}
+use Rattle.spec_queries.specs.declared.comparator.Comparator.{Comparator}
+use Rattle.spec_queries.specs.declared.item.Item.{Item}
 
 -- those of these events that are live and of which the filter holds, each with its item
 abbrev pub matches_among : (Tree → Option Item) → List Change → List ℕ → List (ℕ × Item)

@@ -1,8 +1,8 @@
 -- What comes of reading the filter of a query.
 use Rattle.std.specs.Prelude.{◌≡◌, Bool, true, false, Result, Ok, Err}
-use Rattle.model_filter.specs.Filters.{is_bad_filter}
-use Rattle.model_json.specs.Data.{Data}
-use Rattle.model_queries.specs.Criteria.{lacks_support}
+use Rattle.spec_filters.specs.Filters.{is_bad_filter}
+use Rattle.spec_json.specs.Data.{Data}
+use Rattle.spec_queries.specs.Criteria.{lacks_support}
 use Rattle.query_filter.specs.declared.filter.FilterError.{FilterError}
 use Rattle.query_filter.specs.declared.filter.FilterError.TheVariants.{Bad, Unsupported, NoMemory}
 

@@ -1,6 +1,6 @@
 -- What a `QueryError` says of why a call is refused.
 use Rattle.std.specs.Prelude.{◌≡◌, Option, Some}
-use Rattle.model_call.specs.declared.call.MethodError.{MethodError}
+use Rattle.spec_calls.specs.declared.call.MethodError.{MethodError}
 use Rattle.query_methods.specs.declared.error.QueryError.{QueryError}
 use Rattle.query_methods.specs.declared.error.QueryError.TheVariants.{Method, NoMemory}
 

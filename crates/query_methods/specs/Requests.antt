@@ -1,7 +1,7 @@
 -- What a query asks, by what the code has of it.
-use Rattle.model_queries.specs.Changed.{Since as SinceAsked}
-use Rattle.model_queries.specs.Criteria.{Criteria as CriteriaAsked}
-use Rattle.model_queries.specs.Found.{Paging as PagingAsked}
+use Rattle.spec_queries.specs.Changed.{Since as SinceAsked}
+use Rattle.spec_queries.specs.Criteria.{Criteria as CriteriaAsked}
+use Rattle.spec_queries.specs.Found.{Paging as PagingAsked}
 use Rattle.query_methods.specs.declared.request.Criteria.{Criteria}
 use Rattle.query_methods.specs.declared.request.Paging.{Paging}
 use Rattle.query_methods.specs.declared.request.Since.{Since}

@@ -1,7 +1,7 @@
 //! Which events a query asks for, and in which order.
 ghost use Rattle.std.specs.Prelude.{◌≡◌, IfErr, IfOk, OnOk, None, false};
-ghost use Rattle.model_queries.specs.Criteria.{asks_window, criteria_refusal, filter_or_all, order_of, sight_of, sort_or_none, terms_refusal};
-ghost use Rattle.model_query.specs.Sorts.{by_comparators, sort_in};
+ghost use Rattle.spec_queries.specs.Criteria.{asks_window, criteria_refusal, filter_or_all, order_of, sight_of, sort_or_none, terms_refusal};
+ghost use Rattle.spec_queries.specs.Sorts.{by_comparators, sort_in};
 ghost use Rattle.query_methods.specs.FilterSights.{seen_by};
 ghost use Rattle.query_methods.specs.Reports.{Reports};
 ghost use Rattle.query_methods.specs.ReadFor.{IsReadFor};
@@ -11,9 +11,9 @@ ghost use Rattle.query_order.specs.Reports.{Reports as ReportsSort};
 use crate::error::QueryError;
 use crate::filter_sight::FilterSight;
 use crate::request::Criteria;
-use model_call::call::MethodError;
-use model_json::tree::{Tree, TreeObject};
-use model_queries::limits::MAX_EXPANDED_SECONDS;
+use spec_calls::call::MethodError;
+use spec_json::tree::{Tree, TreeObject};
+use spec_queries::limits::MAX_EXPANDED_SECONDS;
 use query_filter::{Filter, FilterError};
 use query_order::order::Order;
 use query_order::sort_argument::SortError;

@@ -1,6 +1,6 @@
 //! Why queries aren't answered.
 
-use model_call::call::MethodError;
+use spec_calls::call::MethodError;
 use std::alloc::{AllocError, AllocFailed};
 
 /// Why a query, or a call for what changed of its result, isn't answered.

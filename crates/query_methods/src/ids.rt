@@ -1,12 +1,12 @@
 //! Numbers and ids as replies tell them.
 ghost use Rattle.std.specs.Prelude.{◌≡◌, IfOk, pos};
-ghost use Rattle.model_json.specs.TreeData.{data_of};
-ghost use Rattle.model_json.specs.declared.tree.Tree.TheVariants.{Whole as whole_tree};
-ghost use Rattle.model_queries.specs.States.{id_list};
+ghost use Rattle.spec_json.specs.TreeData.{data_of};
+ghost use Rattle.spec_json.specs.declared.tree.Tree.TheVariants.{Whole as whole_tree};
+ghost use Rattle.spec_queries.specs.States.{id_list};
 
-use model_history::entry::Kind;
-use model_json::num::Num;
-use model_json::tree::{Tree, TreeList};
+use spec_history::entry::Kind;
+use spec_json::num::Num;
+use spec_json::tree::{Tree, TreeList};
 use std::alloc::{AllocError, Global};
 use time_text::object_id_text;
 

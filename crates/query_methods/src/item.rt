@@ -1,13 +1,13 @@
 //! What comparators see of an event.
 ghost use Rattle.std.specs.Prelude.{◌≡◌, IfOk, option_and_then};
-ghost use Rattle.model_json.specs.Parts.{text_at};
-ghost use Rattle.model_json.specs.TreeData.{data_of};
-ghost use Rattle.model_queries.specs.Items.{item_of, utc_moment, start_instant, text_or_empty};
-ghost use Rattle.model_time.specs.LocalTimes.{utc_in};
+ghost use Rattle.spec_json.specs.Parts.{text_at};
+ghost use Rattle.spec_json.specs.TreeData.{data_of};
+ghost use Rattle.spec_queries.specs.Items.{item_of, utc_moment, start_instant, text_or_empty};
+ghost use Rattle.spec_time.specs.LocalTimes.{utc_in};
 
-use model_json::text::Text;
-use model_json::tree::Tree;
-use model_query::item::Item;
+use spec_json::text::Text;
+use spec_json::tree::Tree;
+use spec_queries::item::Item;
 use single_event::parts::start_of;
 use std::alloc::{AllocError, Global};
 use time_text::read_utc;

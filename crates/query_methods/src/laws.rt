@@ -1,11 +1,11 @@
 //! The law of what changed of a query's result, the contract of a function that does nothing.
 ghost use Rattle.std.specs.Prelude.{◌≡◌, ℕ, List};
-ghost use Rattle.model_history.specs.declared.entry.Change.{Change};
-ghost use Rattle.model_queries.specs.Changed.{delta_since};
-ghost use Rattle.model_queries.specs.Criteria.{Criteria, order_of, sight_of};
-ghost use Rattle.model_query.specs.Matching.{result_at, result_of};
-ghost use Rattle.model_query.specs.QueryChanges.{spliced};
-ghost use Rattle.model_site.specs.TimeZones.{ZoneText};
+ghost use Rattle.spec_history.specs.declared.entry.Change.{Change};
+ghost use Rattle.spec_queries.specs.Changed.{delta_since};
+ghost use Rattle.spec_queries.specs.Criteria.{Criteria, order_of, sight_of};
+ghost use Rattle.spec_queries.specs.Matching.{result_at, result_of};
+ghost use Rattle.spec_queries.specs.QueryChanges.{spliced};
+ghost use Rattle.spec_site.specs.TimeZones.{ZoneText};
 
 /// Who holds the ids that a query found at a state, and applies what `query_changes` tells since, holds those that it finds now
 /// (RFC 8620 section 5.6).

@@ -1,15 +1,15 @@
 //! The numbers that requests give.
 ghost use Rattle.std.specs.Prelude.{◌≡◌, true};
 ghost use Rattle.std.specs.Option.{option_map_or};
-ghost use Rattle.model_queries.specs.Queries.{is_int, is_paging};
-ghost use Rattle.model_queries.specs.States.{is_maximum};
-ghost use Rattle.model_json.specs.Data.{whole};
+ghost use Rattle.spec_queries.specs.Queries.{is_int, is_paging};
+ghost use Rattle.spec_queries.specs.States.{is_maximum};
+ghost use Rattle.spec_json.specs.Data.{whole};
 ghost use Rattle.property_table.specs.Values.{is_unsigned_int};
 ghost use Rattle.query_methods.specs.Requests.{paging_in};
 
 use crate::request::Paging;
-use model_core::numbers::MAX_UNSIGNED_INT;
-use model_json::num::Num;
+use spec_core::numbers::MAX_UNSIGNED_INT;
+use spec_json::num::Num;
 
 /// Whether positions and offsets are Ints, and the limit is an UnsignedInt (RFC 8620 section 1.3). Takes no memory.
 pub fn is_paging(paging: &Paging<'_>) -> bool

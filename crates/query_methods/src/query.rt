@@ -1,8 +1,8 @@
 //! `CalendarEvent/query` (RFC 8620 section 5.5, draft JMAP for Calendars).
 ghost use Rattle.std.specs.Prelude.{◌≡◌, IfErr, IfOk, OnOk, None, false};
 ghost use Rattle.account_store.specs.Store.{entries};
-ghost use Rattle.model_history.specs.History.{changes_of};
-ghost use Rattle.model_queries.specs.Queries.{query_refusal, query_response};
+ghost use Rattle.spec_history.specs.History.{changes_of};
+ghost use Rattle.spec_queries.specs.Queries.{query_refusal, query_response};
 ghost use Rattle.query_methods.specs.Reports.{Reports};
 ghost use Rattle.query_methods.specs.Requests.{criteria_in, paging_in};
 
@@ -12,9 +12,9 @@ use crate::found::found;
 use crate::numbers::is_paging;
 use crate::request::{Criteria, Paging};
 use event_store::StoredEvents;
-use model_call::call::MethodError;
-use model_json::text::Text;
-use model_json::tree::Tree;
+use spec_calls::call::MethodError;
+use spec_json::text::Text;
+use spec_json::tree::Tree;
 use std::alloc::Global;
 
 /// The arguments of the reply to a query of the events of an account, each a result. `Method` tells why it is refused.

@@ -1,8 +1,8 @@
 //! What a query asks, and a call for what changed of its result.
 
-use model_json::num::Num;
-use model_json::text::Text;
-use model_json::tree::Tree;
+use spec_json::num::Num;
+use spec_json::text::Text;
+use spec_json::tree::Tree;
 
 /// Which events a query asks for, and in which order (RFC 8620 section 5.5).
 #[derive(Drop)]

@@ -2,16 +2,16 @@
 ghost use Rattle.std.specs.Prelude.{◌≡◌, IfOk, filter, length, map};
 ghost use Rattle.account_store.specs.Earlier.{changes_up_to};
 ghost use Rattle.account_store.specs.Store.{entries};
-ghost use Rattle.model_history.specs.History.{changes_of, live_object};
-ghost use Rattle.model_history.specs.Pages.{is_in};
-ghost use Rattle.model_history.specs.declared.entry.Kind.TheVariants.{Event};
-ghost use Rattle.model_query.specs.Matching.{match_of, result_at, result_of, with_number};
+ghost use Rattle.spec_history.specs.History.{changes_of, live_object};
+ghost use Rattle.spec_history.specs.Pages.{is_in};
+ghost use Rattle.spec_history.specs.declared.entry.Kind.TheVariants.{Event};
+ghost use Rattle.spec_queries.specs.Matching.{match_of, result_at, result_of, with_number};
 ghost use Rattle.query_methods.specs.Among.{matches_among, number_if, result_among};
 
 use crate::sight::Sight;
 use event_store::StoredEvents;
-use model_history::entry::Kind;
-use model_query::item::Item;
+use spec_history::entry::Kind;
+use spec_queries::item::Item;
 use query_order::change::numbers_among;
 use query_order::order::Order;
 use query_order::result::{numbers_at, result};

@@ -1,12 +1,12 @@
 //! What queries see of events.
 ghost use Rattle.std.specs.Prelude.{◌≡◌, IfOk, List, Option, is_some};
 ghost use Rattle.event_store.specs.StoredEvents.{HasItsSeries};
-ghost use Rattle.model_json.specs.declared.tree.Tree.{Tree as AnyTree};
-ghost use Rattle.model_query.specs.declared.item.Item.{Item as AnyItem};
-ghost use Rattle.model_site.specs.TimeZones.{ZoneText};
+ghost use Rattle.spec_json.specs.declared.tree.Tree.{Tree as AnyTree};
+ghost use Rattle.spec_queries.specs.declared.item.Item.{Item as AnyItem};
+ghost use Rattle.spec_site.specs.TimeZones.{ZoneText};
 
 use event_store::StoredEvent;
-use model_query::item::Item;
+use spec_queries::item::Item;
 use std::alloc::{AllocError, Global};
 
 /// What a query sees of events: which its filter holds of, and by what they are compared.

@@ -1,9 +1,9 @@
 //! The events that were touched since a state.
 ghost use Rattle.std.specs.Prelude.{◌≡◌, ◌≤◌, IfOk, drop, length};
-ghost use Rattle.model_history.specs.History.{changes_of};
-ghost use Rattle.model_query.specs.Matching.{of_events, touched_by, touched_since};
+ghost use Rattle.spec_history.specs.History.{changes_of};
+ghost use Rattle.spec_queries.specs.Matching.{of_events, touched_by, touched_since};
 
-use model_history::entry::{Entry, Kind};
+use spec_history::entry::{Entry, Kind};
 use std::alloc::{AllocError, Global};
 
 /// The numbers of the events that entries name after the state `state` of events, where now is the state `count`. One that several

@@ -4,19 +4,19 @@ use Rattle.std.proofs.lemmas.Bool.{cond_both}
 use Rattle.std.proofs.lemmas.Cmp.{nat_eq_equiv}
 use Rattle.std.proofs.lemmas.List.Elements.{filter-append}
 use Rattle.std.specs.List.{list_any}
-use Rattle.model_history.specs.declared.entry.Change.{Change}
-use Rattle.model_history.specs.declared.entry.Kind.TheVariants.{Event}
-use Rattle.model_json.specs.declared.tree.Tree.{Tree}
-use Rattle.model_history.specs.History.{is_kind, names, object_from, live_object, with_id, ids_from, ids_at}
-use Rattle.model_query.specs.declared.item.Item.{Item}
-use Rattle.model_query.specs.declared.comparator.Comparator.{Comparator}
-use Rattle.model_json.specs.InOrder.{in_order}
+use Rattle.spec_history.specs.declared.entry.Change.{Change}
+use Rattle.spec_history.specs.declared.entry.Kind.TheVariants.{Event}
+use Rattle.spec_json.specs.declared.tree.Tree.{Tree}
+use Rattle.spec_history.specs.History.{is_kind, names, object_from, live_object, with_id, ids_from, ids_at}
+use Rattle.spec_queries.specs.declared.item.Item.{Item}
+use Rattle.spec_queries.specs.declared.comparator.Comparator.{Comparator}
+use Rattle.spec_json.specs.InOrder.{in_order}
 use Rattle.query_order.specs.Ordered.{by_item, ordered_numbers}
-use Rattle.model_history.specs.Pages.{is_in}
-use Rattle.model_query.specs.QueryChangesLead.{Lead, StandAlike}
-use Rattle.model_query.specs.Matching.{with_number, match_of, matches, touched_by, of_events, result_of, result_at, touched_since}
+use Rattle.spec_history.specs.Pages.{is_in}
+use Rattle.spec_queries.specs.QueryChangesLead.{Lead, StandAlike}
+use Rattle.spec_queries.specs.Matching.{with_number, match_of, matches, touched_by, of_events, result_of, result_at, touched_since}
 use Rattle.query_order.proofs.TotalOrders.{by_all_ranks}
-use Rattle.model_json.proofs.InOrderLemmas.{in_order_filter}
+use Rattle.spec_json.proofs.InOrderLemmas.{in_order_filter}
 use Rattle.query_order.proofs.Places.{named_places}
 use Rattle.query_order.proofs.Splicing.{change_leads, or_right}
 

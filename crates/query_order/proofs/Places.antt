@@ -1,14 +1,14 @@
 -- A list put in order is the result.
 use Rattle.std.proofs.Common.{◌≡◌, ℕ, zero, suc, ◌+◌, ◌<◌, ◌≤◌, List, [], ◌∷◌, ◌++◌, All, map, length, get_or, refl, ap, sym, ◌∙◌, arith, append_assoc, length-append, subst₂, IsPermutation}
 use Rattle.std.specs.List.{enumerate_from, range_with_len}
-use Rattle.model_query.specs.declared.item.Item.{Item}
-use Rattle.model_query.specs.declared.comparator.Comparator.{Comparator}
-use Rattle.model_query.specs.Comparing.{by_all}
-use Rattle.model_query.specs.Results.{places, numbers_at}
+use Rattle.spec_queries.specs.declared.item.Item.{Item}
+use Rattle.spec_queries.specs.declared.comparator.Comparator.{Comparator}
+use Rattle.spec_queries.specs.Comparing.{by_all}
+use Rattle.spec_queries.specs.Results.{places, numbers_at}
 use Rattle.query_order.specs.Ordered.{by_item, ordered, ordered_numbers}
 use Rattle.std.proofs.lemmas.List.Elements.{All-nil, All-cons}
 use Rattle.std.proofs.lemmas.List.Sorted.{All-permutation, IsPermutation-map}
-use Rattle.model_json.proofs.InOrderLemmas.{in_order_map}
+use Rattle.spec_json.proofs.InOrderLemmas.{in_order_map}
 use Rattle.query_order.proofs.TotalOrders.{by_all_total}
 use Rattle.query_order.proofs.Ranks.{shuffled_in_order}
 use Rattle.query_order.proofs.Rankings.{by_count_is, rising_from}

@@ -9,7 +9,7 @@ use Rattle.std.proofs.lemmas.Bool.{cond_both}
 use Rattle.std.proofs.lemmas.Cmp.{nat_cmp_total, on_total, then_total, tied_itself}
 use Rattle.std.proofs.lemmas.List.Sorted.{IsPermutation-refl, IsPermutation-trans, IsPermutation-cons, IsPermutation-middle}
 use Rattle.std.proofs.Common.{lt-ltb}
-use Rattle.model_json.specs.InOrder.{put_in, in_order}
+use Rattle.spec_json.specs.InOrder.{put_in, in_order}
 
 lesser : (a b : ℕ) → a < b → nat_cmp a b ≡ Less
 lesser a b h = ap (λ t. cond t Less (cond (nat_eq a b) Equal Greater)) (lt-ltb a b h)

@@ -2,10 +2,10 @@
 use Rattle.std.proofs.Common.{◌≡◌, ℕ, ◌+◌, ◌<◌, ◌≤◌, ◌==◌, List, [], ◌∷◌, ◌++◌, Bool, true, false, true≢false, cond, not, ◌&&◌, ◌||◌, length, filter, min, insert, refl, sym, ap, ◌∙◌, arith, append_assoc, append-nil, length-append}
 use Rattle.std.proofs.Common.{eqb-true, eq-eqb}
 use Rattle.std.proofs.lemmas.List.Edits.{insert-append_left, insert_end}
-use Rattle.model_query.specs.declared.delta.Place.{Place}
-use Rattle.model_history.specs.Pages.{is_in}
-use Rattle.model_query.specs.QueryChanges.{indexed, with_places}
-use Rattle.model_query.specs.QueryChangesLead.{Lead, StandAlike}
+use Rattle.spec_queries.specs.declared.delta.Place.{Place}
+use Rattle.spec_history.specs.Pages.{is_in}
+use Rattle.spec_queries.specs.QueryChanges.{indexed, with_places}
+use Rattle.spec_queries.specs.QueryChangesLead.{Lead, StandAlike}
 
 -- what goes in before all that is left
 put_front : (ids rest : List ℕ) (index id : ℕ) → (0 < length rest → index ≤ length ids) → insert (ids ++ rest) (min index (length (ids ++ rest))) id ≡ insert ids (min index (length ids)) id ++ rest

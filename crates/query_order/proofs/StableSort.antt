@@ -6,11 +6,11 @@ use Rattle.std.specs.Fn.{Called}
 use Rattle.std.specs.List.Sorted.{IsSortedByClosure, IsStableByClosure}
 use Rattle.std.specs.declared.cmp.Ordering.{Ordering}
 use Rattle.std.specs.Ordering.{is_lt}
-use Rattle.model_json.specs.InOrder.{in_order}
-use Rattle.model_json.proofs.InOrderLemmas.{sorted_in_order}
-use Rattle.model_query.specs.declared.item.Item.{Item}
-use Rattle.model_query.specs.declared.comparator.Comparator.{Comparator}
-use Rattle.model_query.specs.Comparing.{by_all}
+use Rattle.spec_json.specs.InOrder.{in_order}
+use Rattle.spec_json.proofs.InOrderLemmas.{sorted_in_order}
+use Rattle.spec_queries.specs.declared.item.Item.{Item}
+use Rattle.spec_queries.specs.declared.comparator.Comparator.{Comparator}
+use Rattle.spec_queries.specs.Comparing.{by_all}
 use Rattle.query_order.specs.Ordered.{by_item}
 use Rattle.query_order.specs.Numbered.{numbered_item}
 use Rattle.query_order.proofs.TotalOrders.{by_all_ranks}

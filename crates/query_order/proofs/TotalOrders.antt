@@ -5,11 +5,11 @@ use Rattle.std.specs.Ordering.{is_lt}
 use Rattle.std.specs.declared.cmp.Ordering.TheVariants.{Equal}
 use Rattle.std.proofs.lemmas.Cmp.{int_cmp_total, nat_list_cmp_total, on_total, then_total, back_total}
 use Rattle.std.proofs.lemmas.List.Sorted.{ranks_by}
-use Rattle.model_query.specs.declared.item.Item.{Item}
-use Rattle.model_query.specs.declared.comparator.Property.{Property}
-use Rattle.model_query.specs.declared.comparator.Property.TheVariants.{Start, Uid, Title, Created, Updated}
-use Rattle.model_query.specs.declared.comparator.Comparator.{Comparator}
-use Rattle.model_query.specs.Comparing.{by_property, by_all}
+use Rattle.spec_queries.specs.declared.item.Item.{Item}
+use Rattle.spec_queries.specs.declared.comparator.Property.{Property}
+use Rattle.spec_queries.specs.declared.comparator.Property.TheVariants.{Start, Uid, Title, Created, Updated}
+use Rattle.spec_queries.specs.declared.comparator.Comparator.{Comparator}
+use Rattle.spec_queries.specs.Comparing.{by_property, by_all}
 
 by_property_total : (p : Property) → IsTotalOrder (by_property p)
 by_property_total Start = on_total (λ i. i.start) int_cmp_total

@@ -1,10 +1,10 @@
 -- Numbered items put in order by the comparators of a query.
 use Rattle.std.specs.Prelude.{ℕ, map, List, Bool}
 use Rattle.std.specs.Ordering.{is_lt}
-use Rattle.model_json.specs.InOrder.{in_order}
-use Rattle.model_query.specs.declared.item.Item.{Item}
-use Rattle.model_query.specs.declared.comparator.Comparator.{Comparator}
-use Rattle.model_query.specs.Comparing.{by_all}
+use Rattle.spec_json.specs.InOrder.{in_order}
+use Rattle.spec_queries.specs.declared.item.Item.{Item}
+use Rattle.spec_queries.specs.declared.comparator.Comparator.{Comparator}
+use Rattle.spec_queries.specs.Comparing.{by_all}
 
 -- by the items alone, whatever number stands beside each
 abbrev pub by_item : List Comparator → ℕ × Item → ℕ × Item → Bool

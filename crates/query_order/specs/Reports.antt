@@ -1,6 +1,6 @@
 -- What a refusal says of a sort.
 use Rattle.std.specs.Prelude.{◌≡◌}
-use Rattle.model_query.specs.Sorts.{Sort, bad_sort, unsupported_sort}
+use Rattle.spec_queries.specs.Sorts.{Sort, bad_sort, unsupported_sort}
 use Rattle.query_order.specs.declared.sort_argument.SortError.{SortError}
 use Rattle.query_order.specs.declared.sort_argument.SortError.TheVariants.{BadSort, UnsupportedSort, NoMemory}
 

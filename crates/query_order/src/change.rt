@@ -1,11 +1,11 @@
 //! What leads from one result of a query to a later one, and how it is applied.
 ghost use Rattle.std.specs.Prelude.{◌≡◌, ◌≤◌, ◌<◌, ◌++◌, IfOk, filter, not, length, drop};
 ghost use Rattle.std.specs.List.Sorted.{IsNonDecreasing};
-ghost use Rattle.model_history.specs.Pages.{is_in};
-ghost use Rattle.model_query.specs.QueryChanges.{delta_of, spliced, indexed, with_places};
+ghost use Rattle.spec_history.specs.Pages.{is_in};
+ghost use Rattle.spec_queries.specs.QueryChanges.{delta_of, spliced, indexed, with_places};
 
-use model_history::ids::Ids;
-use model_query::delta::{Delta, Place, Places};
+use spec_history::ids::Ids;
+use spec_queries::delta::{Delta, Place, Places};
 use std::alloc::{AllocError, Global};
 
 /// The touched numbers of the old result, in its order, and those of the new one with their indexes, lowest first (RFC 8620 section 5.6).

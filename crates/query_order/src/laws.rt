@@ -1,15 +1,15 @@
 //! Laws of results and of their changes.
 ghost use Rattle.std.specs.Prelude.{Option, ℕ, length, IsPermutation};
 ghost use Rattle.std.specs.List.{range_with_len};
-ghost use Rattle.model_json.specs.declared.tree.Tree.{Tree as AnyTree};
-ghost use Rattle.model_query.specs.declared.item.Item.{Item as AnyItem};
-ghost use Rattle.model_query.specs.Matching.{result_at, result_of, touched_since};
-ghost use Rattle.model_query.specs.QueryChangesLead.{Lead, StandAlike};
-ghost use Rattle.model_query.specs.Results.{places};
+ghost use Rattle.spec_json.specs.declared.tree.Tree.{Tree as AnyTree};
+ghost use Rattle.spec_queries.specs.declared.item.Item.{Item as AnyItem};
+ghost use Rattle.spec_queries.specs.Matching.{result_at, result_of, touched_since};
+ghost use Rattle.spec_queries.specs.QueryChangesLead.{Lead, StandAlike};
+ghost use Rattle.spec_queries.specs.Results.{places};
 
 use crate::order::Order;
-use model_history::entry::Change;
-use model_query::item::Item;
+use spec_history::entry::Change;
+use spec_queries::item::Item;
 
 /// Each item has one place in a result.
 pub fn each_item_has_a_place(items: &[Item], order: &Order)

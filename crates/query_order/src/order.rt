@@ -1,9 +1,9 @@
 //! Orders of a query's result.
 ghost use Rattle.std.specs.Prelude.{◌≡◌, ◌≤◌, ◌↔◌, [], IsTrue, length};
-ghost use Rattle.model_query.specs.Comparing.{by_property, by_comparator, by_all};
+ghost use Rattle.spec_queries.specs.Comparing.{by_property, by_comparator, by_all};
 
-use model_query::comparator::{Comparator, MOST_COMPARATORS, Property};
-use model_query::item::Item;
+use spec_queries::comparator::{Comparator, MOST_COMPARATORS, Property};
+use spec_queries::item::Item;
 use std::cmp::Ordering;
 use std::marker::Model;
 
@@ -15,8 +15,8 @@ pub struct Order {
 
 impl Model for Order {
     ghost use Rattle.std.specs.Prelude.{List, ◌≤◌, length};
-    ghost use Rattle.model_query.specs.declared.comparator.Comparator.{Comparator};
-    ghost use Rattle.model_query.specs.declared.comparator.TheConstants.{MOST_COMPARATORS};
+    ghost use Rattle.spec_queries.specs.declared.comparator.Comparator.{Comparator};
+    ghost use Rattle.spec_queries.specs.declared.comparator.TheConstants.{MOST_COMPARATORS};
 
     ghost Value = { List Comparator };
 

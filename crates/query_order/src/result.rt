@@ -1,14 +1,14 @@
 //! Results of queries.
 ghost use Rattle.std.specs.Prelude.{◌≡◌, ◌<◌, All, length, IfOk, OnOk, map};
 ghost use Rattle.std.specs.List.{enumerate_from};
-ghost use Rattle.model_query.specs.Results.{places, numbers_at};
-ghost use Rattle.model_json.specs.InOrder.{in_order};
+ghost use Rattle.spec_queries.specs.Results.{places, numbers_at};
+ghost use Rattle.spec_json.specs.InOrder.{in_order};
 ghost use Rattle.query_order.specs.Ordered.{by_item};
 ghost use Rattle.query_order.specs.Numbered.{numbered_item};
 
 use crate::order::Order;
-use model_history::ids::Ids;
-use model_query::item::Item;
+use spec_history::ids::Ids;
+use spec_queries::item::Item;
 use std::alloc::{AllocError, Global};
 
 /// The places of the items in the list, from 0, in the order of the result; items that no comparator tells apart stay in the list's own

@@ -1,16 +1,16 @@
 //! Orders as requests ask for them.
 ghost use Rattle.std.specs.Prelude.{◌≡◌, ◌≤◌, IfErr, IfOk, IfSome, length, map, option_map};
 ghost use Rattle.std.specs.List.{list_all};
-ghost use Rattle.model_json.specs.Parts.{all_some};
-ghost use Rattle.model_json.specs.TreeData.{data_of};
-ghost use Rattle.model_query.specs.Sorts.{by_comparators, comparator_in, is_ascending, is_comparator, is_octet, property_in, property_named, sort_in, sort_items};
+ghost use Rattle.spec_json.specs.Parts.{all_some};
+ghost use Rattle.spec_json.specs.TreeData.{data_of};
+ghost use Rattle.spec_queries.specs.Sorts.{by_comparators, comparator_in, is_ascending, is_comparator, is_octet, property_in, property_named, sort_in, sort_items};
 ghost use Rattle.query_order.specs.Reports.{Reports};
 ghost use Rattle.query_order.specs.declared.sort_argument.SortError.TheVariants.{NoMemory};
 
 use crate::order::Order;
-use model_json::text::Text;
-use model_json::tree::Tree;
-use model_query::comparator::{Comparator, MOST_COMPARATORS, Property};
+use spec_json::text::Text;
+use spec_json::tree::Tree;
+use spec_queries::comparator::{Comparator, MOST_COMPARATORS, Property};
 use std::alloc::{AllocError, AllocFailed, Global};
 
 /// Why there is no order.
@@ -61,7 +61,7 @@ impl Order {
     }
 }
 
-#[tactic(auto, using(model_json::specs::Data::items_back))]
+#[tactic(auto, using(spec_json::specs::Data::items_back))]
 fn sort_items(tree: &Tree) -> Option<&[Tree]>
     ensures { option_map (λ items. map data_of items.now) result ≡ sort_items (data_of tree.now) }
 {

@@ -1,8 +1,8 @@
 //! Windows of a query's result.
 ghost use Rattle.std.specs.Prelude.{◌≡◌, ◌<ℤ◌, ◌^◌, pos};
-ghost use Rattle.model_query.specs.Windows.{IsInMemory, from_position, start_of, cut_at, window_of};
+ghost use Rattle.spec_queries.specs.Windows.{IsInMemory, from_position, start_of, cut_at, window_of};
 
-use model_query::window::{Anchor, Cut};
+use spec_queries::window::{Anchor, Cut};
 use std::cmp::{max, min};
 
 /// The part of a result of `len` items that a query asks for (RFC 8620 section 5.5): `offset` counts from the anchor, `position` without

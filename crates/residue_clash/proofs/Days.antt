@@ -6,15 +6,15 @@ use Rattle.std.proofs.lemmas.Option.{same_Some, slice_get_within}
 use Rattle.std.proofs.lemmas.Bool.Decides.{Decides-int_eq}
 use Rattle.jiff_core.proofs.SignedLemmas.{signed_arith}
 use borrow.Author.Tests.{eqb-true}
-use Rattle.model_series.specs.declared.exception.Span.{Span}
-use Rattle.model_series.specs.declared.occurrence.Occurrence.{Occurrence}
-use Rattle.model_series.specs.declared.rule.Rule.{Rule}
-use Rattle.model_series.specs.declared.series.Series.{Series}
-use Rattle.model_time.specs.Walls.{day_of_wall, second_of_wall, wall_at}
-use Rattle.model_series.specs.Periods.{is_in_phase}
-use Rattle.model_series.specs.RuleSets.{is_kept, is_in_set}
-use Rattle.model_series.specs.Occurrences.{is_day, IsOccurrence, Covers}
-use Rattle.model_series.specs.Shared.{IsShared, IsSelfShared}
+use Rattle.spec_series.specs.declared.exception.Span.{Span}
+use Rattle.spec_series.specs.declared.occurrence.Occurrence.{Occurrence}
+use Rattle.spec_series.specs.declared.rule.Rule.{Rule}
+use Rattle.spec_series.specs.declared.series.Series.{Series}
+use Rattle.spec_time.specs.Walls.{day_of_wall, second_of_wall, wall_at}
+use Rattle.spec_series.specs.Periods.{is_in_phase}
+use Rattle.spec_series.specs.RuleSets.{is_kept, is_in_set}
+use Rattle.spec_series.specs.Occurrences.{is_day, IsOccurrence, Covers}
+use Rattle.spec_series.specs.Shared.{IsShared, IsSelfShared}
 use Rattle.rule_expand.specs.Least.{IsLeastOf}
 use Rattle.rule_expand.proofs.Least.{same-least}
 use Rattle.rule_expand.proofs.Places.{and_both, false_true}

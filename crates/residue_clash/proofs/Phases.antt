@@ -3,19 +3,19 @@ use Rattle.std.proofs.Common.{◌≡◌, inl, inr, ◌==◌, ◌&&◌, ℕ, ◌*
 use Rattle.std.specs.Int.{int_rem_euclid}
 use Rattle.std.proofs.Math.IntN.{*ℤ_comm, pos-*ℤ-pos}
 use borrow.Author.Tests.{eqb-true}
-use Rattle.model_time.specs.Floor.{modulo}
+use Rattle.spec_time.specs.Floor.{modulo}
 use Rattle.jiff_core.proofs.SignedLemmas.{signed_arith}
-use Rattle.model_series.specs.declared.by_part.Freq.{Freq}
-use Rattle.model_series.specs.declared.by_part.Freq.TheVariants.{Daily, Weekly, Monthly, Yearly}
-use Rattle.model_series.specs.declared.rule.Rule.{Rule}
-use Rattle.model_series.specs.Periods.{period_by, period_number, is_in_phase}
+use Rattle.spec_series.specs.declared.by_part.Freq.{Freq}
+use Rattle.spec_series.specs.declared.by_part.Freq.TheVariants.{Daily, Weekly, Monthly, Yearly}
+use Rattle.spec_series.specs.declared.rule.Rule.{Rule}
+use Rattle.spec_series.specs.Periods.{period_by, period_number, is_in_phase}
 use Rattle.residue_solve.specs.Congruence.{Congruent}
 use Rattle.residue_solve.proofs.IntRing.{sums}
 use Rattle.residue_solve.proofs.CongruenceLemmas.{Congruent-sym, Congruent-trans, Congruent-rem_euclid, Congruent-same_rem_euclid}
 use Rattle.rule_expand.proofs.Next.{period-later}
 use Rattle.rule_expand.proofs.Places.{and_both, false_true}
 use Rattle.rule_expand.proofs.Sets.{or_cases}
-use Rattle.model_series.specs.RuleObjects.{is_empty}
+use Rattle.spec_series.specs.RuleObjects.{is_empty}
 use Rattle.residue_clash.specs.Repeats.{is_up_to_a_week, is_of_weekdays, repeats_after, periods_of_week, periods_after}
 
 rem_is : (x : ℤ) (i : ℕ) → int_rem_euclid x (pos i) ≡ pos (modulo x i)

@@ -1,14 +1,14 @@
 -- The days of a rule's set by its track.
 use Rattle.std.proofs.Common.{◌≡◌, ◌⊎◌, inl, inr, ℤ, true, sym, ◌∙◌, refl}
-use Rattle.model_series.specs.declared.rule.Rule.{Rule}
-use Rattle.model_series.specs.Periods.{is_in_phase}
-use Rattle.model_series.specs.RuleSets.{is_kept, is_due, is_in_set}
-use Rattle.model_time.specs.Walls.{day_of_wall}
+use Rattle.spec_series.specs.declared.rule.Rule.{Rule}
+use Rattle.spec_series.specs.Periods.{is_in_phase}
+use Rattle.spec_series.specs.RuleSets.{is_kept, is_due, is_in_set}
+use Rattle.spec_time.specs.Walls.{day_of_wall}
 use Rattle.rule_expand.specs.Sets.{IsBound, is_up_to}
 use Rattle.rule_expand.specs.declared.bound.Bound.{Bound}
 use Rattle.rule_expand.specs.declared.bound.Bound.TheVariants.{Endless, Last}
 use Rattle.rule_expand.proofs.Sets.{due_day, day_due, int_le_is, is_int_le, by_last_cases, by_last_later, rule_set_by_last}
-use Rattle.model_series.specs.declared.by_part.End.TheVariants.{Never}
+use Rattle.spec_series.specs.declared.by_part.End.TheVariants.{Never}
 use Rattle.residue_clash.specs.Repeats.{limit_of}
 use Rattle.residue_clash.specs.Tracks.{IsUpTo, IsGiven}
 

@@ -2,11 +2,11 @@
 use Rattle.std.proofs.Common.{◌≡◌, ℕ, ℤ, pos, Bool, true, false, ◌&&◌, ◌||◌, ◌==◌, List, [], ◌∷◌, refl, sym, ap, ◌∙◌}
 use Rattle.std.specs.List.{list_any}
 use Rattle.std.specs.Ordering.{int_eq}
-use Rattle.model_time.specs.CivilDay.{weekday_of, month_of}
-use Rattle.model_series.specs.declared.by_part.NDay.{NDay}
-use Rattle.model_series.specs.declared.rule.Rule.{Rule}
-use Rattle.model_series.specs.Places.{empty_or_any}
-use Rattle.model_series.specs.RuleSets.{nday_matches, month_day_matches, month_matches, counts_in_month, day_matches, is_kept}
+use Rattle.spec_time.specs.CivilDay.{weekday_of, month_of}
+use Rattle.spec_series.specs.declared.by_part.NDay.{NDay}
+use Rattle.spec_series.specs.declared.rule.Rule.{Rule}
+use Rattle.spec_series.specs.Places.{empty_or_any}
+use Rattle.spec_series.specs.RuleSets.{nday_matches, month_day_matches, month_matches, counts_in_month, day_matches, is_kept}
 use Rattle.rule_expand.proofs.Cycle.{is_kept-not}
 
 and_last : (a b c : Bool) → c ≡ false → (a && (b && c)) ≡ false

@@ -4,19 +4,19 @@ use Rattle.std.specs.List.{list_any, list_all}
 use Rattle.jiff_core.proofs.SignedLemmas.{signed_arith}
 use Rattle.std.proofs.lemmas.Bool.Decides.{nat_tests}
 use borrow.Author.Tests.{eqb-true}
-use Rattle.model_time.specs.CivilDay.{cycles_later, weekday_of}
-use Rattle.model_series.specs.declared.by_part.Freq.{Freq}
-use Rattle.model_series.specs.declared.by_part.Freq.TheVariants.{Daily, Weekly, Monthly, Yearly}
-use Rattle.model_series.specs.declared.by_part.NDay.{NDay}
-use Rattle.model_series.specs.declared.rule.Rule.{Rule}
-use Rattle.model_series.specs.Periods.{period_first, period_last}
-use Rattle.model_series.specs.Places.{count_days, count_from, at_least_zero, empty_or_any}
-use Rattle.model_series.specs.RuleLimits.{is_nday, is_nth}
-use Rattle.model_series.specs.RuleSets.{nth_matches, nday_matches, month_day_matches, month_matches, counts_in_month, day_matches, is_kept}
+use Rattle.spec_time.specs.CivilDay.{cycles_later, weekday_of}
+use Rattle.spec_series.specs.declared.by_part.Freq.{Freq}
+use Rattle.spec_series.specs.declared.by_part.Freq.TheVariants.{Daily, Weekly, Monthly, Yearly}
+use Rattle.spec_series.specs.declared.by_part.NDay.{NDay}
+use Rattle.spec_series.specs.declared.rule.Rule.{Rule}
+use Rattle.spec_series.specs.Periods.{period_first, period_last}
+use Rattle.spec_series.specs.Places.{count_days, count_from, at_least_zero, empty_or_any}
+use Rattle.spec_series.specs.RuleLimits.{is_nday, is_nth}
+use Rattle.spec_series.specs.RuleSets.{nth_matches, nday_matches, month_day_matches, month_matches, counts_in_month, day_matches, is_kept}
 use Rattle.rule_expand.proofs.Cycle.{is_kept-cycle}
 use Rattle.rule_expand.proofs.Places.{and_both, false_true}
 use Rattle.rule_expand.proofs.Sets.{or_cases}
-use Rattle.model_series.specs.RuleObjects.{is_empty}
+use Rattle.spec_series.specs.RuleObjects.{is_empty}
 use Rattle.residue_clash.specs.Repeats.{is_up_to_a_week, is_of_weekdays, repeats_after}
 
 -- the day a week later

@@ -1,9 +1,9 @@
 -- After how many days what a rule keeps comes again, and how many periods those are.
 use Rattle.std.specs.Prelude.{ℕ, ◌==◌, ◌&&◌, ◌||◌, ℤ, Bool, true, false, Option, Some, None, if◌then◌else◌}
-use Rattle.model_series.specs.declared.by_part.Freq.{Freq}
-use Rattle.model_series.specs.declared.by_part.Freq.TheVariants.{Daily, Weekly, Monthly, Yearly}
-use Rattle.model_series.specs.declared.rule.Rule.{Rule}
-use Rattle.model_series.specs.RuleObjects.{is_empty}
+use Rattle.spec_series.specs.declared.by_part.Freq.{Freq}
+use Rattle.spec_series.specs.declared.by_part.Freq.TheVariants.{Daily, Weekly, Monthly, Yearly}
+use Rattle.spec_series.specs.declared.rule.Rule.{Rule}
+use Rattle.spec_series.specs.RuleObjects.{is_empty}
 use Rattle.rule_expand.specs.Walk.{periods}
 use Rattle.rule_expand.specs.declared.bound.Bound.{Bound}
 use Rattle.rule_expand.specs.declared.bound.Bound.TheVariants.{Endless, Last}

@@ -1,10 +1,10 @@
 -- The days of recurrence rules as tracks.
 use Rattle.std.specs.Prelude.{◌≡◌, ◌⊎◌, ℕ, ℤ, true, Option, Some, None, List, [], ◌∷◌, slice_get}
-use Rattle.model_series.specs.declared.rule.Rule.{Rule}
-use Rattle.model_series.specs.declared.series.Series.{Series}
-use Rattle.model_time.specs.Walls.{day_of_wall}
-use Rattle.model_series.specs.Periods.{is_in_phase}
-use Rattle.model_series.specs.RuleSets.{is_kept, is_in_set}
+use Rattle.spec_series.specs.declared.rule.Rule.{Rule}
+use Rattle.spec_series.specs.declared.series.Series.{Series}
+use Rattle.spec_time.specs.Walls.{day_of_wall}
+use Rattle.spec_series.specs.Periods.{is_in_phase}
+use Rattle.spec_series.specs.RuleSets.{is_kept, is_in_set}
 use Rattle.residue_clash.specs.Tracks.{IsGiven}
 use Rattle.residue_clash.specs.declared.rule_track.RuleTrack.{RuleTrack}
 

@@ -2,12 +2,12 @@
 ghost use Rattle.std.specs.Prelude.{◌≡◌, ◌<◌, ◌^◌, ◌==◌, pos, unsigned_abs};
 ghost use Rattle.std.specs.List.{list_any};
 ghost use Rattle.std.specs.Ordering.{int_eq};
-ghost use Rattle.model_series.specs.Places.{empty_or_any};
-ghost use Rattle.model_series.specs.RuleSets.{is_kept};
+ghost use Rattle.spec_series.specs.Places.{empty_or_any};
+ghost use Rattle.spec_series.specs.RuleSets.{is_kept};
 
 use civil_days::{civil, weekday};
-use model_series::by_part::NDay;
-use model_series::rule::Rule;
+use spec_series::by_part::NDay;
+use spec_series::rule::Rule;
 use rule_expand::kept_on;
 
 // Whether an item is the month.

@@ -1,14 +1,14 @@
 //! The days on which a rule is in phase, by congruences.
 ghost use Rattle.std.specs.Prelude.{◌≡◌, ℕ, ◌*◌, ◌<◌, ◌≤◌, ◌^◌, ℤ, pos, ◌+ℤ◌, ◌-ℤ◌, true, unsigned_abs, ◌↔◌};
 ghost use Rattle.std.specs.Int.{int_rem_euclid};
-ghost use Rattle.model_time.specs.Floor.{modulo};
-ghost use Rattle.model_series.specs.Periods.{is_in_phase};
+ghost use Rattle.spec_time.specs.Floor.{modulo};
+ghost use Rattle.spec_series.specs.Periods.{is_in_phase};
 ghost use Rattle.residue_solve.specs.Cong.{IsInRange, Solves};
 ghost use Rattle.rule_expand.specs.Walk.{periods};
 ghost use Rattle.residue_clash.specs.Repeats.{is_of_weekdays, periods_after, repeats_after};
 
-use model_series::by_part::Freq;
-use model_series::rule::Rule;
+use spec_series::by_part::Freq;
+use spec_series::rule::Rule;
 use residue_solve::Cong;
 use rule_expand::period;
 
@@ -21,7 +21,7 @@ fn remainder(number: i64, interval: u32) -> u32
 }
 
 /// Whether a day is in phase with the start's day.
-#[tactic(auto, unfolding(model_series::specs::Periods::is_in_phase))]
+#[tactic(auto, unfolding(spec_series::specs::Periods::is_in_phase))]
 pub(crate) fn is_phase_day(rule: &Rule, first: i64, day: i64) -> bool
     requires first { unsigned_abs first < 4000000 }
     requires day { unsigned_abs day < 2 ^ 38 }

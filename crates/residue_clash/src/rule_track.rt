@@ -1,13 +1,13 @@
 //! The days of recurrence rules as tracks.
 ghost use Rattle.std.specs.Prelude.{◌<◌, unsigned_abs};
-ghost use Rattle.model_series.specs.Periods.{is_in_phase};
-ghost use Rattle.model_series.specs.RuleSets.{is_kept};
+ghost use Rattle.spec_series.specs.Periods.{is_in_phase};
+ghost use Rattle.spec_series.specs.RuleSets.{is_kept};
 ghost use Rattle.residue_clash.specs.Repeats.{repeats_after};
 
 use crate::kept::is_kept_on;
 use crate::phase::{is_phase_day, looks_at_weekdays, phase_of};
 use crate::track::Track;
-use model_series::rule::Rule;
+use spec_series::rule::Rule;
 use residue_solve::Cong;
 use rule_expand::unkept_days;
 

@@ -1,15 +1,15 @@
 //! The tracks of a series' rules.
 ghost use Rattle.std.specs.Prelude.{◌≡◌, ◌<◌, true, unsigned_abs, Option, Some};
-ghost use Rattle.model_time.specs.Walls.{day_of_wall, second_of_wall, is_in_years};
-ghost use Rattle.model_series.specs.Lengths.{IsWeekLong};
+ghost use Rattle.spec_time.specs.Walls.{day_of_wall, second_of_wall, is_in_years};
+ghost use Rattle.spec_series.specs.Lengths.{IsWeekLong};
 ghost use Rattle.residue_clash.specs.RuleTracks.{IsTrackOf, IsSlotOf, AreTracks};
 ghost use Rattle.residue_clash.specs.Repeats.{limit_of};
 
 use crate::outline::Outline;
 use crate::rule_track::RuleTrack;
-use model_series::rule::Rule;
-use model_series::series::Series;
-use model_time::wall::Wall;
+use spec_series::rule::Rule;
+use spec_series::series::Series;
+use spec_time::wall::Wall;
 use rule_expand::{Bound, last_day};
 
 // The day of a start.

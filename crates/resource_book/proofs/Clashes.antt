@@ -3,17 +3,17 @@ use Rattle.std.proofs.Common.{◌≡◌, ℕ, zero, suc, ℤ, Bool, true, false,
 use Rattle.std.proofs.lemmas.Int.{ints}
 use Rattle.std.proofs.lemmas.Option.{same_Some}
 use Rattle.jiff_core.proofs.SignedLemmas.{signed_arith}
-use Rattle.model_time.specs.Walls.{day_of_wall, second_of_wall, wall_at}
-use Rattle.model_series.specs.declared.series.Series.{Series}
-use Rattle.model_series.specs.Shared.{IsShared, covers, covers_twice}
+use Rattle.spec_time.specs.Walls.{day_of_wall, second_of_wall, wall_at}
+use Rattle.spec_series.specs.declared.series.Series.{Series}
+use Rattle.spec_series.specs.Shared.{IsShared, covers, covers_twice}
 use Rattle.rule_expand.specs.Least.{IsLeast, IsLeastOf}
 use Rattle.rule_expand.proofs.Least.{same-least}
 use Rattle.rule_expand.proofs.Places.{and_both}
 use Rattle.rule_expand.proofs.Sets.{both_and, or_cases}
 use Rattle.residue_clash.proofs.Covering.{covers_is, covers_twice_is}
 use Rattle.residue_clash.proofs.FirstSecond.{first_is}
-use Rattle.model_room.specs.declared.booking.Booking.{Booking}
-use Rattle.model_room.specs.Clashes.{IsClash, any_covers, is_clash, IsClear, first_covering, clash_at, second_of, first_clash}
+use Rattle.spec_bookings.specs.declared.booking.Booking.{Booking}
+use Rattle.spec_bookings.specs.Clashes.{IsClash, any_covers, is_clash, IsClear, first_covering, clash_at, second_of, first_clash}
 use Rattle.resource_book.proofs.Orders.{or_false}
 use Rattle.resource_book.specs.declared.check.Meeting.{Meeting}
 use Rattle.resource_book.specs.Meetings.{meets_booking, IsEarliest, IsEarliestOf, earlier_of, clash_of}

@@ -1,6 +1,6 @@
 -- Steps and their ways back.
 use Rattle.std.proofs.Common.{◌≡◌, ℕ, zero, suc, ◌<◌, ◌≤◌, List, [], ◌∷◌, ◌++◌, length, insert, remove, arith, ap, refl, get_or}
-use Rattle.model_room.specs.declared.booking.Booking.{Booking}
+use Rattle.spec_bookings.specs.declared.booking.Booking.{Booking}
 use Rattle.resource_book.specs.declared.round.Undo.{Undo}
 use Rattle.resource_book.specs.Rounds.{before_step, before_steps, IsWayBack, AreWaysBack}
 

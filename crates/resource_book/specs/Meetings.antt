@@ -1,12 +1,12 @@
 -- The first second that a series shares with bookings.
 use Rattle.std.specs.Prelude.{◌≡◌, ◌<◌, ◌^◌, ℕ, ℤ, int_lt, unsigned_abs, Bool, true, ◌&&◌, List, Option, Some, None, MatchOption, if◌then◌else◌}
-use Rattle.model_time.specs.Walls.{day_of_wall, second_of_wall}
-use Rattle.model_series.specs.declared.series.Series.{Series}
-use Rattle.model_series.specs.Shared.{covers}
+use Rattle.spec_time.specs.Walls.{day_of_wall, second_of_wall}
+use Rattle.spec_series.specs.declared.series.Series.{Series}
+use Rattle.spec_series.specs.Shared.{covers}
 use Rattle.rule_expand.specs.Least.{IsLeast}
-use Rattle.model_room.specs.declared.booking.Booking.{Booking}
-use Rattle.model_room.specs.declared.clash.Clash.{Clash}
-use Rattle.model_room.specs.Clashes.{any_covers, first_covering}
+use Rattle.spec_bookings.specs.declared.booking.Booking.{Booking}
+use Rattle.spec_bookings.specs.declared.clash.Clash.{Clash}
+use Rattle.spec_bookings.specs.Clashes.{any_covers, first_covering}
 use Rattle.resource_book.specs.declared.check.Meeting.{Meeting}
 
 -- a booking and the series cover x

@@ -1,7 +1,7 @@
 -- What contracts see of a resource.
 use Rattle.std.specs.Prelude.{List, Option}
-use Rattle.model_series.specs.declared.series.Series.{Series}
-use Rattle.model_room.specs.declared.booking.Booking.{Booking}
+use Rattle.spec_series.specs.declared.series.Series.{Series}
+use Rattle.spec_bookings.specs.declared.booking.Booking.{Booking}
 
 pub record RoomView : Type 0 where
   pub bookings : List Booking

@@ -1,7 +1,7 @@
 -- Steps that change bookings, and what was before them.
 use Rattle.std.specs.Prelude.{ℕ, ◌<◌, ◌≤◌, List, [], ◌∷◌, length, insert, remove, Option, Some, None}
-use Rattle.model_series.specs.declared.series.Series.{Series}
-use Rattle.model_room.specs.declared.booking.Booking.{Booking}
+use Rattle.spec_series.specs.declared.series.Series.{Series}
+use Rattle.spec_bookings.specs.declared.booking.Booking.{Booking}
 use Rattle.resource_book.specs.declared.round.Undo.{Undo}
 use Rattle.resource_book.specs.declared.round.Undo.TheVariants.{Retired, Booked}
 

@@ -1,16 +1,16 @@
 //! The first second at which a series clashes with bookings.
 ghost use Rattle.std.specs.Prelude.{◌≡◌, List, ◌++◌, option_map, IfNone};
-ghost use Rattle.model_series.specs.Lengths.{IsWeekLong};
+ghost use Rattle.spec_series.specs.Lengths.{IsWeekLong};
 ghost use Rattle.rule_expand.specs.Least.{IsLeastOf};
-ghost use Rattle.model_room.specs.declared.booking.Booking.{Booking as BookingView};
-ghost use Rattle.model_room.specs.Bookings.{but};
-ghost use Rattle.model_room.specs.Clashes.{IsClash, IsClear, first_clash, second_of};
+ghost use Rattle.spec_bookings.specs.declared.booking.Booking.{Booking as BookingView};
+ghost use Rattle.spec_bookings.specs.Bookings.{but};
+ghost use Rattle.spec_bookings.specs.Clashes.{IsClash, IsClear, first_clash, second_of};
 ghost use Rattle.resource_book.specs.Meetings.{meets_booking, earlier_of, IsEarliestOf, clash_of};
 
 use crate::places::place_but;
-use model_room::booking::Booking;
-use model_room::clash::Clash;
-use model_series::series::Series;
+use spec_bookings::booking::Booking;
+use spec_bookings::clash::Clash;
+use spec_series::series::Series;
 use residue_clash::{Shared, first_self_shared, first_shared};
 
 // A second that a series shares, and the number of the first booking that covers it, if one does.

@@ -1,9 +1,9 @@
 //! The places of bookings in their order.
 ghost use Rattle.std.specs.Prelude.{◌≡◌, ◌<◌, ◌≤◌, length, insert, remove, true, false, IfNone, IfSome};
-ghost use Rattle.model_series.specs.declared.series.Series.{Series};
-ghost use Rattle.model_room.specs.Bookings.{is_booked, without_booking, with_booking, but};
+ghost use Rattle.spec_series.specs.declared.series.Series.{Series};
+ghost use Rattle.spec_bookings.specs.Bookings.{is_booked, without_booking, with_booking, but};
 
-use model_room::booking::Booking;
+use spec_bookings::booking::Booking;
 
 /// The place of the booking of a number.
 pub fn place_of(bookings: &[Booking], number: u64) -> Option<usize>

@@ -1,16 +1,16 @@
 //! A resource and its bookings.
 ghost use Rattle.std.specs.Prelude.{◌≡◌, [], length, Some, None, IsSome, OnOk, OnErr, MatchOption, IfNone, option_map};
-ghost use Rattle.model_series.specs.Lengths.{IsWeekLong};
+ghost use Rattle.spec_series.specs.Lengths.{IsWeekLong};
 ghost use Rattle.rule_expand.specs.Least.{IsLeastOf};
-ghost use Rattle.model_room.specs.Bookings.{is_booked, without_booking, with_booking, but};
-ghost use Rattle.model_room.specs.Clashes.{IsClash, IsClear, first_clash, second_of};
+ghost use Rattle.spec_bookings.specs.Bookings.{is_booked, without_booking, with_booking, but};
+ghost use Rattle.spec_bookings.specs.Clashes.{IsClash, IsClear, first_clash, second_of};
 
 use crate::check::check;
 use crate::places::{count_but, place_for, place_of};
 use crate::round::{Undo, book_at, retire_at, take_all_back};
-use model_room::booking::{Bookable, Booking};
-use model_room::clash::Clash;
-use model_series::series::Series;
+use spec_bookings::booking::{Bookable, Booking};
+use spec_bookings::clash::Clash;
+use spec_series::series::Series;
 use std::alloc::{AllocError, Global};
 use std::marker::Model;
 

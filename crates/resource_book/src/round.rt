@@ -2,7 +2,7 @@
 ghost use Rattle.std.specs.Prelude.{◌≡◌, ◌+◌, ◌<◌, ◌≤◌, [], insert, remove, vec_len, vec_capacity};
 ghost use Rattle.resource_book.specs.Rounds.{before_step, before_steps, IsWayBack, AreWaysBack};
 
-use model_room::booking::Booking;
+use spec_bookings::booking::Booking;
 
 /// The way back from a step.
 #[derive(Drop)]

@@ -6,12 +6,12 @@ use Rattle.std.specs.Cmp.Lexicographic.{slice_cmp}
 use Rattle.std.specs.List.{list_any}
 use Rattle.std.specs.Ordering.{nat_cmp, is_lt}
 use Rattle.std.specs.Str.{bytes_eq}
-use Rattle.model_json.proofs.EditLemmas.{below_else, equal_not_below, not_equal}
-use Rattle.model_json.proofs.KeyOrder.{above_later, both, less_of}
-use Rattle.model_json.specs.Data.{Pair, lookup}
-use Rattle.model_json.specs.ObjectKeys.{is_above, keys_rise}
-use Rattle.model_json.specs.Parts.{behind_hash}
-use Rattle.model_batch.specs.References.{has_both_forms}
+use Rattle.spec_json.proofs.EditLemmas.{below_else, equal_not_below, not_equal}
+use Rattle.spec_json.proofs.KeyOrder.{above_later, both, less_of}
+use Rattle.spec_json.specs.Data.{Pair, lookup}
+use Rattle.spec_json.specs.ObjectKeys.{is_above, keys_rise}
+use Rattle.spec_json.specs.Parts.{behind_hash}
+use Rattle.spec_batch.specs.References.{has_both_forms}
 use Rattle.result_refs.specs.Behind.{behind}
 use Rattle.result_refs.specs.Walk.{begins_with, from_key}
 

@@ -4,13 +4,13 @@ use Rattle.std.proofs.lemmas.Bool.{and_from, eqb-true}
 use Rattle.std.specs.Cmp.Lexicographic.{slice_cmp}
 use Rattle.std.specs.List.{list_any}
 use Rattle.std.specs.Ordering.{nat_cmp, is_lt}
-use Rattle.model_json.proofs.KeyOrder.{above_later, both}
-use Rattle.model_json.specs.Data.{Data, Pair}
-use Rattle.model_json.specs.Edit.{put_all}
-use Rattle.model_json.specs.ObjectKeys.{is_above, keys_rise}
-use Rattle.model_json.specs.Parts.{all_some}
-use Rattle.model_batch.specs.References.{resolved, has_both_forms, is_reference, referred_member, resolution, value_of_reference, with_referred}
-use Rattle.model_batch.specs.declared.method_response.MethodResponse.{MethodResponse}
+use Rattle.spec_json.proofs.KeyOrder.{above_later, both}
+use Rattle.spec_json.specs.Data.{Data, Pair}
+use Rattle.spec_json.specs.Edit.{put_all}
+use Rattle.spec_json.specs.ObjectKeys.{is_above, keys_rise}
+use Rattle.spec_json.specs.Parts.{all_some}
+use Rattle.spec_batch.specs.References.{resolved, has_both_forms, is_reference, referred_member, resolution, value_of_reference, with_referred}
+use Rattle.spec_batch.specs.declared.method_response.MethodResponse.{MethodResponse}
 use Rattle.result_refs.specs.Parted.{plain_in, references_in, with_value}
 use Rattle.result_refs.specs.Reports.{Reports, ReportsNone}
 use Rattle.result_refs.specs.declared.arguments.ReferenceError.{ReferenceError}

@@ -1,8 +1,8 @@
 -- Arguments, taken apart.
 use Rattle.std.specs.Prelude.{List, not, Option, option_map, filter, map, drop}
-use Rattle.model_json.specs.Data.{Pair}
-use Rattle.model_batch.specs.References.{is_reference, value_of_reference}
-use Rattle.model_batch.specs.declared.method_response.MethodResponse.{MethodResponse}
+use Rattle.spec_json.specs.Data.{Pair}
+use Rattle.spec_batch.specs.References.{is_reference, value_of_reference}
+use Rattle.spec_batch.specs.declared.method_response.MethodResponse.{MethodResponse}
 
 abbrev pub plain_in : List Pair → List Pair
 plain_in arguments = filter (λ p. not (is_reference p)) arguments

@@ -1,6 +1,6 @@
 -- What an error says of the arguments. Want of memory says nothing.
 use Rattle.std.specs.Prelude.{◌≡◌, Option, None}
-use Rattle.model_batch.specs.References.{Resolution, both_forms, bad_reference}
+use Rattle.spec_batch.specs.References.{Resolution, both_forms, bad_reference}
 use Rattle.result_refs.specs.declared.arguments.ReferenceError.{ReferenceError}
 use Rattle.result_refs.specs.declared.arguments.ReferenceError.TheVariants.{BothForms, BadReference, NoMemory}
 

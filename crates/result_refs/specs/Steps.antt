@@ -1,8 +1,8 @@
 -- Steps from a value to one that stands in it.
 use Rattle.std.specs.Prelude.{ℕ, List, Option, Some, None, codes, if◌then◌else◌}
 use Rattle.std.specs.Str.{bytes_eq}
-use Rattle.model_json.specs.Data.{Data, list, object, lookup, list_of, pairs_of}
-use Rattle.model_batch.specs.References.{item_at}
+use Rattle.spec_json.specs.Data.{Data, list, object, lookup, list_of, pairs_of}
+use Rattle.spec_batch.specs.References.{item_at}
 
 -- the items of an array, where the part is `*`
 abbrev pub all_items : List ℕ → Data → Option (List Data)

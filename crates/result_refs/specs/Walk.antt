@@ -3,7 +3,7 @@ use Rattle.std.specs.Prelude.{ℕ, List, [], ◌∷◌, Bool, false, if◌then�
 use Rattle.std.specs.Cmp.Lexicographic.{slice_cmp}
 use Rattle.std.specs.Ordering.{nat_cmp, is_lt}
 use Rattle.std.specs.Str.{bytes_eq}
-use Rattle.model_json.specs.Data.{Pair}
+use Rattle.spec_json.specs.Data.{Pair}
 
 -- the members from the first on whose key isn't below this one
 abbrev pub from_key : List ℕ → List Pair → List Pair

@@ -1,8 +1,8 @@
 //! Arguments with the values of their references.
 ghost use Rattle.std.specs.Prelude.{◌≡◌, IfErr, IfOk, Some};
-ghost use Rattle.model_json.specs.Parts.{all_some};
-ghost use Rattle.model_batch.specs.References.{resolution, resolved, value_of_reference};
-ghost use Rattle.model_json.specs.TreeData.{data_of};
+ghost use Rattle.spec_json.specs.Parts.{all_some};
+ghost use Rattle.spec_batch.specs.References.{resolution, resolved, value_of_reference};
+ghost use Rattle.spec_json.specs.TreeData.{data_of};
 ghost use Rattle.result_refs.specs.Parted.{plain_in, references_in, with_value};
 ghost use Rattle.result_refs.specs.Reports.{Reports, ReportsNone};
 ghost use Rattle.result_refs.specs.declared.arguments.ReferenceError.TheVariants.{NoMemory};
@@ -10,9 +10,9 @@ ghost use Rattle.result_refs.specs.declared.arguments.ReferenceError.TheVariants
 use crate::behind_sign::behind;
 use crate::forms::has_both_forms;
 use crate::reference::value_of_reference;
-use model_batch::method_response::MethodResponse;
-use model_json::text::Text;
-use model_json::tree::{Member, Tree, TreeObject};
+use spec_batch::method_response::MethodResponse;
+use spec_json::text::Text;
+use spec_json::tree::{Member, Tree, TreeObject};
 use std::alloc::{AllocError, AllocFailed, Global};
 
 /// Why there are no arguments with the values of their references.

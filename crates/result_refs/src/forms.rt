@@ -1,12 +1,12 @@
 //! Arguments that are given both as a value and as a reference.
 ghost use Rattle.std.specs.Prelude.{◌≡◌, map};
 ghost use Rattle.std.specs.List.{list_any};
-ghost use Rattle.model_batch.specs.References.{has_both_forms};
-ghost use Rattle.model_json.specs.TreeData.{pair_of};
+ghost use Rattle.spec_batch.specs.References.{has_both_forms};
+ghost use Rattle.spec_json.specs.TreeData.{pair_of};
 ghost use Rattle.result_refs.specs.Walk.{begins_with, from_key};
 
 use crate::behind_sign::behind;
-use model_json::tree::{Member, TreeObject};
+use spec_json::tree::{Member, TreeObject};
 
 /// Whether an argument is given both as a value and as a reference. Takes no memory.
 ///

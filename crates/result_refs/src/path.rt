@@ -1,13 +1,13 @@
 //! The values that paths lead to.
 ghost use Rattle.std.specs.Prelude.{◌≡◌, ◌≤◌, ◌++◌, IfOk, OnOk, drop, length, map, option_and_then, option_map};
-ghost use Rattle.model_json.specs.Parts.{all_some};
-ghost use Rattle.model_batch.specs.References.{item_at, items_or_self, joined, path_parts, value_by};
-ghost use Rattle.model_json.specs.TreeData.{data_of};
+ghost use Rattle.spec_json.specs.Parts.{all_some};
+ghost use Rattle.spec_batch.specs.References.{item_at, items_or_self, joined, path_parts, value_by};
+ghost use Rattle.spec_json.specs.TreeData.{data_of};
 ghost use Rattle.result_refs.specs.Steps.{all_items, named_by};
 
 use crate::behind_sign::behind;
-use model_json::text::Text;
-use model_json::tree::{Tree, TreeList};
+use spec_json::text::Text;
+use spec_json::tree::{Tree, TreeList};
 use patch_object::{Pointer, PointerError};
 use std::alloc::{AllocError, Global};
 use time_text::read_number;
@@ -80,7 +80,7 @@ fn values_joined(
 }
 
 // A list is put in as its items.
-#[tactic(auto, using(model_json::specs::Data::items_back))]
+#[tactic(auto, using(spec_json::specs::Data::items_back))]
 fn put_in(joined: &mut Vec<Tree>, value: Tree) -> Result<(), AllocError>
     ensures { OnOk result (map data_of joined.new.items ≡ map data_of joined.old.items ++ items_or_self (data_of value)) }
 {
@@ -92,7 +92,7 @@ fn put_in(joined: &mut Vec<Tree>, value: Tree) -> Result<(), AllocError>
 }
 
 // The items of an array, where the part is `*`.
-#[tactic(auto, using(model_json::specs::Data::items_back))]
+#[tactic(auto, using(spec_json::specs::Data::items_back))]
 fn all_items<'a>(value: &'a Tree, part: &Text) -> Option<&'a [Tree]>
     ensures { option_map (λ s. map data_of s.now) result ≡ all_items part.now (data_of value.now) }
 {
@@ -103,7 +103,7 @@ fn all_items<'a>(value: &'a Tree, part: &Text) -> Option<&'a [Tree]>
 }
 
 // The member or the item that a part names.
-#[tactic(auto, using(model_json::specs::Data::items_back, model_json::specs::Data::pairs_back))]
+#[tactic(auto, using(spec_json::specs::Data::items_back, spec_json::specs::Data::pairs_back))]
 fn named_by<'a>(value: &'a Tree, part: &Text) -> Option<&'a Tree>
     ensures { option_map (λ t. data_of t.now) result ≡ named_by part.now (data_of value.now) }
 {

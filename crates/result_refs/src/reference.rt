@@ -2,13 +2,13 @@
 ghost use Rattle.std.specs.Prelude.{◌≡◌, IfOk, option_map};
 ghost use Rattle.std.specs.List.{find};
 ghost use Rattle.std.specs.Str.{bytes_eq};
-ghost use Rattle.model_batch.specs.References.{value_in_response, value_of_reference};
-ghost use Rattle.model_json.specs.Parts.{text_at};
-ghost use Rattle.model_json.specs.TreeData.{data_of};
+ghost use Rattle.spec_batch.specs.References.{value_in_response, value_of_reference};
+ghost use Rattle.spec_json.specs.Parts.{text_at};
+ghost use Rattle.spec_json.specs.TreeData.{data_of};
 
 use crate::path::value_at_path;
-use model_batch::method_response::MethodResponse;
-use model_json::tree::Tree;
+use spec_batch::method_response::MethodResponse;
+use spec_json::tree::Tree;
 use std::alloc::{AllocError, Global};
 
 /// The value of a reference, which is an object with the texts `resultOf`, `name` and `path` (RFC 8620 section 3.7).

@@ -2,8 +2,8 @@
 //! is made, for `bench/rooms.py` to time.
 #![tactic(auto)]
 
-use model_json::tree::Tree;
-use model_room::clash::Clash;
+use spec_json::tree::Tree;
+use spec_bookings::clash::Clash;
 use resource_book::Room;
 use row_series::series_in;
 use row_table::line::tree_in;

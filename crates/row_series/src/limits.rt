@@ -1,12 +1,12 @@
 //! The limits of series.
 ghost use Rattle.std.specs.Prelude.{◌≡◌, ◌&&◌, nat_le};
-ghost use Rattle.model_time.specs.Walls.{is_in_years};
-ghost use Rattle.model_series.specs.SeriesLimits.{are_distinct, are_in_years, are_short, is_named, is_span_in_years, is_span_short, wall_seconds};
-ghost use Rattle.model_series.specs.Lengths.{are_week_long, is_week_long};
+ghost use Rattle.spec_time.specs.Walls.{is_in_years};
+ghost use Rattle.spec_series.specs.SeriesLimits.{are_distinct, are_in_years, are_short, is_named, is_span_in_years, is_span_short, wall_seconds};
+ghost use Rattle.spec_series.specs.Lengths.{are_week_long, is_week_long};
 
-use model_series::exception::{Exception, Span};
-use model_time::length::Length;
-use model_time::wall::Wall;
+use spec_series::exception::{Exception, Span};
+use spec_time::length::Length;
+use spec_time::wall::Wall;
 use time_text::is_in_years;
 
 /// Whether a length is at most 7 days.
@@ -76,7 +76,7 @@ pub fn are_week_long(exceptions: &[Exception]) -> bool
     exceptions.iter().all(|x| is_week_long_span(x.replaced))
 }
 
-#[tactic(auto, unfolding(model_series::specs::SeriesLimits::is_named))]
+#[tactic(auto, unfolding(spec_series::specs::SeriesLimits::is_named))]
 fn names(exceptions: &[Exception], rid: Wall) -> bool
     ensures { result ≡ is_named exceptions.now rid }
 {
@@ -84,7 +84,7 @@ fn names(exceptions: &[Exception], rid: Wall) -> bool
 }
 
 /// Whether no recurrence id is named twice.
-#[tactic(auto, unfolding(model_series::specs::SeriesLimits::are_distinct))]
+#[tactic(auto, unfolding(spec_series::specs::SeriesLimits::are_distinct))]
 pub fn are_distinct(exceptions: &[Exception]) -> bool
     ensures { result ≡ are_distinct exceptions.now }
 {

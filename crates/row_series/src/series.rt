@@ -1,15 +1,15 @@
 //! Series as a table has them.
 ghost use Rattle.std.specs.Prelude.{◌≡◌, ◌≤◌, length as count, true, IfOk, IfSome};
-ghost use Rattle.model_time.specs.Walls.{is_in_years};
-ghost use Rattle.model_series.specs.Lengths.{IsWeekLong};
+ghost use Rattle.spec_time.specs.Walls.{is_in_years};
+ghost use Rattle.spec_series.specs.Lengths.{IsWeekLong};
 
 use crate::limits::{are_distinct, are_in_years, are_short, are_week_long, is_week};
-use model_json::tree::Tree;
-use model_series::exception::{Exception, Exceptions, Span};
-use model_series::rules::Rules;
-use model_series::series::Series;
-use model_time::length::Length;
-use model_time::wall::Wall;
+use spec_json::tree::Tree;
+use spec_series::exception::{Exception, Exceptions, Span};
+use spec_series::rules::Rules;
+use spec_series::series::Series;
+use spec_time::length::Length;
+use spec_time::wall::Wall;
 use rule_read::{RulesError, read_rules};
 use std::alloc::{AllocError, Global};
 use time_text::{is_in_years, read_local};

@@ -1,7 +1,7 @@
 //! Files and their bytes, as the rows of tables have them.
 use crate::line::tree_in;
 use json_edge::write::tree_text;
-use model_json::tree::Tree;
+use spec_json::tree::Tree;
 use std::alloc::{AllocError, Global};
 
 /// Files by their names.

@@ -1,6 +1,6 @@
 //! The lines of a table.
 use json_edge::read::{ReadError, read_tree};
-use model_json::tree::Tree;
+use spec_json::tree::Tree;
 use std::alloc::{AllocError, Global};
 use std::fmt::Write;
 

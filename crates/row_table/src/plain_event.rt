@@ -1,6 +1,6 @@
 //! A plain event, and events that differ from it.
 use json_edge::read::{ReadError, read_tree};
-use model_json::tree::Tree;
+use spec_json::tree::Tree;
 use std::alloc::{AllocError, Global};
 
 /// The event over which the members of a row are laid.

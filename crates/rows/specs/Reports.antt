@@ -1,8 +1,8 @@
 -- A counter book that also tells of its entries.
 use Rattle.std.specs.Prelude.{ℕ, ◌==◌, ◌+◌, ◌-◌, List, [], length, count_by, slice_get, Option, Some, None}
-use Rattle.model_history.specs.Signed.{AreSigned}
-use Rattle.model_history.specs.declared.entry.Entry.{Entry}
-use Rattle.model_history.specs.declared.stamp.Stamp.{Stamp}
+use Rattle.spec_history.specs.Signed.{AreSigned}
+use Rattle.spec_history.specs.declared.entry.Entry.{Entry}
+use Rattle.spec_history.specs.declared.stamp.Stamp.{Stamp}
 use Rattle.account_lock.specs.Counter.{sum_of_ids, amount_counted, amount_added, amount_added_signed}
 use Rattle.rows.specs.declared.reporting_book.Answer.{Answer}
 use Rattle.rows.specs.declared.reporting_book.Answer.TheVariants.{Sum, Told}

@@ -3,9 +3,9 @@ ghost use Rattle.std.specs.Prelude.{◌≡◌, ◌==◌, [], count_by, slice_get
 ghost use Rattle.rows.specs.Reports.{signature_of};
 
 use account_lock::counter::{self, CounterBook};
-use model_history::book::Book;
-use model_history::entry::Entry;
-use model_time::moment::Moment;
+use spec_history::book::Book;
+use spec_history::entry::Entry;
+use spec_time::moment::Moment;
 use std::alloc::{AllocError, Global};
 use std::marker::Model;
 
@@ -48,8 +48,8 @@ pub struct ReportingBook {
 impl Model for ReportingBook {
     ghost use Rattle.std.specs.Prelude.{List};
     ghost use Rattle.std.specs.Coded.{codes};
-    ghost use Rattle.model_json.specs.DataCode.{data_code};
-    ghost use Rattle.model_history.specs.declared.entry.Entry.{Entry};
+    ghost use Rattle.spec_json.specs.DataCode.{data_code};
+    ghost use Rattle.spec_history.specs.declared.entry.Entry.{Entry};
 
     ghost Value = { List Entry };
 
@@ -70,7 +70,7 @@ impl ReportingBook {
 }
 
 impl Book for ReportingBook {
-    ghost use Rattle.model_history.specs.Base.{no_base};
+    ghost use Rattle.spec_history.specs.Base.{no_base};
     ghost use Rattle.rows.specs.Reports.{answer_of, reported_by, added_signed};
 
     type Call = Question;

@@ -2,14 +2,14 @@
 use Rattle.std.proofs.Common.{◌≡◌, ℕ, zero, suc, ◌+◌, Bool, true, false, cond, refl, arith, ℤ, pos, ◌+ℤ◌, ◌-ℤ◌, ◌*ℤ◌, Option, Some, None, List, [], ◌∷◌, length}
 use Rattle.std.specs.List.{list_any}
 use Rattle.jiff_core.proofs.SignedLemmas.{signed_arith}
-use Rattle.model_series.specs.Periods.{month_first, month_last, year_first, year_last, period_by, period_first, period_last}
-use Rattle.model_series.specs.Places.{count_days, at_least_zero, count_from, is_place, empty_or_any}
-use Rattle.model_series.specs.RuleSets.{counts_in_month, scope_first, scope_last, is_weekday, nth_matches, nday_matches, month_day_matches, month_matches, day_matches, is_kept}
-use Rattle.model_time.specs.CivilDay.{month_length, weekday_of, year_of, month_of}
-use Rattle.model_series.specs.declared.rule.Rule.{Rule}
-use Rattle.model_series.specs.declared.by_part.NDay.{NDay}
-use Rattle.model_series.specs.declared.by_part.Freq.{Freq}
-use Rattle.model_series.specs.declared.by_part.Freq.TheVariants.{Daily, Weekly, Monthly, Yearly}
+use Rattle.spec_series.specs.Periods.{month_first, month_last, year_first, year_last, period_by, period_first, period_last}
+use Rattle.spec_series.specs.Places.{count_days, at_least_zero, count_from, is_place, empty_or_any}
+use Rattle.spec_series.specs.RuleSets.{counts_in_month, scope_first, scope_last, is_weekday, nth_matches, nday_matches, month_day_matches, month_matches, day_matches, is_kept}
+use Rattle.spec_time.specs.CivilDay.{month_length, weekday_of, year_of, month_of}
+use Rattle.spec_series.specs.declared.rule.Rule.{Rule}
+use Rattle.spec_series.specs.declared.by_part.NDay.{NDay}
+use Rattle.spec_series.specs.declared.by_part.Freq.{Freq}
+use Rattle.spec_series.specs.declared.by_part.Freq.TheVariants.{Daily, Weekly, Monthly, Yearly}
 use Rattle.civil_days.proofs.CycleLemmas.{month_length-cycle, day_number-cycle}
 use Rattle.rule_expand.proofs.Dates.{at_cycle}
 

@@ -2,11 +2,11 @@
 use Rattle.std.proofs.Common.{eq-eqb, ◌≡◌, ℕ, zero, suc, ◌+◌, ◌-◌, ◌*◌, ◌<◌, ◌≤◌, Bool, true, false, ap, ◌∙◌, arith, ℤ, pos, ◌+ℤ◌, ◌<ℤ◌}
 use Rattle.std.proofs.Math.Nat.{mul_comm}
 use Rattle.jiff_core.proofs.SignedLemmas.{signed_arith}
-use Rattle.model_series.specs.Periods.{period_number, is_in_phase}
-use Rattle.model_series.specs.Places.{count_days}
-use Rattle.model_time.specs.Floor.{modulo}
+use Rattle.spec_series.specs.Periods.{period_number, is_in_phase}
+use Rattle.spec_series.specs.Places.{count_days}
+use Rattle.spec_time.specs.Floor.{modulo}
 use Rattle.rule_expand.specs.Walk.{periods, IsPhaseDay}
-use Rattle.model_series.specs.declared.rule.Rule.{Rule}
+use Rattle.spec_series.specs.declared.rule.Rule.{Rule}
 use Rattle.rule_expand.proofs.Cycle.{later, is_kept-cycle}
 use Rattle.rule_expand.proofs.Next.{period-later}
 use Rattle.rule_expand.proofs.Remainder.{modulo-steps}

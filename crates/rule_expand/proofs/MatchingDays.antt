@@ -3,28 +3,28 @@ use Rattle.std.proofs.Common.{◌&&◌, ◌≡◌, ℕ, ◌+◌, ◌-◌, ◌<�
 use Rattle.std.specs.Ordering.{int_eq}
 use Rattle.std.proofs.lemmas.Bool.{and_from}
 use Rattle.std.proofs.Common.{◌∷◌}
-use Rattle.model_series.specs.Places.{count_from}
-use Rattle.model_series.specs.Periods.{period_first}
+use Rattle.spec_series.specs.Places.{count_from}
+use Rattle.spec_series.specs.Periods.{period_first}
 use Rattle.std.proofs.lemmas.Int.{by_lt_z}
 use Rattle.jiff_core.proofs.SignedLemmas.{signed_arith}
-use Rattle.model_time.specs.CivilDay.{day_of_month, month_length, month_of, year_of}
-use Rattle.model_series.specs.declared.by_part.Freq.TheVariants.{Monthly}
-use Rattle.model_series.specs.declared.rule.Rule.{Rule}
-use Rattle.model_series.specs.Periods.{month_last, period_by, period_last}
-use Rattle.model_series.specs.Places.{empty_or_any}
-use Rattle.model_series.specs.RuleSets.{counts_in_month, day_matches, is_kept, month_day_matches, month_matches, nday_matches}
+use Rattle.spec_time.specs.CivilDay.{day_of_month, month_length, month_of, year_of}
+use Rattle.spec_series.specs.declared.by_part.Freq.TheVariants.{Monthly}
+use Rattle.spec_series.specs.declared.rule.Rule.{Rule}
+use Rattle.spec_series.specs.Periods.{month_last, period_by, period_last}
+use Rattle.spec_series.specs.Places.{empty_or_any}
+use Rattle.spec_series.specs.RuleSets.{counts_in_month, day_matches, is_kept, month_day_matches, month_matches, nday_matches}
 use Rattle.rule_expand.specs.Walk.{IsFirstIn, IsFirstMatch, IsFirstPlain, NoneIn, NonePlain, first_of}
 use Rattle.rule_expand.proofs.Dates.{at_law, month_first-is, month_last-is}
 use Rattle.rule_expand.proofs.Cycle.{empty_or_any-same}
 use Rattle.rule_expand.proofs.Nth.{nday-is}
 use Rattle.rule_expand.proofs.Regular.{int_gap_is}
-use Rattle.model_series.specs.declared.by_part.NDay.{NDay}
+use Rattle.spec_series.specs.declared.by_part.NDay.{NDay}
 use Rattle.std.specs.Int.{int_gap}
 use Rattle.std.proofs.Common.{◌/◌}
-use Rattle.model_time.specs.CivilDay.{weekday_of}
-use Rattle.model_series.specs.Periods.{month_first}
-use Rattle.model_series.specs.Places.{is_place}
-use Rattle.model_series.specs.RuleSets.{scope_first, scope_last}
+use Rattle.spec_time.specs.CivilDay.{weekday_of}
+use Rattle.spec_series.specs.Periods.{month_first}
+use Rattle.spec_series.specs.Places.{is_place}
+use Rattle.spec_series.specs.RuleSets.{scope_first, scope_last}
 use Rattle.rule_expand.specs.Walk.{nday_at}
 use Rattle.rule_expand.proofs.Next.{period-mono}
 use Rattle.rule_expand.proofs.Periods.{in_period_from, le_last, period_between, period-last}

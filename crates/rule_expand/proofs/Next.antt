@@ -4,12 +4,12 @@ use Rattle.std.specs.Int.{int_div_euclid, int_rem_euclid}
 use Rattle.std.proofs.lemmas.Bool.{cases_order}
 use Rattle.std.proofs.lemmas.Int.{by_lt_z}
 use Rattle.jiff_core.proofs.SignedLemmas.{signed_arith, int_rem_euclid-parts, unsigned_abs-parts}
-use Rattle.model_series.specs.Periods.{period_by}
-use Rattle.model_time.specs.CivilDay.{day_number, IsDate, year_of, month_of, day_of_month}
-use Rattle.model_time.specs.Floor.{modulo}
+use Rattle.spec_series.specs.Periods.{period_by}
+use Rattle.spec_time.specs.CivilDay.{day_number, IsDate, year_of, month_of, day_of_month}
+use Rattle.spec_time.specs.Floor.{modulo}
 use Rattle.rule_expand.specs.Walk.{periods}
-use Rattle.model_series.specs.declared.by_part.Freq.{Freq}
-use Rattle.model_series.specs.declared.by_part.Freq.TheVariants.{Daily, Weekly, Monthly, Yearly}
+use Rattle.spec_series.specs.declared.by_part.Freq.{Freq}
+use Rattle.spec_series.specs.declared.by_part.Freq.TheVariants.{Daily, Weekly, Monthly, Yearly}
 use Rattle.rule_expand.proofs.Dates.{at_law, day_number-year, day_number-month}
 use Rattle.rule_expand.proofs.Cycle.{later, IsPeriodic, period-cycle}
 use Rattle.std.proofs.lemmas.Nat.{div-add-mod'}

@@ -2,12 +2,12 @@
 use Rattle.std.proofs.Common.{◌≡◌, ℕ, zero, suc, ◌+◌, ◌-◌, ◌/◌, ◌%◌, ◌<◌, Bool, true, false, ◌&&◌, cond, nat_eq, refl, ◌∙◌, arith, ℤ, pos, ◌+ℤ◌, ◌-ℤ◌, Option, Some, None}
 use Rattle.std.proofs.lemmas.Bool.Decides.{nat_tests}
 use Rattle.jiff_core.proofs.SignedLemmas.{signed_arith}
-use Rattle.model_series.specs.Places.{count_days, count_from, is_place, empty_or_any}
-use Rattle.model_series.specs.RuleSets.{scope_first, scope_last, counts_in_month, is_weekday, nth_matches, nday_matches, month_day_matches, month_matches, day_matches}
-use Rattle.model_time.specs.CivilDay.{weekday_of, month_length, year_of, month_of, day_of_month}
+use Rattle.spec_series.specs.Places.{count_days, count_from, is_place, empty_or_any}
+use Rattle.spec_series.specs.RuleSets.{scope_first, scope_last, counts_in_month, is_weekday, nth_matches, nday_matches, month_day_matches, month_matches, day_matches}
+use Rattle.spec_time.specs.CivilDay.{weekday_of, month_length, year_of, month_of, day_of_month}
 use Rattle.rule_expand.specs.Walk.{nth_at, nday_at}
-use Rattle.model_series.specs.declared.rule.Rule.{Rule}
-use Rattle.model_series.specs.declared.by_part.NDay.{NDay}
+use Rattle.spec_series.specs.declared.rule.Rule.{Rule}
+use Rattle.spec_series.specs.declared.by_part.NDay.{NDay}
 use Rattle.rule_expand.proofs.Cycle.{count_from-before, count_from-after, empty_or_any-same}
 
 weekday-later : (n m : ℤ) (k : ℕ) → m ≡ n +ℤ pos k → weekday_of m ≡ (weekday_of n + k) % 7

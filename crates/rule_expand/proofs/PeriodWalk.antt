@@ -4,11 +4,11 @@ use Rattle.std.proofs.lemmas.Bool.{cases_order}
 use Rattle.std.proofs.lemmas.Bool.Decides.{nat_tests}
 use Rattle.std.proofs.lemmas.Int.{by_lt_z}
 use Rattle.jiff_core.proofs.SignedLemmas.{signed_arith}
-use Rattle.model_series.specs.Periods.{period_by, period_last, period_number, is_in_phase, period_first}
-use Rattle.model_series.specs.RuleSets.{is_kept}
-use Rattle.model_time.specs.Floor.{modulo}
+use Rattle.spec_series.specs.Periods.{period_by, period_last, period_number, is_in_phase, period_first}
+use Rattle.spec_series.specs.RuleSets.{is_kept}
+use Rattle.spec_time.specs.Floor.{modulo}
 use Rattle.rule_expand.specs.Walk.{periods, first_of, NoneKept, IsFirstKept, IsPhaseDay, IsNextDay, IsFirstPeriod, NoneThrough, NoneIn, IsFirstIn, IsWholePeriod}
-use Rattle.model_series.specs.declared.rule.Rule.{Rule}
+use Rattle.spec_series.specs.declared.rule.Rule.{Rule}
 use Rattle.rule_expand.proofs.Cycle.{is_kept-cycle}
 use Rattle.rule_expand.proofs.Next.{none_in_walk, steps_between, period-lt, period-mono}
 use Rattle.rule_expand.proofs.Periods.{in_period_from, period_between, period-first, first_of-period, last_same}

@@ -4,23 +4,23 @@ use Rattle.std.proofs.lemmas.Bool.Decides.{nat_tests, Decides-int_eq}
 use Rattle.std.proofs.lemmas.Int.{by_lt_z}
 use Rattle.std.specs.Ordering.{int_eq}
 use Rattle.jiff_core.proofs.SignedLemmas.{signed_arith}
-use Rattle.model_series.specs.Periods.{period_number, is_in_phase}
-use Rattle.model_series.specs.Places.{count_days, count_from}
-use Rattle.model_series.specs.RuleSets.{is_in_set, is_kept, is_due, is_counted, is_day_of_set, is_by_end, is_within_count}
-use Rattle.model_time.specs.Walls.{day_of_wall, second_of_wall}
-use Rattle.model_time.specs.Floor.{floor_div}
+use Rattle.spec_series.specs.Periods.{period_number, is_in_phase}
+use Rattle.spec_series.specs.Places.{count_days, count_from}
+use Rattle.spec_series.specs.RuleSets.{is_in_set, is_kept, is_due, is_counted, is_day_of_set, is_by_end, is_within_count}
+use Rattle.spec_time.specs.Walls.{day_of_wall, second_of_wall}
+use Rattle.spec_time.specs.Floor.{floor_div}
 use Rattle.rule_expand.specs.Sets.{is_by_last, is_up_to, IsNext, IsBound, IsGreatest, IsLastDue, IsFirstFrom, IsCountAt}
 use Rattle.rule_expand.specs.Walk.{periods, IsPhaseDay, IsNextDay}
-use Rattle.model_series.specs.declared.rule.Rule.{Rule}
-use Rattle.model_series.specs.declared.by_part.End.{End}
-use Rattle.model_series.specs.declared.by_part.End.TheVariants.{Never, Count, Until}
+use Rattle.spec_series.specs.declared.rule.Rule.{Rule}
+use Rattle.spec_series.specs.declared.by_part.End.{End}
+use Rattle.spec_series.specs.declared.by_part.End.TheVariants.{Never, Count, Until}
 use Rattle.rule_expand.specs.declared.bound.Bound.{Bound}
 use Rattle.rule_expand.specs.declared.bound.Bound.TheVariants.{Endless, Last}
 use Rattle.rule_expand.proofs.Cycle.{later, is_kept-cycle, count_from-after, count_days-more, count_days-none}
 use Rattle.rule_expand.proofs.Ends.{count_next}
 use Rattle.rule_expand.proofs.Next.{period-later}
 use Rattle.rule_expand.proofs.Remainder.{modulo-steps}
-use Rattle.model_series.specs.RuleLimits.{is_end}
+use Rattle.spec_series.specs.RuleLimits.{is_end}
 use Rattle.rule_expand.specs.Sets.{IsEnd}
 use Rattle.rule_expand.proofs.Range.{years_near}
 use Rattle.rule_expand.specs.Near.{IsNear}

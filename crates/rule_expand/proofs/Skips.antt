@@ -1,9 +1,9 @@
 -- Days in a row that a rule doesn't keep.
 use Rattle.std.proofs.Common.{◌≡◌, ℕ, ◌+◌, ◌*◌, ◌<◌, ◌≤◌, ◌^◌, refl, sym, ap, ◌∙◌, arith, subst, ℤ, pos, ◌+ℤ◌, ◌-ℤ◌, ◌≤ℤ◌, false, unsigned_abs, negsuc, zero-mul}
 use Rattle.jiff_core.proofs.SignedLemmas.{signed_arith}
-use Rattle.model_series.specs.declared.rule.Rule.{Rule}
-use Rattle.model_series.specs.Periods.{period_number, period_last}
-use Rattle.model_series.specs.RuleSets.{is_kept}
+use Rattle.spec_series.specs.declared.rule.Rule.{Rule}
+use Rattle.spec_series.specs.Periods.{period_number, period_last}
+use Rattle.spec_series.specs.RuleSets.{is_kept}
 use Rattle.rule_expand.specs.Near.{IsNear, most}
 use Rattle.rule_expand.specs.Walk.{first_of, IsFirstPeriod, IsFirstIn, NoneIn}
 use Rattle.rule_expand.proofs.Next.{period-mono}

@@ -1,14 +1,14 @@
 -- The walk over the periods of a rule that are in phase.
 use Rattle.std.specs.Prelude.{◌≡◌, ◌<◌, ℕ, ◌+◌, ◌*◌, ◌==◌, ◌&&◌, Bool, true, ℤ, pos, ◌+ℤ◌, ◌-ℤ◌, ◌*ℤ◌, ◌<ℤ◌, ◌≤ℤ◌, Option, Some, None}
-use Rattle.model_time.specs.Floor.{floor_div, modulo}
-use Rattle.model_time.specs.CivilDay.{day_number}
-use Rattle.model_series.specs.declared.by_part.Freq.{Freq}
-use Rattle.model_series.specs.declared.by_part.Freq.TheVariants.{Daily, Weekly, Monthly, Yearly}
-use Rattle.model_series.specs.declared.by_part.NDay.{NDay}
-use Rattle.model_series.specs.declared.rule.Rule.{Rule}
-use Rattle.model_series.specs.Places.{is_place}
-use Rattle.model_series.specs.Periods.{period_first, period_last, period_number, is_in_phase}
-use Rattle.model_series.specs.RuleSets.{day_matches, is_kept}
+use Rattle.spec_time.specs.Floor.{floor_div, modulo}
+use Rattle.spec_time.specs.CivilDay.{day_number}
+use Rattle.spec_series.specs.declared.by_part.Freq.{Freq}
+use Rattle.spec_series.specs.declared.by_part.Freq.TheVariants.{Daily, Weekly, Monthly, Yearly}
+use Rattle.spec_series.specs.declared.by_part.NDay.{NDay}
+use Rattle.spec_series.specs.declared.rule.Rule.{Rule}
+use Rattle.spec_series.specs.Places.{is_place}
+use Rattle.spec_series.specs.Periods.{period_first, period_last, period_number, is_in_phase}
+use Rattle.spec_series.specs.RuleSets.{day_matches, is_kept}
 
 -- the place, if one is named, from the front or from the end
 abbrev pub nth_at : ℕ → ℕ → Option ℤ → Bool

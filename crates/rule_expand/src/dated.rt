@@ -1,7 +1,7 @@
 //! Days with their dates, one after another.
 ghost use Rattle.std.specs.Prelude.{◌≡◌, ◌+◌, ◌-◌, ◌<◌, ◌≤◌, ◌%◌, ℤ, pos, ◌+ℤ◌};
-ghost use Rattle.model_time.specs.CivilDay.{day_of_month, month_length, month_of, weekday_of, year_of};
-ghost use Rattle.model_series.specs.Periods.{month_last};
+ghost use Rattle.spec_time.specs.CivilDay.{day_of_month, month_length, month_of, weekday_of, year_of};
+ghost use Rattle.spec_series.specs.Periods.{month_last};
 ghost use Rattle.rule_expand.specs.Near.{IsNear};
 
 use crate::months::days_in_month;

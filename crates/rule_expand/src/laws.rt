@@ -1,8 +1,8 @@
 //! The law of rules, the contract of a function that does nothing.
 ghost use Rattle.std.specs.Prelude.{◌≡◌, ℤ};
-ghost use Rattle.model_time.specs.CivilDay.{cycles_later};
-ghost use Rattle.model_series.specs.RuleSets.{day_matches, is_kept};
-ghost use Rattle.model_series.specs.declared.rule.Rule.{Rule};
+ghost use Rattle.spec_time.specs.CivilDay.{cycles_later};
+ghost use Rattle.spec_series.specs.RuleSets.{day_matches, is_kept};
+ghost use Rattle.spec_series.specs.declared.rule.Rule.{Rule};
 
 /// A rule matches and keeps the same days any number of cycles of 400 years later, or earlier.
 pub fn rules_repeat()

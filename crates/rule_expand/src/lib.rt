@@ -1,6 +1,6 @@
 //! The days that recurrence rules give, and the occurrences of a series, on all days without end.
 //!
-//! Nothing here takes memory. Days count from 1970-01-01; rules and series are those of `model_series`, whose types keep their
+//! Nothing here takes memory. Days count from 1970-01-01; rules and series are those of `spec_series`, whose types keep their
 //! limits.
 #![tactic(auto)]
 

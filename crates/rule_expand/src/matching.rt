@@ -1,15 +1,15 @@
 //! The days that match a rule, one after another.
 ghost use Rattle.std.specs.Prelude.{◌≡◌, ◌≤◌, ◌<◌, ℤ, pos, true, false, ◌+ℤ◌, ◌-ℤ◌, ◌<ℤ◌, ◌≤ℤ◌, IfSome, IsNone};
-ghost use Rattle.model_series.specs.Periods.{month_first, month_last};
-ghost use Rattle.model_series.specs.Places.{empty_or_any};
-ghost use Rattle.model_series.specs.RuleSets.{counts_in_month, day_matches, month_day_matches, nday_matches, scope_first, scope_last};
+ghost use Rattle.spec_series.specs.Periods.{month_first, month_last};
+ghost use Rattle.spec_series.specs.Places.{empty_or_any};
+ghost use Rattle.spec_series.specs.RuleSets.{counts_in_month, day_matches, month_day_matches, nday_matches, scope_first, scope_last};
 ghost use Rattle.rule_expand.specs.Near.{IsNear};
 ghost use Rattle.rule_expand.specs.Walk.{IsFirstMatch, IsFirstPlain, NonePlain};
 
 use crate::dated::{Dated, next, next_month, with_date};
 use crate::occurs::{Around, in_month_days, in_months, in_weekdays, in_year};
-use model_series::by_part::Freq;
-use model_series::rule::Rule;
+use spec_series::by_part::Freq;
+use spec_series::rule::Rule;
 
 /// Whether each part of a rule matches the day.
 pub(crate) fn matches(rule: &Rule, at: Dated) -> bool

@@ -1,25 +1,25 @@
 //! The occurrences of a series.
 ghost use Rattle.std.specs.Prelude.{◌^◌, ◌&&◌, ◌||◌, int_lt, unsigned_abs, int_le, ℕ, ◌≡◌, ◌+◌, ◌-◌, ◌+ℤ◌, ◌*◌, ◌-ℤ◌, ◌*ℤ◌, ◌<◌, ◌≤◌, ◌≤ℤ◌, ℤ, pos, true, IfSome, IsNone, Some};
-ghost use Rattle.model_series.specs.RuleSets.{is_in_set};
-ghost use Rattle.model_series.specs.SeriesLimits.{is_named};
-ghost use Rattle.model_time.specs.Walls.{second_of_wall};
-ghost use Rattle.model_time.specs.Floor.{floor_div};
+ghost use Rattle.spec_series.specs.RuleSets.{is_in_set};
+ghost use Rattle.spec_series.specs.SeriesLimits.{is_named};
+ghost use Rattle.spec_time.specs.Walls.{second_of_wall};
+ghost use Rattle.spec_time.specs.Floor.{floor_div};
 ghost use Rattle.rule_expand.specs.Later.{IsLaterRid, IsLaterOwn, IsLaterOne, IsOwnSecond, is_after, is_sooner, sooner, IsFirstOf, IsLater, IsLaterAt};
 ghost use Rattle.rule_expand.specs.Near.{IsNear};
 ghost use Rattle.rule_expand.specs.Sets.{is_regular, IsFirstFrom};
-ghost use Rattle.model_series.specs.declared.rule.Rule.{Rule};
+ghost use Rattle.spec_series.specs.declared.rule.Rule.{Rule};
 ghost use Rattle.std.specs.Ordering.{int_eq};
 ghost use Rattle.rule_expand.specs.Least.{IsLeastOf, IsSomeDay, lower};
 
 use crate::set::{next_in_set, second_of_day};
-use model_series::exception::Exception;
-use model_series::occurrence::Occurrence;
-use model_series::rule::Rule;
-use model_series::series::Series;
-use model_time::wall::Wall;
+use spec_series::exception::Exception;
+use spec_series::occurrence::Occurrence;
+use spec_series::rule::Rule;
+use spec_series::series::Series;
+use spec_time::wall::Wall;
 
 // Whether an exception names the wall second.
-#[tactic(auto, unfolding(model_series::specs::SeriesLimits::is_named))]
+#[tactic(auto, unfolding(spec_series::specs::SeriesLimits::is_named))]
 fn names(exceptions: &[Exception], wall: i64) -> bool
     ensures { result ≡ is_named exceptions.now wall }
 {

@@ -1,19 +1,19 @@
 //! The set of a rule.
 ghost use Rattle.std.specs.Prelude.{◌^◌, unsigned_abs, ◌&&◌, int_le, ℕ, ◌≡◌, ◌+◌, ◌-◌, ◌+ℤ◌, ◌-ℤ◌, ◌<◌, ◌≤◌, ◌≤ℤ◌, ◌<ℤ◌, ℤ, pos, true, IfSome, IsNone};
-ghost use Rattle.model_series.specs.Periods.{is_in_phase};
-ghost use Rattle.model_series.specs.RuleSets.{is_due, is_day_of_set, is_in_set};
-ghost use Rattle.model_time.specs.Walls.{day_of_wall, is_in_years, second_of_wall};
-ghost use Rattle.model_time.specs.Floor.{floor_div, modulo};
+ghost use Rattle.spec_series.specs.Periods.{is_in_phase};
+ghost use Rattle.spec_series.specs.RuleSets.{is_due, is_day_of_set, is_in_set};
+ghost use Rattle.spec_time.specs.Walls.{day_of_wall, is_in_years, second_of_wall};
+ghost use Rattle.spec_time.specs.Floor.{floor_div, modulo};
 ghost use Rattle.rule_expand.specs.Near.{IsNear};
 ghost use Rattle.rule_expand.specs.Sets.{IsGreatest, IsLastDue, IsNearBound, IsFirstFrom, IsNext, IsBound};
-ghost use Rattle.model_series.specs.declared.by_part.End.TheVariants.{Count};
+ghost use Rattle.spec_series.specs.declared.by_part.End.TheVariants.{Count};
 
 use crate::bound::Bound;
 use crate::occurs::is_kept_day;
 use crate::walk::{next_day, number_of};
-use model_series::by_part::End;
-use model_series::rule::Rule;
-use model_time::wall::Wall;
+use spec_series::by_part::End;
+use spec_series::rule::Rule;
+use spec_time::wall::Wall;
 
 // The first day after another that is kept and in phase.
 fn next_due(rule: &Rule, start_day: i64, after: i64) -> Option<i64>
@@ -136,7 +136,7 @@ fn is_phase_day(rule: &Rule, start_day: i64, day: i64) -> bool
 }
 
 // Whether a day is kept and in phase.
-#[tactic(auto, unfolding(model_series::specs::RuleSets::is_due))]
+#[tactic(auto, unfolding(spec_series::specs::RuleSets::is_due))]
 fn is_due_day(rule: &Rule, start_day: i64, day: i64) -> bool
     requires start { IsNear 10000000 start_day }
     requires day { IsNear 2199023255552 day }

@@ -1,18 +1,18 @@
 //! The next day that is kept and in phase.
 ghost use Rattle.std.specs.Prelude.{[], ◌^◌, unsigned_abs, ◌&&◌, ℕ, ◌≡◌, ◌+◌, ◌-◌, ◌+ℤ◌, ◌*◌, ◌-ℤ◌, ◌*ℤ◌, ◌<◌, ◌≤◌, ℤ, pos, IfSome, IsNone};
 ghost use Rattle.std.specs.Int.{IsInRange};
-ghost use Rattle.model_series.specs.Periods.{period_number};
-ghost use Rattle.model_series.specs.Places.{empty_or_any, is_place};
-ghost use Rattle.model_time.specs.CivilDay.{day_number};
-ghost use Rattle.model_time.specs.Floor.{floor_div, modulo};
+ghost use Rattle.spec_series.specs.Periods.{period_number};
+ghost use Rattle.spec_series.specs.Places.{empty_or_any, is_place};
+ghost use Rattle.spec_time.specs.CivilDay.{day_number};
+ghost use Rattle.spec_time.specs.Floor.{floor_div, modulo};
 ghost use Rattle.rule_expand.specs.Near.{IsNear, most};
 ghost use Rattle.rule_expand.specs.Walk.{IsWholePeriod, first_of, IsFirstPeriod, IsPhaseDay, IsNextDay, NoneIn, IsFirstIn, periods, NoneKept, IsFirstKept};
 
 use crate::matching::first_plain;
 use crate::occurs::{ahead, count_matching, date_at, in_month_days, in_period, matches_day};
 use civil_days::day_of;
-use model_series::by_part::Freq;
-use model_series::rule::Rule;
+use spec_series::by_part::Freq;
+use spec_series::rule::Rule;
 
 // The week's number.
 fn week_number(day: i64, week_start: u8) -> i64
@@ -35,7 +35,7 @@ fn month_number(year: i64, month: u8) -> i64
 }
 
 // The number of a day's period.
-#[tactic(auto, using(crate::proofs::Dates::whole), unfolding(model_series::specs::Periods::period_by))]
+#[tactic(auto, using(crate::proofs::Dates::whole), unfolding(spec_series::specs::Periods::period_by))]
 pub(crate) fn number_of(rule: &Rule, day: i64) -> i64
     requires { IsNear 2199023260000 day }
     ensures value { result ≡ period_number rule.now day }

@@ -5,17 +5,17 @@ use Rattle.std.proofs.lemmas.Bool.{and_from}
 use Rattle.std.proofs.lemmas.Bool.Decides.{nat_tests}
 use Rattle.std.proofs.Common.{arith}
 use Rattle.std.proofs.lemmas.Option.{same_Some}
-use Rattle.model_json.specs.Data.{Data, list, items_of}
-use Rattle.model_json.specs.Parts.{all_some, as_list}
-use Rattle.model_json.specs.TreeData.{data_of}
-use Rattle.model_json.specs.declared.tree.Tree.{Tree}
-use Rattle.model_json.specs.Number.{number_in}
-use Rattle.model_json.specs.Parts.{as_text, as_whole}
-use Rattle.model_series.specs.declared.by_part.Freq.{Freq}
-use Rattle.model_series.specs.declared.by_part.Freq.TheVariants.{Daily, Weekly, Monthly, Yearly}
-use Rattle.model_series.specs.declared.by_part.NDay.{NDay}
-use Rattle.model_series.specs.RuleLimits.{is_month, is_nday, is_nth, is_place_to}
-use Rattle.model_series.specs.RuleObjects.{each_in, is_absent, is_nday_object, month_in, month_of_number, nday_in, nday_of, nth_in, place_in, place_of, present_at, weekday_in, weekday_named}
+use Rattle.spec_json.specs.Data.{Data, list, items_of}
+use Rattle.spec_json.specs.Parts.{all_some, as_list}
+use Rattle.spec_json.specs.TreeData.{data_of}
+use Rattle.spec_json.specs.declared.tree.Tree.{Tree}
+use Rattle.spec_json.specs.Number.{number_in}
+use Rattle.spec_json.specs.Parts.{as_text, as_whole}
+use Rattle.spec_series.specs.declared.by_part.Freq.{Freq}
+use Rattle.spec_series.specs.declared.by_part.Freq.TheVariants.{Daily, Weekly, Monthly, Yearly}
+use Rattle.spec_series.specs.declared.by_part.NDay.{NDay}
+use Rattle.spec_series.specs.RuleLimits.{is_month, is_nday, is_nth, is_place_to}
+use Rattle.spec_series.specs.RuleObjects.{each_in, is_absent, is_nday_object, month_in, month_of_number, nday_in, nday_of, nth_in, place_in, place_of, present_at, weekday_in, weekday_named}
 use Rattle.std.specs.Option.{option_map_or}
 use Rattle.std.proofs.lemmas.Bool.{and_parts}
 use Rattle.std.proofs.lemmas.Int.{ints}

@@ -1,6 +1,6 @@
 -- Rules, one after another.
 use Rattle.std.proofs.Common.{◌≡◌, ◌&&◌, ℤ, pos, Bool, true, false, nat_le, nat_lt, int_le, arith, if◌then◌else◌, List, [], ◌∷◌, ◌++◌, Option, Some, None, map, option_map, refl, sym, ap, ◌∙◌, append_assoc}
-use Rattle.model_series.specs.declared.rule.Rule.{Rule}
+use Rattle.spec_series.specs.declared.rule.Rule.{Rule}
 use Rattle.std.proofs.Common.{◌<◌, ◌+ℤ◌}
 use Rattle.std.specs.List.{list_all}
 use Rattle.std.proofs.lemmas.Bool.{and_from, and_parts}
@@ -9,12 +9,12 @@ use Rattle.std.proofs.lemmas.Int.{ints}
 use Rattle.jiff_core.proofs.SignedLemmas.{signed_arith}
 use Rattle.civil_days.proofs.DateLemmas.{one_date}
 use Rattle.civil_days.proofs.MonthLemmas.{month_length_bound}
-use Rattle.model_time.specs.CivilDay.{day_of_month, month_of, weekday_of, year_of}
-use Rattle.model_time.specs.Floor.{modulo}
-use Rattle.model_series.specs.declared.by_part.Freq.{Freq}
-use Rattle.model_series.specs.declared.by_part.NDay.{NDay}
-use Rattle.model_series.specs.RuleLimits.{are_by_parts, is_month, is_nday, is_place_to}
-use Rattle.model_series.specs.RuleObjects.{RuleParts, implied_days, implied_month_days, implied_months, parts_of}
+use Rattle.spec_time.specs.CivilDay.{day_of_month, month_of, weekday_of, year_of}
+use Rattle.spec_time.specs.Floor.{modulo}
+use Rattle.spec_series.specs.declared.by_part.Freq.{Freq}
+use Rattle.spec_series.specs.declared.by_part.NDay.{NDay}
+use Rattle.spec_series.specs.RuleLimits.{are_by_parts, is_month, is_nday, is_place_to}
+use Rattle.spec_series.specs.RuleObjects.{RuleParts, implied_days, implied_month_days, implied_months, parts_of}
 
 map_push : (done : List Rule) (r : Rule) → map parts_of (done ++ r ∷ []) ≡ map parts_of done ++ parts_of r ∷ []
 map_push [] r = refl

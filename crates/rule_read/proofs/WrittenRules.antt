@@ -6,16 +6,16 @@ use Rattle.std.proofs.lemmas.Bool.{and_from, and_parts}
 use Rattle.std.proofs.lemmas.Bool.Decides.{nat_tests}
 use Rattle.std.proofs.lemmas.Int.{ints}
 use Rattle.std.proofs.lemmas.Option.{none-some, same_Some}
-use Rattle.model_json.specs.Data.{Data, whole, list, items_of, items_back}
-use Rattle.model_json.specs.Parts.{all_some}
-use Rattle.model_series.specs.declared.by_part.Freq.{Freq}
-use Rattle.model_series.specs.declared.by_part.Freq.TheVariants.{Daily, Weekly, Monthly, Yearly}
-use Rattle.model_series.specs.declared.by_part.End.{End}
-use Rattle.model_series.specs.declared.by_part.End.TheVariants.{Never, Count, Until}
-use Rattle.model_series.specs.declared.by_part.NDay.{NDay}
-use Rattle.model_series.specs.declared.rule.Rule.{Rule}
-use Rattle.model_series.specs.RuleLimits.{is_end, is_month, is_nday, is_nth, is_place_to}
-use Rattle.model_series.specs.RuleObjects.{RuleParts, count_data, each_in, end_in, filled, frequency_in, frequency_named, frequency_text, interval_in, is_empty, is_rule_object, is_settled, month_data, month_in, month_of_number, nday_data, nday_in, nth_data, nth_in, parts_of, place_in, present, rule_data, rule_in, settled_rule, thousand_of, until_data, present_at, week_start_in, weekday_named, weekday_text, with_lists, with_members}
+use Rattle.spec_json.specs.Data.{Data, whole, list, items_of, items_back}
+use Rattle.spec_json.specs.Parts.{all_some}
+use Rattle.spec_series.specs.declared.by_part.Freq.{Freq}
+use Rattle.spec_series.specs.declared.by_part.Freq.TheVariants.{Daily, Weekly, Monthly, Yearly}
+use Rattle.spec_series.specs.declared.by_part.End.{End}
+use Rattle.spec_series.specs.declared.by_part.End.TheVariants.{Never, Count, Until}
+use Rattle.spec_series.specs.declared.by_part.NDay.{NDay}
+use Rattle.spec_series.specs.declared.rule.Rule.{Rule}
+use Rattle.spec_series.specs.RuleLimits.{is_end, is_month, is_nday, is_nth, is_place_to}
+use Rattle.spec_series.specs.RuleObjects.{RuleParts, count_data, each_in, end_in, filled, frequency_in, frequency_named, frequency_text, interval_in, is_empty, is_rule_object, is_settled, month_data, month_in, month_of_number, nday_data, nday_in, nth_data, nth_in, parts_of, place_in, present, rule_data, rule_in, settled_rule, thousand_of, until_data, present_at, week_start_in, weekday_named, weekday_text, with_lists, with_members}
 use Rattle.time_text.proofs.NumberLemmas.{decimal_back}
 use Rattle.time_text.proofs.WrittenLemmas.{read_back as local_back}
 

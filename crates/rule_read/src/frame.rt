@@ -1,9 +1,9 @@
 //! The members of a rule that aren't lists.
 ghost use Rattle.std.specs.Prelude.{◌≡◌, ◌<◌, true};
 ghost use Rattle.std.specs.Int.{IsInRange};
-ghost use Rattle.model_series.specs.RuleLimits.{is_end};
+ghost use Rattle.spec_series.specs.RuleLimits.{is_end};
 
-use model_series::by_part::{End, Freq};
+use spec_series::by_part::{End, Freq};
 
 /// How long periods are, which of them count, and where the rule ends.
 #[derive(Clone, Copy, Drop)]

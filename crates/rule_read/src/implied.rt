@@ -1,10 +1,10 @@
 //! The implied parts of rules: those of the start's day that a rule leaves out.
 ghost use Rattle.std.specs.Prelude.{◌≡◌, ◌<◌, ◌&&◌, ◌||◌, ◌^◌, ◌∷◌, [], None, pos, is_some, unsigned_abs, IfOk};
 ghost use Rattle.std.specs.List.{list_any};
-ghost use Rattle.model_series.specs.RuleObjects.{implied_days, implied_month_days, implied_months, is_empty, is_monthly, is_settled_by, is_weekly, is_yearly};
+ghost use Rattle.spec_series.specs.RuleObjects.{implied_days, implied_month_days, implied_months, is_empty, is_monthly, is_settled_by, is_weekly, is_yearly};
 
 use civil_days::{civil, weekday};
-use model_series::by_part::{Freq, NDay, NDays, Small};
+use spec_series::by_part::{Freq, NDay, NDays, Small};
 use std::alloc::{AllocError, Global};
 
 fn is_weekly(frequency: Freq) -> bool

@@ -1,16 +1,16 @@
 //! The lists of rules.
 ghost use Rattle.std.specs.Prelude.{◌≡◌, ◌≤◌, IfOk, map, option_map};
-ghost use Rattle.model_json.specs.Parts.{all_some, as_list};
-ghost use Rattle.model_json.specs.TreeData.{data_of};
-ghost use Rattle.model_series.specs.RuleObjects.{each_in, month_in, nday_in, place_in};
+ghost use Rattle.spec_json.specs.Parts.{all_some, as_list};
+ghost use Rattle.spec_json.specs.TreeData.{data_of};
+ghost use Rattle.spec_series.specs.RuleObjects.{each_in, month_in, nday_in, place_in};
 
 use crate::values::{month, nday, place};
-use model_json::tree::Tree;
-use model_series::by_part::{Freq, NDays, Small};
+use spec_json::tree::Tree;
+use spec_series::by_part::{Freq, NDays, Small};
 use std::alloc::{AllocError, Global};
 
 /// The items of the list that a value is.
-#[tactic(auto, using(model_json::specs::Data::items_back))]
+#[tactic(auto, using(spec_json::specs::Data::items_back))]
 pub(crate) fn items_of(value: &Tree) -> Option<&[Tree]>
     ensures { option_map (λ ts. map data_of ts.now) result ≡ as_list (data_of value.now) }
 {
@@ -37,7 +37,7 @@ pub(crate) fn ndays(
     }
 }
 
-#[tactic(auto, using(model_json::proofs::Appending::push_option))]
+#[tactic(auto, using(spec_json::proofs::Appending::push_option))]
 fn each_nday(alloc: Global, frequency: Freq, items: &[Tree]) -> Result<Option<NDays>, AllocError>
     ensures { IfOk result (λ o. o ≡ all_some (nday_in frequency) (map data_of items.now)) }
 {
@@ -69,7 +69,7 @@ pub(crate) fn places(
     }
 }
 
-#[tactic(auto, using(model_json::proofs::Appending::push_option))]
+#[tactic(auto, using(spec_json::proofs::Appending::push_option))]
 fn each_place(alloc: Global, most: u32, items: &[Tree]) -> Result<Option<Small>, AllocError>
     requires { most ≤ 366 }
     ensures { IfOk result (λ o. o ≡ all_some (place_in most) (map data_of items.now)) }
@@ -97,7 +97,7 @@ pub(crate) fn months(alloc: Global, value: Option<&Tree>) -> Result<Option<Small
     }
 }
 
-#[tactic(auto, using(model_json::proofs::Appending::push_option))]
+#[tactic(auto, using(spec_json::proofs::Appending::push_option))]
 fn each_month(alloc: Global, items: &[Tree]) -> Result<Option<Small>, AllocError>
     ensures { IfOk result (λ o. o ≡ all_some month_in (map data_of items.now)) }
 {

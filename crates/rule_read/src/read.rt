@@ -1,10 +1,10 @@
 //! Reads recurrence rules.
 ghost use Rattle.std.specs.Prelude.{◌≡◌, ◌≤◌, ◌<◌, ◌^◌, Some, None, length, map, option_and_then, option_map, true, unsigned_abs, IfErr, IfOk, IfSome};
-ghost use Rattle.model_json.specs.Parts.{all_some};
-ghost use Rattle.model_json.specs.TreeData.{data_of};
-ghost use Rattle.model_series.specs.RuleLimits.{are_by_parts};
-ghost use Rattle.model_series.specs.RuleObjects.{filled, frequency_in, parts_of, rule_in, rules_in, rules_of, settled_rule, with_lists, with_members};
-ghost use Rattle.model_time.specs.Walls.{day_of_wall, is_in_years};
+ghost use Rattle.spec_json.specs.Parts.{all_some};
+ghost use Rattle.spec_json.specs.TreeData.{data_of};
+ghost use Rattle.spec_series.specs.RuleLimits.{are_by_parts};
+ghost use Rattle.spec_series.specs.RuleObjects.{filled, frequency_in, parts_of, rule_in, rules_in, rules_of, settled_rule, with_lists, with_members};
+ghost use Rattle.spec_time.specs.Walls.{day_of_wall, is_in_years};
 ghost use Rattle.rule_read.specs.declared.error.RulesError.TheVariants.{BadRules};
 
 use crate::error::RulesError;
@@ -13,11 +13,11 @@ use crate::implied::{is_settled, with_days, with_month_days, with_months};
 use crate::lists::{items_of, months, ndays, places};
 use crate::values::{end, frequency, interval, week_start};
 use crate::words::{is_rule_object, present_at};
-use model_json::tree::Tree;
-use model_series::by_part::{Freq, NDays, Small};
-use model_series::rule::Rule;
-use model_series::rules::Rules;
-use model_time::wall::Wall;
+use spec_json::tree::Tree;
+use spec_series::by_part::{Freq, NDays, Small};
+use spec_series::rule::Rule;
+use spec_series::rules::Rules;
+use spec_time::wall::Wall;
 use std::alloc::{AllocError, Global};
 
 /// The most rules of a series.
@@ -88,7 +88,7 @@ fn each_rule(alloc: Global, items: &[Tree], day: i64) -> Result<Option<Rules>, A
 }
 
 // The rule that a value is, for a series whose start's day is given.
-#[tactic(auto, unfolding(model_series::specs::RuleObjects::rule_in))]
+#[tactic(auto, unfolding(spec_series::specs::RuleObjects::rule_in))]
 fn rule(alloc: Global, tree: &Tree, day: i64) -> Result<Option<Rule>, AllocError>
     requires { unsigned_abs day < 2 ^ 42 }
     ensures { IfOk result (λ o. option_map parts_of o ≡ rule_in day (data_of tree.now)) }
@@ -111,7 +111,7 @@ fn frequency_at(value: Option<&Tree>) -> Option<Freq>
     }
 }
 
-#[tactic(auto, unfolding(model_series::specs::RuleObjects::with_members))]
+#[tactic(auto, unfolding(spec_series::specs::RuleObjects::with_members))]
 fn with_members(
     alloc: Global,
     tree: &Tree,
@@ -139,7 +139,7 @@ fn with_members(
     with_lists(alloc, tree, day, frame)
 }
 
-#[tactic(auto, unfolding(model_series::specs::RuleObjects::with_lists))]
+#[tactic(auto, unfolding(spec_series::specs::RuleObjects::with_lists))]
 fn with_lists(
     alloc: Global,
     tree: &Tree,

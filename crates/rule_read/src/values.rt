@@ -1,17 +1,17 @@
 //! The single values of rules. Nothing here takes memory.
 ghost use Rattle.std.specs.Prelude.{◌≡◌, ◌<◌, ◌≤◌, Some, None, true, IfSome, option_and_then, option_map};
-ghost use Rattle.model_json.specs.Number.{number_in};
+ghost use Rattle.spec_json.specs.Number.{number_in};
 ghost use Rattle.std.specs.Int.{IsInRange};
-ghost use Rattle.model_json.specs.Parts.{as_text, as_whole};
-ghost use Rattle.model_json.specs.TreeData.{data_of};
-ghost use Rattle.model_series.specs.RuleLimits.{is_end, is_month, is_place_to};
-ghost use Rattle.model_series.specs.RuleObjects.{end_in, frequency_in, frequency_named, interval_in, local_at, month_in, month_of_number, nday_in, nday_of, nth_in, place_in, place_of, thousand_in, thousand_of, week_start_in, weekday_in, weekday_named};
-ghost use Rattle.model_time.specs.Walls.{is_in_years};
+ghost use Rattle.spec_json.specs.Parts.{as_text, as_whole};
+ghost use Rattle.spec_json.specs.TreeData.{data_of};
+ghost use Rattle.spec_series.specs.RuleLimits.{is_end, is_month, is_place_to};
+ghost use Rattle.spec_series.specs.RuleObjects.{end_in, frequency_in, frequency_named, interval_in, local_at, month_in, month_of_number, nday_in, nday_of, nth_in, place_in, place_of, thousand_in, thousand_of, week_start_in, weekday_in, weekday_named};
+ghost use Rattle.spec_time.specs.Walls.{is_in_years};
 
 use crate::words::{is_nday_object, present_at};
-use model_json::tree::Tree;
-use model_series::by_part::{End, Freq, NDay};
-use model_time::wall::Wall;
+use spec_json::tree::Tree;
+use spec_series::by_part::{End, Freq, NDay};
+use spec_time::wall::Wall;
 use time_text::{read_local, read_number};
 
 // The text that a value is.
@@ -34,7 +34,7 @@ fn whole_of(value: &Tree) -> Option<i128>
     }
 }
 
-#[tactic(auto, unfolding(model_series::specs::RuleObjects::frequency_named))]
+#[tactic(auto, unfolding(spec_series::specs::RuleObjects::frequency_named))]
 fn frequency_named(word: &str) -> Option<Freq>
     ensures { result ≡ frequency_named word.now }
 {
@@ -57,7 +57,7 @@ pub(crate) fn frequency(value: &Tree) -> Option<Freq>
     }
 }
 
-#[tactic(auto, unfolding(model_series::specs::RuleObjects::weekday_named))]
+#[tactic(auto, unfolding(spec_series::specs::RuleObjects::weekday_named))]
 fn weekday_named(word: &str) -> Option<u8>
     ensures named { result ≡ weekday_named word.now }
     ensures bound { IfSome result (λ d. d < 7) }

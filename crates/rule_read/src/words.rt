@@ -2,11 +2,11 @@
 ghost use Rattle.std.specs.Prelude.{◌≡◌, ◌||◌, [], map, option_map};
 ghost use Rattle.std.specs.List.{list_all, list_any};
 ghost use Rattle.std.specs.Str.{bytes_eq};
-ghost use Rattle.model_json.specs.Data.{items_of, list};
-ghost use Rattle.model_json.specs.TreeData.{data_of, pair_of};
-ghost use Rattle.model_series.specs.RuleObjects.{has_only, has_right_words, is_absent, is_nday_object, is_rule_object, is_word_or_absent, nday_names, present, rule_names, present_at};
+ghost use Rattle.spec_json.specs.Data.{items_of, list};
+ghost use Rattle.spec_json.specs.TreeData.{data_of, pair_of};
+ghost use Rattle.spec_series.specs.RuleObjects.{has_only, has_right_words, is_absent, is_nday_object, is_rule_object, is_word_or_absent, nday_names, present, rule_names, present_at};
 
-use model_json::tree::{Member, Tree};
+use spec_json::tree::{Member, Tree};
 
 /// Whether a value counts as absent: null, or an empty list.
 pub(crate) fn is_absent(value: &Tree) -> bool
@@ -74,7 +74,7 @@ fn has_right_words(tree: &Tree) -> bool
         && is_word_or_absent(tree, "skip", "omit")
 }
 
-#[tactic(auto, using(model_json::specs::Data::pairs_back))]
+#[tactic(auto, using(spec_json::specs::Data::pairs_back))]
 fn has_rule_names(tree: &Tree) -> bool
     ensures { result ≡ has_only rule_names (data_of tree.now) }
 {
@@ -125,7 +125,7 @@ pub(crate) fn is_nday_object(tree: &Tree) -> bool
     }
 }
 
-#[tactic(auto, using(model_json::specs::Data::pairs_back))]
+#[tactic(auto, using(spec_json::specs::Data::pairs_back))]
 fn has_nday_names(tree: &Tree) -> bool
     ensures { result ≡ has_only nday_names (data_of tree.now) }
 {

@@ -1,15 +1,15 @@
 //! Writes recurrence rules.
 ghost use Rattle.std.specs.Prelude.{◌≡◌, ◌<◌, map, true, unsigned_abs, IfOk};
-ghost use Rattle.model_json.specs.Data.{items_of, list, text, whole};
-ghost use Rattle.model_json.specs.TreeData.{data_of};
-ghost use Rattle.model_series.specs.RuleLimits.{is_end};
-ghost use Rattle.model_series.specs.RuleObjects.{count_data, frequency_text, month_data, nday_data, nth_data, parts_of, rule_data, until_data, weekday_text};
+ghost use Rattle.spec_json.specs.Data.{items_of, list, text, whole};
+ghost use Rattle.spec_json.specs.TreeData.{data_of};
+ghost use Rattle.spec_series.specs.RuleLimits.{is_end};
+ghost use Rattle.spec_series.specs.RuleObjects.{count_data, frequency_text, month_data, nday_data, nth_data, parts_of, rule_data, until_data, weekday_text};
 
-use model_json::num::Num;
-use model_json::text::Text;
-use model_json::tree::{Tree, TreeList};
-use model_series::by_part::{End, Freq, NDay};
-use model_series::rule::Rule;
+use spec_json::num::Num;
+use spec_json::text::Text;
+use spec_json::tree::{Tree, TreeList};
+use spec_series::by_part::{End, Freq, NDay};
+use spec_series::rule::Rule;
 use std::alloc::{AllocError, Global};
 use time_text::local_text;
 
@@ -35,7 +35,7 @@ struct Lists {
     by_set: Tree,
 }
 
-#[tactic(auto, unfolding(model_series::specs::RuleObjects::rule_data))]
+#[tactic(auto, unfolding(spec_series::specs::RuleObjects::rule_data))]
 fn with_lists(alloc: Global, rule: &Rule, lists: Lists) -> Result<Tree, AllocError>
     requires days { data_of lists.by_day ≡ list (items_of (map nday_data rule.now.by_day)) }
     requires months { data_of lists.by_month ≡ list (items_of (map month_data rule.now.by_month)) }
@@ -68,7 +68,7 @@ fn text_tree(alloc: Global, word: &str) -> Result<Tree, AllocError>
     Ok(Tree::Text(Text::from_str(alloc, word)?))
 }
 
-#[tactic(auto, unfolding(model_series::specs::RuleObjects::weekday_text))]
+#[tactic(auto, unfolding(spec_series::specs::RuleObjects::weekday_text))]
 fn weekday_name(day: u8) -> &'static str
     ensures { result.now ≡ weekday_text day }
 {
@@ -83,7 +83,7 @@ fn weekday_name(day: u8) -> &'static str
     }
 }
 
-#[tactic(auto, unfolding(model_series::specs::RuleObjects::frequency_text))]
+#[tactic(auto, unfolding(spec_series::specs::RuleObjects::frequency_text))]
 fn frequency_name(frequency: Freq) -> &'static str
     ensures { result.now ≡ frequency_text frequency }
 {

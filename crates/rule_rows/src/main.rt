@@ -2,15 +2,15 @@
 #![tactic(auto)]
 
 ghost use Rattle.std.specs.Prelude.{◌≡◌, ◌≤◌, length, true};
-ghost use Rattle.model_time.specs.Walls.{is_in_years};
+ghost use Rattle.spec_time.specs.Walls.{is_in_years};
 
-use model_json::tree::Tree;
-use model_series::by_part::End;
-use model_series::exception::Exceptions;
-use model_series::rules::Rules;
-use model_series::series::Series;
-use model_time::length::Length;
-use model_time::wall::Wall;
+use spec_json::tree::Tree;
+use spec_series::by_part::End;
+use spec_series::exception::Exceptions;
+use spec_series::rules::Rules;
+use spec_series::series::Series;
+use spec_time::length::Length;
+use spec_time::wall::Wall;
 use row_table::line::tree_in;
 use row_table::row::Row;
 use row_table::trial::{NOT_READ, Trial, try_rows, unless_answered};

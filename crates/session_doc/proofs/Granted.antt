@@ -5,11 +5,11 @@ use Rattle.std.proofs.lemmas.List.Quantifiers.{position-Some}
 use Rattle.std.proofs.lemmas.Option.{option_and_then_some}
 use Rattle.std.specs.Result.{result_ok}
 use Rattle.std.specs.Str.{bytes_eq}
-use Rattle.model_json.specs.Data.{Data, field}
-use Rattle.model_json.specs.Parts.{as_text, list_at, text_at}
-use Rattle.model_site.specs.declared.limits.TheConstants.{MAX_ACCOUNTS, MAX_USERS}
-use Rattle.model_site.specs.Configuration.{SiteAccount, SiteUser, account_in, accounts_in, grant_in, grant_to, grants_in, has_grant, is_good_token, is_good_user_name, optional_list, passing, read_behind, restrict, restrict_all, user_grants, user_in, users_in}
-use Rattle.model_core.specs.declared.user.Grant.{Grant}
+use Rattle.spec_json.specs.Data.{Data, field}
+use Rattle.spec_json.specs.Parts.{as_text, list_at, text_at}
+use Rattle.spec_site.specs.declared.limits.TheConstants.{MAX_ACCOUNTS, MAX_USERS}
+use Rattle.spec_site.specs.Configuration.{SiteAccount, SiteUser, account_in, accounts_in, grant_in, grant_to, grants_in, has_grant, is_good_token, is_good_user_name, optional_list, passing, read_behind, restrict, restrict_all, user_grants, user_in, users_in}
+use Rattle.spec_core.specs.declared.user.Grant.{Grant}
 use Rattle.session_doc.proofs.ReadLists.{all_read, least_read, list_read, most_read}
 
 abbrev IsBelow : ℕ → Grant → Type 0

@@ -2,8 +2,8 @@
 use Rattle.std.proofs.Common.{◌≡◌, ℕ, ◌+◌, ◌≤◌, List, [], ◌∷◌, ◌++◌, Bool, true, false, nat_le, Option, Some, None, Ok, length, length-append, All, refl, ap, subst, arith}
 use Rattle.std.proofs.lemmas.Bool.Decides.{nat_tests}
 use Rattle.std.proofs.lemmas.List.Elements.{All-nil, All-push}
-use Rattle.model_json.specs.Data.{Data}
-use Rattle.model_site.specs.Configuration.{read_behind, read_list}
+use Rattle.spec_json.specs.Data.{Data}
+use Rattle.spec_site.specs.Configuration.{read_behind, read_list}
 
 module _ {X : Type 0} (read : List X → Data → Option X) where
   each_read : (earlier : List X) (ds : List Data) (xs : List X) → read_behind read earlier ds ≡ Ok xs → length xs ≡ length earlier + length ds

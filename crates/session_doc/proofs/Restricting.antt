@@ -5,8 +5,8 @@ use Rattle.std.proofs.lemmas.List.Sums.{fails_before_first}
 use Rattle.std.proofs.lemmas.List.Quantifiers.{position-Some}
 use Rattle.std.specs.List.{position_or_len}
 use Rattle.std.specs.Str.{bytes_eq}
-use Rattle.model_site.specs.Configuration.{restrict}
-use Rattle.model_core.specs.declared.user.Grant.{Grant}
+use Rattle.spec_site.specs.Configuration.{restrict}
+use Rattle.spec_core.specs.declared.user.Grant.{Grant}
 
 abbrev has_id : List ℕ → Grant → Bool
 has_id id g = bytes_eq g.id id

@@ -1,11 +1,11 @@
 -- The accounts of a session object, from any of the grants on.
 use Rattle.std.proofs.Common.{◌≡◌, ℕ, List, [], ◌∷◌, ◌++◌, Bool, true, false, codes, map, refl, ap}
-use Rattle.model_json.specs.Data.{Data, Pair, members_of, object, text}
-use Rattle.model_json.specs.Edit.{put_all}
-use Rattle.model_site.specs.Configuration.{Site}
-use Rattle.model_site.specs.SessionObject.{account_member, account_members, capabilities, primary_accounts, session_object}
-use Rattle.model_core.specs.declared.user.Grant.{Grant}
-use Rattle.model_core.specs.declared.user.User.{User}
+use Rattle.spec_json.specs.Data.{Data, Pair, members_of, object, text}
+use Rattle.spec_json.specs.Edit.{put_all}
+use Rattle.spec_site.specs.Configuration.{Site}
+use Rattle.spec_site.specs.SessionObject.{account_member, account_members, capabilities, primary_accounts, session_object}
+use Rattle.spec_core.specs.declared.user.Grant.{Grant}
+use Rattle.spec_core.specs.declared.user.User.{User}
 
 module _ (site : Site) where
   abbrev pub members_from : Bool → List Grant → List Pair

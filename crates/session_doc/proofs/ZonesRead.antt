@@ -1,8 +1,8 @@
 -- The first bad zone among the leading ones, or the first item that isn't of that form, is the first bad item.
 use Rattle.std.proofs.Common.{◌≡◌, ◌∙◌, ℕ, ◌+◌, ◌<◌, ◌≤◌, List, [], ◌∷◌, ◌++◌, Bool, true, false, Option, Some, None, Ok, Err, length, length-append, refl, sym, ap, arith, append_assoc, append-nil}
-use Rattle.model_json.specs.Data.{Data}
-use Rattle.model_site.specs.Configuration.{read_behind, zone_in, zone_text}
-use Rattle.model_site.specs.TimeZones.{ZoneText, first_bad_zone, is_good_zone}
+use Rattle.spec_json.specs.Data.{Data}
+use Rattle.spec_site.specs.Configuration.{read_behind, zone_in, zone_text}
+use Rattle.spec_site.specs.TimeZones.{ZoneText, first_bad_zone, is_good_zone}
 use Rattle.session_doc.specs.LeadingZones.{leading_zones}
 
 pub leading_fewer : (ds : List Data) → length (leading_zones ds) ≤ length ds

@@ -1,8 +1,8 @@
 -- The zones at the head of a list of JSON values.
 use Rattle.std.specs.Prelude.{List, [], ◌∷◌, Option, Some, None}
-use Rattle.model_json.specs.Data.{Data}
-use Rattle.model_site.specs.Configuration.{zone_text}
-use Rattle.model_site.specs.TimeZones.{ZoneText}
+use Rattle.spec_json.specs.Data.{Data}
+use Rattle.spec_site.specs.Configuration.{zone_text}
+use Rattle.spec_site.specs.TimeZones.{ZoneText}
 
 abbrev pub with_zone : Option ZoneText → List ZoneText → List ZoneText
 with_zone None zones = []

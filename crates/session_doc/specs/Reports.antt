@@ -1,7 +1,7 @@
 -- What a failure says of a configuration, and of a field of it.
 use Rattle.std.specs.Prelude.{◌≡◌, ℕ, Result, Err}
-use Rattle.model_site.specs.Configuration.{Fault, Site}
-use Rattle.model_site.specs.declared.field.Field.{Field}
+use Rattle.spec_site.specs.Configuration.{Fault, Site}
+use Rattle.spec_site.specs.declared.field.Field.{Field}
 use Rattle.session_doc.specs.declared.configuration_error.ConfigurationError.{ConfigurationError}
 use Rattle.session_doc.specs.declared.configuration_error.ConfigurationError.TheVariants.{Bad, NoMemory}
 

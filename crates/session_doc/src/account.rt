@@ -1,7 +1,7 @@
 //! An account of a site.
 ghost use Rattle.std.specs.Prelude.{◌≡◌};
 
-use model_json::text::Text;
+use spec_json::text::Text;
 use std::marker::Model;
 
 /// An account: its id and its name.
@@ -12,7 +12,7 @@ pub(crate) struct Account {
 }
 
 impl Model for Account {
-    ghost use Rattle.model_site.specs.Configuration.{SiteAccount};
+    ghost use Rattle.spec_site.specs.Configuration.{SiteAccount};
 
     ghost Value = { SiteAccount };
 

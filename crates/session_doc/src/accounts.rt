@@ -1,17 +1,17 @@
 //! The field `accounts`.
-ghost use Rattle.model_site.specs.declared.limits.TheConstants.{MAX_ACCOUNTS};
+ghost use Rattle.spec_site.specs.declared.limits.TheConstants.{MAX_ACCOUNTS};
 ghost use Rattle.std.specs.Prelude.{◌≡◌, ◌≤◌, [], IfErr, IfOk, Ok, length, map};
-ghost use Rattle.model_site.specs.Configuration.{account_in, accounts_in, has_account, read_behind};
-ghost use Rattle.model_json.specs.TreeData.{data_of};
-ghost use Rattle.model_site.specs.declared.field.Field.TheVariants.{Accounts};
+ghost use Rattle.spec_site.specs.Configuration.{account_in, accounts_in, has_account, read_behind};
+ghost use Rattle.spec_json.specs.TreeData.{data_of};
+ghost use Rattle.spec_site.specs.declared.field.Field.TheVariants.{Accounts};
 ghost use Rattle.session_doc.specs.Reports.{ReportsField};
 
 use crate::account::Account;
 use crate::configuration_error::{ConfigurationError, bad};
-use model_json::text::Text;
-use model_json::tree::Tree;
-use model_site::field::Field;
-use model_site::limits::MAX_ACCOUNTS;
+use spec_json::text::Text;
+use spec_json::tree::Tree;
+use spec_site::field::Field;
+use spec_site::limits::MAX_ACCOUNTS;
 use std::alloc::{AllocError, Global};
 use time_text::read_id;
 

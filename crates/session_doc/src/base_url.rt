@@ -1,15 +1,15 @@
 //! The field `baseUrl`.
 ghost use Rattle.std.specs.Prelude.{◌≡◌, IfErr, IfOk, Ok};
-ghost use Rattle.model_site.specs.Configuration.{base_url_in, is_base_url};
-ghost use Rattle.model_json.specs.TreeData.{data_of};
-ghost use Rattle.model_site.specs.declared.field.Field.TheVariants.{BaseUrl};
+ghost use Rattle.spec_site.specs.Configuration.{base_url_in, is_base_url};
+ghost use Rattle.spec_json.specs.TreeData.{data_of};
+ghost use Rattle.spec_site.specs.declared.field.Field.TheVariants.{BaseUrl};
 ghost use Rattle.session_doc.specs.Reports.{ReportsField};
 
 use crate::configuration_error::{ConfigurationError, bad};
-use model_json::text::Text;
-use model_json::tree::Tree;
-use model_site::field::Field;
-use model_site::limits::MAX_BASE_URL_BYTES;
+use spec_json::text::Text;
+use spec_json::tree::Tree;
+use spec_site::field::Field;
+use spec_site::limits::MAX_BASE_URL_BYTES;
 
 /// What the server's addresses begin with: a text of 1 to 1000 bytes. Takes memory for a copy of it.
 pub(crate) fn read_base_url(tree: &Tree) -> Result<Text, ConfigurationError>

@@ -1,12 +1,12 @@
 //! The site without a configuration.
 ghost use Rattle.std.specs.Prelude.{◌≡◌, ◌∷◌, [], IfOk, codes, false};
-ghost use Rattle.model_site.specs.Configuration.{built_in};
+ghost use Rattle.spec_site.specs.Configuration.{built_in};
 
 use crate::account::Account;
 use crate::site::Site;
 use crate::site_user::SiteUser;
-use model_core::user::{Grant, Grants, User};
-use model_json::text::Text;
+use spec_core::user::{Grant, Grants, User};
+use spec_json::text::Text;
 use std::alloc::{AllocError, Global};
 use std::sync::Arc;
 use zone_table::{ZoneError, Zones};

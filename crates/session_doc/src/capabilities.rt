@@ -1,16 +1,16 @@
 //! The capabilities of the server and of its accounts.
 ghost use Rattle.std.specs.Prelude.{◌≡◌, [], IfOk, pos};
-ghost use Rattle.model_json.specs.Data.{members_of, object, whole};
-ghost use Rattle.model_site.specs.SessionObject.{account_capabilities, capabilities, core_capability};
-ghost use Rattle.model_json.specs.TreeData.{data_of};
+ghost use Rattle.spec_json.specs.Data.{members_of, object, whole};
+ghost use Rattle.spec_site.specs.SessionObject.{account_capabilities, capabilities, core_capability};
+ghost use Rattle.spec_json.specs.TreeData.{data_of};
 
-use model_core::capability::{AVAILABILITY, CALENDARS, CORE};
-use model_core::limits::{
+use spec_core::capability::{AVAILABILITY, CALENDARS, CORE};
+use spec_core::limits::{
     MAX_CALLS_IN_REQUEST, MAX_OBJECTS_IN_GET, MAX_OBJECTS_IN_SET, MAX_SIZE_REQUEST,
 };
-use model_json::num::Num;
-use model_json::text::Text;
-use model_json::tree::{Tree, TreeList, TreeObject};
+use spec_json::num::Num;
+use spec_json::text::Text;
+use spec_json::tree::{Tree, TreeList, TreeObject};
 use std::alloc::{AllocError, Global};
 
 /// The capabilities of the server (RFC 8620 section 2, draft JMAP for Calendars). Takes memory for them.

@@ -1,8 +1,8 @@
 //! Sites from configurations.
 ghost use Rattle.std.specs.Prelude.{◌≡◌, IfErr, IfOk, Ok};
-ghost use Rattle.model_json.specs.Json.{value};
-ghost use Rattle.model_site.specs.Configuration.{configured, site_in, site_read};
-ghost use Rattle.model_json.specs.TreeData.{data_of};
+ghost use Rattle.spec_json.specs.Json.{value};
+ghost use Rattle.spec_site.specs.Configuration.{configured, site_in, site_read};
+ghost use Rattle.spec_json.specs.TreeData.{data_of};
 ghost use Rattle.session_doc.specs.Reports.{Reports};
 
 use crate::accounts::read_accounts;
@@ -12,9 +12,9 @@ use crate::site::Site;
 use crate::users::read_users;
 use crate::zones::read_zones;
 use json_edge::read::{ReadError, read_tree};
-use model_json::tree::Tree;
-use model_site::field::Field;
-use model_site::limits::MAX_CONFIGURATION_BYTES;
+use spec_json::tree::Tree;
+use spec_site::field::Field;
+use spec_site::limits::MAX_CONFIGURATION_BYTES;
 use std::alloc::Global;
 use std::sync::Arc;
 

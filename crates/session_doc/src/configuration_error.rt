@@ -2,7 +2,7 @@
 ghost use Rattle.std.specs.Prelude.{◌≡◌};
 ghost use Rattle.session_doc.specs.declared.configuration_error.ConfigurationError.TheVariants.{NoMemory};
 
-use model_site::field::Field;
+use spec_site::field::Field;
 use std::alloc::{AllocError, AllocFailed};
 
 /// Why there is no site.

@@ -1,15 +1,15 @@
 //! The accounts that a user of a configuration may use.
-ghost use Rattle.model_site.specs.declared.limits.TheConstants.{MAX_ACCOUNTS};
+ghost use Rattle.spec_site.specs.declared.limits.TheConstants.{MAX_ACCOUNTS};
 ghost use Rattle.std.specs.Prelude.{◌≡◌, ◌≤◌, [], IfOk, IfSome, Some, ◌<◌, if◌then◌else◌, length, map, option_map, position};
 ghost use Rattle.std.specs.Str.{bytes_eq};
-ghost use Rattle.model_site.specs.Configuration.{grant_in, grants_in, has_grant, restrict, restrict_all, user_grants};
-ghost use Rattle.model_json.specs.TreeData.{data_of};
+ghost use Rattle.spec_site.specs.Configuration.{grant_in, grants_in, has_grant, restrict, restrict_all, user_grants};
+ghost use Rattle.spec_json.specs.TreeData.{data_of};
 
 use crate::account::Account;
 use crate::optional_list::optional_list_at;
-use model_core::user::{Grant, Grants};
-use model_json::text::Text;
-use model_json::tree::Tree;
+use spec_core::user::{Grant, Grants};
+use spec_json::text::Text;
+use spec_json::tree::Tree;
 use std::alloc::{AllocError, Global};
 
 /// The grants of a user, in the order of `accounts`, a list of distinct ids; `readOnly` may name some of these, each once.

@@ -1,17 +1,17 @@
 //! Session objects.
 ghost use Rattle.std.specs.Prelude.{◌≡◌, ◌<◌, ◌++◌, IfOk, length};
-ghost use Rattle.model_json.specs.Data.{text};
-ghost use Rattle.model_site.specs.Configuration.{Site as SiteRecord, user_at};
-ghost use Rattle.model_site.specs.SessionObject.{primary_accounts, session_object};
-ghost use Rattle.model_json.specs.TreeData.{data_of};
+ghost use Rattle.spec_json.specs.Data.{text};
+ghost use Rattle.spec_site.specs.Configuration.{Site as SiteRecord, user_at};
+ghost use Rattle.spec_site.specs.SessionObject.{primary_accounts, session_object};
+ghost use Rattle.spec_json.specs.TreeData.{data_of};
 
 use crate::capabilities::capabilities;
 use crate::session_accounts::accounts_object;
 use crate::site::Site;
-use model_core::capability::{AVAILABILITY, CALENDARS};
-use model_core::user::Grant;
-use model_json::text::Text;
-use model_json::tree::{Tree, TreeObject};
+use spec_core::capability::{AVAILABILITY, CALENDARS};
+use spec_core::user::Grant;
+use spec_json::text::Text;
+use spec_json::tree::{Tree, TreeObject};
 use std::alloc::{AllocError, Global};
 
 impl Site {

@@ -1,13 +1,13 @@
 //! The accounts of a session object.
 ghost use Rattle.std.specs.Prelude.{◌≡◌, ◌<◌, [], All, IfOk, length};
-ghost use Rattle.model_json.specs.Edit.{put_all};
-ghost use Rattle.model_site.specs.SessionObject.{account_members, account_object};
-ghost use Rattle.model_json.specs.TreeData.{data_of};
+ghost use Rattle.spec_json.specs.Edit.{put_all};
+ghost use Rattle.spec_site.specs.SessionObject.{account_members, account_object};
+ghost use Rattle.spec_json.specs.TreeData.{data_of};
 
 use crate::capabilities::account_capabilities;
 use crate::site::Site;
-use model_core::user::Grant;
-use model_json::tree::{Tree, TreeObject};
+use spec_core::user::Grant;
+use spec_json::tree::{Tree, TreeObject};
 use std::alloc::{AllocError, Global};
 
 /// The granted accounts by id, of which the first is the user's own. Takes memory for them.

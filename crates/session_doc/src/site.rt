@@ -1,14 +1,14 @@
 //! A site.
-ghost use Rattle.model_site.specs.declared.limits.TheConstants.{MAX_ACCOUNTS, MAX_USERS};
+ghost use Rattle.spec_site.specs.declared.limits.TheConstants.{MAX_ACCOUNTS, MAX_USERS};
 ghost use Rattle.std.specs.Prelude.{◌≡◌, ◌<◌, ◌≤◌, All, IfSome, length, position, slice_index_or};
 ghost use Rattle.std.specs.Str.{bytes_eq};
 ghost use Rattle.std.specs.Arc.{arc_value};
-ghost use Rattle.model_site.specs.Configuration.{HasItsAccounts, SiteAccount, user_at, user_named, user_of_token};
+ghost use Rattle.spec_site.specs.Configuration.{HasItsAccounts, SiteAccount, user_at, user_named, user_of_token};
 
 use crate::account::Account;
 use crate::site_user::SiteUser;
-use model_core::user::User;
-use model_json::text::Text;
+use spec_core::user::User;
+use spec_json::text::Text;
 use std::marker::Model;
 use std::sync::Arc;
 use zone_table::Zones;
@@ -24,10 +24,10 @@ pub struct Site {
 }
 
 impl Model for Site {
-    ghost use Rattle.model_site.specs.declared.limits.TheConstants.{MAX_ACCOUNTS, MAX_USERS};
+    ghost use Rattle.spec_site.specs.declared.limits.TheConstants.{MAX_ACCOUNTS, MAX_USERS};
     ghost use Rattle.std.specs.Prelude.{◌<◌, ◌≤◌, length};
     ghost use Rattle.std.specs.Arc.{arc_value};
-    ghost use Rattle.model_site.specs.Configuration.{HasItsAccounts, Site as Described};
+    ghost use Rattle.spec_site.specs.Configuration.{HasItsAccounts, Site as Described};
 
     ghost Value = { Described };
 

@@ -1,8 +1,8 @@
 //! A user of a site.
 ghost use Rattle.std.specs.Prelude.{◌≡◌};
 
-use model_core::user::User;
-use model_json::text::Text;
+use spec_core::user::User;
+use spec_json::text::Text;
 use std::marker::Model;
 
 /// A user, with the bearer token that shows a request to be of theirs (RFC 6750 section 2.1).
@@ -13,7 +13,7 @@ pub(crate) struct SiteUser {
 }
 
 impl Model for SiteUser {
-    ghost use Rattle.model_site.specs.Configuration.{SiteUser as UserWithToken};
+    ghost use Rattle.spec_site.specs.Configuration.{SiteUser as UserWithToken};
 
     ghost Value = { UserWithToken };
 

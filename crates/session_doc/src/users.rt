@@ -1,26 +1,26 @@
 //! The field `users`.
-ghost use Rattle.model_site.specs.declared.limits.TheConstants.{MAX_ACCOUNTS, MAX_USERS};
+ghost use Rattle.spec_site.specs.declared.limits.TheConstants.{MAX_ACCOUNTS, MAX_USERS};
 ghost use Rattle.std.specs.Prelude.{◌≡◌, ◌≤◌, ◌&&◌, [], IfErr, IfOk, Ok, codes, length, map, option_map};
 ghost use Rattle.std.specs.List.{list_any};
 ghost use Rattle.std.specs.Str.{bytes_eq};
-ghost use Rattle.model_core.specs.Names.{is_token};
-ghost use Rattle.model_json.specs.Parts.{text_at};
-ghost use Rattle.model_site.specs.Configuration.{is_good_token, is_good_user_name, passing, read_behind, user_in, users_in};
-ghost use Rattle.model_core.specs.Names.{is_name};
-ghost use Rattle.model_json.specs.TreeData.{data_of};
-ghost use Rattle.model_site.specs.declared.field.Field.TheVariants.{Users};
+ghost use Rattle.spec_core.specs.Names.{is_token};
+ghost use Rattle.spec_json.specs.Parts.{text_at};
+ghost use Rattle.spec_site.specs.Configuration.{is_good_token, is_good_user_name, passing, read_behind, user_in, users_in};
+ghost use Rattle.spec_core.specs.Names.{is_name};
+ghost use Rattle.spec_json.specs.TreeData.{data_of};
+ghost use Rattle.spec_site.specs.declared.field.Field.TheVariants.{Users};
 ghost use Rattle.session_doc.specs.Reports.{ReportsField};
 
 use crate::account::Account;
 use crate::configuration_error::{ConfigurationError, bad};
 use crate::grants::read_grants;
 use crate::site_user::SiteUser;
-use model_core::names::{is_name, is_token};
-use model_core::user::User;
-use model_json::text::Text;
-use model_json::tree::Tree;
-use model_site::field::Field;
-use model_site::limits::MAX_USERS;
+use spec_core::names::{is_name, is_token};
+use spec_core::user::User;
+use spec_json::text::Text;
+use spec_json::tree::Tree;
+use spec_site::field::Field;
+use spec_site::limits::MAX_USERS;
 use std::alloc::{AllocError, Global};
 
 /// The users: 1 to 64, each with a name of 1 to 255 bytes and a token of 1 to 255 bytes from `!` to `~`, both of no

@@ -1,17 +1,17 @@
 //! The field `zones`.
-ghost use Rattle.model_site.specs.declared.limits.TheConstants.{MAX_ZONES};
+ghost use Rattle.spec_site.specs.declared.limits.TheConstants.{MAX_ZONES};
 ghost use Rattle.std.specs.Prelude.{◌≡◌, ◌≤◌, [], IfErr, IfOk, Ok, length, map};
-ghost use Rattle.model_site.specs.Configuration.{read_behind, zone_in, zone_text, zones_in};
-ghost use Rattle.model_json.specs.TreeData.{data_of};
+ghost use Rattle.spec_site.specs.Configuration.{read_behind, zone_in, zone_text, zones_in};
+ghost use Rattle.spec_json.specs.TreeData.{data_of};
 ghost use Rattle.session_doc.specs.LeadingZones.{leading_zones};
 ghost use Rattle.session_doc.specs.Reports.{ReportsField};
 
 use crate::configuration_error::{ConfigurationError, bad};
 use crate::optional_list::optional_list_at;
-use model_json::text::Text;
-use model_json::tree::Tree;
-use model_site::field::Field;
-use model_site::limits::MAX_ZONES;
+use spec_json::text::Text;
+use spec_json::tree::Tree;
+use spec_site::field::Field;
+use spec_site::limits::MAX_ZONES;
 use std::alloc::{AllocError, Global};
 use zone_table::{ZoneError, Zones};
 

@@ -6,9 +6,9 @@ use Rattle.cal_model.specs.CreatedIds.{resolved_id}
 use Rattle.cal_model.specs.Operations.{Ground, changes_in, create_outcome, created_id, destroy, outcomes, outcomes_of_creates}
 use Rattle.cal_model.specs.Sets.{NamedId, Objects, all_ids, after_creates, after_updates, create_outcomes, destroy_outcomes, ids_named, ids_to_destroy, set_changes, update_outcomes, updates_after}
 use Rattle.cal_model.specs.declared.outcome.Outcome.{Outcome}
-use Rattle.model_history.specs.declared.entry.Change.{Change}
-use Rattle.model_history.specs.declared.entry.Kind.{Kind}
-use Rattle.model_json.specs.Data.{Pair}
+use Rattle.spec_history.specs.declared.entry.Change.{Change}
+use Rattle.spec_history.specs.declared.entry.Kind.{Kind}
+use Rattle.spec_json.specs.Data.{Pair}
 
 -- what a set came to: the outcomes of its updates and destroys, the ids that it named, and what is staged
 pub record IsSet (g : Ground) (kind : Kind) (created : List (List ℕ × List ℕ)) (h : List Change) (s : Objects) (b d : List Outcome) (named : List NamedId) (staged : List Change) : Type 0 where

@@ -3,12 +3,12 @@ use Rattle.std.proofs.Common.{◌≡◌, ◌∷◌, ℕ, List, [], codes, decima
 use Rattle.cal_model.specs.Operations.{Ground}
 use Rattle.cal_model.specs.SetReply.{created_member, destroyed_item, list_or_null, object_or_null, refused_member, set_arguments, updated_member}
 use Rattle.cal_model.specs.Sets.{Objects, of_each}
-use Rattle.model_history.specs.declared.entry.Change.{Change}
-use Rattle.model_history.specs.declared.entry.Kind.{Kind}
-use Rattle.model_json.specs.Data.{Data, Pair, text}
-use Rattle.model_json.specs.TreeData.{pair_of}
-use Rattle.model_json.specs.declared.tree.Tree.{Tree}
-use Rattle.model_json.specs.declared.tree.Tree.TheVariants.{Object}
+use Rattle.spec_history.specs.declared.entry.Change.{Change}
+use Rattle.spec_history.specs.declared.entry.Kind.{Kind}
+use Rattle.spec_json.specs.Data.{Data, Pair, text}
+use Rattle.spec_json.specs.TreeData.{pair_of}
+use Rattle.spec_json.specs.declared.tree.Tree.{Tree}
+use Rattle.spec_json.specs.declared.tree.Tree.TheVariants.{Object}
 use Rattle.set_methods.specs.Telling.{Tells}
 use Rattle.set_methods.specs.declared.told.Told.{Told}
 

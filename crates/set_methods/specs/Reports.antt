@@ -1,6 +1,6 @@
 -- What a `PlanError` says of why a set is refused.
 use Rattle.std.specs.Prelude.{◌≡◌, Option, Some}
-use Rattle.model_call.specs.declared.call.MethodError.{MethodError}
+use Rattle.spec_calls.specs.declared.call.MethodError.{MethodError}
 use Rattle.set_methods.specs.declared.planned.PlanError.{PlanError}
 use Rattle.set_methods.specs.declared.planned.PlanError.TheVariants.{Method, NoMemory}
 

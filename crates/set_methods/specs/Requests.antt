@@ -2,7 +2,7 @@
 use Rattle.std.specs.Prelude.{ℤ}
 use Rattle.cal_model.specs.Operations.{Ground}
 use Rattle.cal_model.specs.Sets.{Objects, objects}
-use Rattle.model_history.specs.Base.{Base}
+use Rattle.spec_history.specs.Base.{Base}
 use Rattle.set_methods.specs.declared.request.SetRequest.{SetRequest}
 
 -- the objects that a request names

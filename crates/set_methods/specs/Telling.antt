@@ -2,10 +2,10 @@
 use Rattle.std.specs.Prelude.{◌≡◌, ◌++◌, ℕ, List, map}
 use Rattle.cal_model.specs.Operations.{Ground}
 use Rattle.cal_model.specs.Sets.{Objects, all_ids, create_outcomes, destroy_outcomes, ids_to_destroy, set_changes, update_outcomes}
-use Rattle.model_history.specs.History.{state_at}
-use Rattle.model_history.specs.declared.entry.Change.{Change}
-use Rattle.model_history.specs.declared.entry.Kind.{Kind}
-use Rattle.model_json.specs.TreeData.{pair_of}
+use Rattle.spec_history.specs.History.{state_at}
+use Rattle.spec_history.specs.declared.entry.Change.{Change}
+use Rattle.spec_history.specs.declared.entry.Kind.{Kind}
+use Rattle.spec_json.specs.TreeData.{pair_of}
 use Rattle.set_methods.specs.declared.run.Creates.{Creates}
 use Rattle.set_methods.specs.declared.told.Told.{Told}
 

@@ -3,15 +3,15 @@ ghost use Rattle.std.specs.Prelude.{◌≡◌, IfOk, List, length, ℕ};
 ghost use Rattle.cal_model.specs.Operations.{Ground};
 ghost use Rattle.cal_model.specs.SetReply.{set_arguments};
 ghost use Rattle.cal_model.specs.Sets.{Objects};
-ghost use Rattle.model_history.specs.declared.entry.Change.{Change as AnyChange};
-ghost use Rattle.model_history.specs.declared.entry.Kind.{Kind as AnyKind};
+ghost use Rattle.spec_history.specs.declared.entry.Change.{Change as AnyChange};
+ghost use Rattle.spec_history.specs.declared.entry.Kind.{Kind as AnyKind};
 ghost use Rattle.set_methods.specs.Telling.{Tells};
 
 use crate::changed::{destroyed, updated};
 use crate::created::created;
 use crate::refused::{not_destroyed, refused};
 use crate::told::Told;
-use model_json::tree::Tree;
+use spec_json::tree::Tree;
 use std::alloc::{AllocError, Global};
 use time_text::state_text;
 

@@ -3,7 +3,7 @@ ghost use Rattle.std.specs.Prelude.{◌≡◌, IfOk, map};
 ghost use Rattle.cal_model.specs.CreatedIds.{different, resolved_id};
 
 use indexmap::IndexSet;
-use model_json::text::Text;
+use spec_json::text::Text;
 use object_outcomes::created_ids::CreatedIds;
 use std::alloc::{AllocError, Global};
 

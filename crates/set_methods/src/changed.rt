@@ -3,16 +3,16 @@ ghost use Rattle.std.specs.Prelude.{◌≡◌, IfOk, codes, filter, length, map}
 ghost use Rattle.std.specs.Str.{bytes_eq};
 ghost use Rattle.cal_model.specs.SetReply.{destroyed_item, list_or_null, news_of, object_or_null, updated_member};
 ghost use Rattle.cal_model.specs.Sets.{of_each};
-ghost use Rattle.model_json.specs.Data.{members_of, object};
-ghost use Rattle.model_json.specs.ObjectKeys.{HasOrderedKeys};
-ghost use Rattle.model_json.specs.TreeData.{data_of, pair_of};
+ghost use Rattle.spec_json.specs.Data.{members_of, object};
+ghost use Rattle.spec_json.specs.ObjectKeys.{HasOrderedKeys};
+ghost use Rattle.spec_json.specs.TreeData.{data_of, pair_of};
 
 use crate::created::stored_members;
 use crate::named_id::NamedId;
 use crate::parts::{list_or_null, object_or_null};
 use cal_model::outcome::Outcome;
-use model_history::entry::{Change, Kind};
-use model_json::tree::{Member, Tree, TreeObject};
+use spec_history::entry::{Change, Kind};
+use spec_json::tree::{Member, Tree, TreeObject};
 use std::alloc::{AllocError, Global};
 use time_text::object_id_text;
 

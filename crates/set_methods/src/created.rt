@@ -4,15 +4,15 @@ ghost use Rattle.cal_model.specs.declared.outcome.Outcome.TheVariants.{Accepted}
 ghost use Rattle.cal_model.specs.SetReply.{created_member, is_value, members_beyond, members_stored, object_or_null};
 ghost use Rattle.cal_model.specs.Operations.{created_id};
 ghost use Rattle.cal_model.specs.Sets.{of_each};
-ghost use Rattle.model_json.specs.ObjectKeys.{HasOrderedKeys};
-ghost use Rattle.model_json.specs.Parts.{members_in};
-ghost use Rattle.model_json.specs.TreeData.{data_of, pair_of};
+ghost use Rattle.spec_json.specs.ObjectKeys.{HasOrderedKeys};
+ghost use Rattle.spec_json.specs.Parts.{members_in};
+ghost use Rattle.spec_json.specs.TreeData.{data_of, pair_of};
 
 use crate::parts::object_or_null;
 use cal_model::outcome::Outcome;
-use model_history::entry::Change;
-use model_json::text::Text;
-use model_json::tree::{Member, Tree, TreeObject};
+use spec_history::entry::Change;
+use spec_json::text::Text;
+use spec_json::tree::{Member, Tree, TreeObject};
 use std::alloc::{AllocError, Global};
 use time_text::object_id_text;
 

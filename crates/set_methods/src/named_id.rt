@@ -2,7 +2,7 @@
 ghost use Rattle.std.specs.Prelude.{◌≡◌, IfOk, []};
 ghost use Rattle.cal_model.specs.Sets.{ids_named, names_id};
 
-use model_json::text::Text;
+use spec_json::text::Text;
 use object_outcomes::created_ids::CreatedIds;
 use std::alloc::{AllocError, Global};
 use std::marker::Model;

@@ -2,11 +2,11 @@
 ghost use Rattle.std.specs.Prelude.{◌≡◌, [], IfOk, map};
 ghost use Rattle.cal_model.specs.Operations.{destroy};
 ghost use Rattle.cal_model.specs.Sets.{updates_after};
-ghost use Rattle.model_json.specs.TreeData.{pair_of};
+ghost use Rattle.spec_json.specs.TreeData.{pair_of};
 ghost use Rattle.object_outcomes.specs.Judging.{operation_in};
 
 use crate::named_id::{NamedId, names_id};
-use model_json::tree::Member;
+use spec_json::tree::Member;
 use object_outcomes::created_ids::CreatedIds;
 use object_outcomes::operation::Operation;
 use std::alloc::{AllocError, Global};

@@ -1,9 +1,9 @@
 //! The parts of the response to a set.
 ghost use Rattle.std.specs.Prelude.{◌≡◌, IfOk, map};
 ghost use Rattle.cal_model.specs.SetReply.{list_or_null, object_or_null};
-ghost use Rattle.model_json.specs.TreeData.{data_of, pair_of};
+ghost use Rattle.spec_json.specs.TreeData.{data_of, pair_of};
 
-use model_json::tree::{Member, Tree, TreeList};
+use spec_json::tree::{Member, Tree, TreeList};
 use object_outcomes::objects::object_of;
 use std::alloc::{AllocError, Global};
 

@@ -1,8 +1,8 @@
 //! What a plan gives.
 
-use model_call::call::MethodError;
-use model_json::lists::Pairs;
-use model_json::tree::Tree;
+use spec_calls::call::MethodError;
+use spec_json::lists::Pairs;
+use spec_json::tree::Tree;
 use std::alloc::{AllocError, AllocFailed};
 
 /// What a call replies whose changes are staged.

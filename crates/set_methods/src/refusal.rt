@@ -2,19 +2,19 @@
 ghost use Rattle.std.specs.Prelude.{◌≡◌, ◌++◌, ◌&&◌, IfOk, map, nat_lt, length, ◌+◌};
 ghost use Rattle.std.specs.List.{list_all};
 ghost use Rattle.cal_model.specs.Sets.{are_values, is_in_state, set_refusal};
-ghost use Rattle.model_core.specs.Id.{is_id};
-ghost use Rattle.model_core.specs.declared.limits.TheConstants.{MAX_OBJECTS_IN_SET};
-ghost use Rattle.model_json.specs.Patch.{is_object};
-ghost use Rattle.model_json.specs.TreeData.{data_of, pair_of};
+ghost use Rattle.spec_core.specs.Id.{is_id};
+ghost use Rattle.spec_core.specs.declared.limits.TheConstants.{MAX_OBJECTS_IN_SET};
+ghost use Rattle.spec_json.specs.Patch.{is_object};
+ghost use Rattle.spec_json.specs.TreeData.{data_of, pair_of};
 ghost use Rattle.set_methods.specs.Requests.{objects_in};
 
 use crate::request::SetRequest;
 use cal_model::view::AccountView;
-use model_call::call::MethodError;
-use model_core::limits::MAX_OBJECTS_IN_SET;
-use model_history::entry::Kind;
-use model_json::text::Text;
-use model_json::tree::{Member, Tree};
+use spec_calls::call::MethodError;
+use spec_core::limits::MAX_OBJECTS_IN_SET;
+use spec_history::entry::Kind;
+use spec_json::text::Text;
+use spec_json::tree::{Member, Tree};
 use std::alloc::{AllocError, Global};
 use time_text::{read_id, state_text};
 

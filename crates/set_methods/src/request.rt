@@ -1,12 +1,12 @@
 //! What a set asks.
 ghost use Rattle.std.specs.Prelude.{◌≡◌, map};
-ghost use Rattle.model_json.specs.TreeData.{pair_of};
+ghost use Rattle.spec_json.specs.TreeData.{pair_of};
 ghost use Rattle.set_methods.specs.Requests.{objects_in};
 
-use model_history::entry::Kind;
-use model_json::lists::Texts;
-use model_json::text::Text;
-use model_json::tree::{Member, TreeObject};
+use spec_history::entry::Kind;
+use spec_json::lists::Texts;
+use spec_json::text::Text;
+use spec_json::tree::{Member, TreeObject};
 
 /// What a set asks of an account: the arguments of the call (RFC 8620 section 5.3).
 #[derive(Drop)]

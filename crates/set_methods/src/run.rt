@@ -2,15 +2,15 @@
 ghost use Rattle.std.specs.Prelude.{◌≡◌, ◌++◌, IfOk, flat_map, length, map, vec_len};
 ghost use Rattle.cal_model.specs.Operations.{changes_in, created_id, outcomes, outcomes_of_creates};
 ghost use Rattle.cal_model.specs.Sets.{of_each};
-ghost use Rattle.model_json.specs.Data.{Data};
-ghost use Rattle.model_json.specs.TreeData.{pair_of};
+ghost use Rattle.spec_json.specs.Data.{Data};
+ghost use Rattle.spec_json.specs.TreeData.{pair_of};
 ghost use Rattle.object_outcomes.specs.Judging.{IsAllowed, ground_in, operation_in};
 
 use cal_model::outcome::Outcome;
 use cal_model::view::AccountView;
-use model_history::entry::Change;
-use model_json::text::Text;
-use model_json::tree::Member;
+use spec_history::entry::Change;
+use spec_json::text::Text;
+use spec_json::tree::Member;
 use object_outcomes::created_ids::CreatedIds;
 use object_outcomes::judge::{judge, judge_create};
 use object_outcomes::operation::Operation;

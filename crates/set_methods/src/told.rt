@@ -2,8 +2,8 @@
 
 use crate::named_id::NamedId;
 use cal_model::outcome::Outcome;
-use model_json::text::Text;
-use model_json::tree::Member;
+use spec_json::text::Text;
+use spec_json::tree::Member;
 
 /// What the response to a set tells: the states before and after it, and what came of each object.
 #[derive(Drop)]

@@ -1,15 +1,15 @@
 -- An object without bad properties starts in the years that an event may start in, and lasts as long as one may.
 use Rattle.std.proofs.Common.{◌≡◌, ℕ, ℤ, List, [], Bool, true, false, not, Option, Some, None, codes, option_and_then, pos, unwrap_or, refl, sym, ap, ◌∙◌}
 use Rattle.std.specs.Option.{option_map_or}
-use Rattle.model_event.specs.Events.{bad_event_properties, event_table, length_in, start_in}
-use Rattle.model_event.specs.Values.{is_short_duration, is_short_length, is_showing, is_start}
-use Rattle.model_json.specs.Data.{Data, null, truth, whole, text, list, object, field, lookup}
-use Rattle.model_json.specs.ObjectKeys.{keys_rise}
-use Rattle.model_json.specs.Parts.{as_text, is_null, members_in}
-use Rattle.model_site.specs.TimeZones.{ZoneText}
-use Rattle.model_time.specs.Durations.{duration_in, length_of}
-use Rattle.model_time.specs.LocalTimes.{local_in}
-use Rattle.model_time.specs.declared.length.Length.{Length}
+use Rattle.spec_events.specs.Events.{bad_event_properties, event_table, length_in, start_in}
+use Rattle.spec_events.specs.Values.{is_short_duration, is_short_length, is_showing, is_start}
+use Rattle.spec_json.specs.Data.{Data, null, truth, whole, text, list, object, field, lookup}
+use Rattle.spec_json.specs.ObjectKeys.{keys_rise}
+use Rattle.spec_json.specs.Parts.{as_text, is_null, members_in}
+use Rattle.spec_site.specs.TimeZones.{ZoneText}
+use Rattle.spec_time.specs.Durations.{duration_in, length_of}
+use Rattle.spec_time.specs.LocalTimes.{local_in}
+use Rattle.spec_time.specs.declared.length.Length.{Length}
 use Rattle.property_table.proofs.TableLemmas.{lookup_filter, passes, value_kept}
 use Rattle.property_table.specs.Table.{given, optional, required}
 use Rattle.property_table.specs.Values.{is_text_that}

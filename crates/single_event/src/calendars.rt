@@ -1,11 +1,11 @@
 //! The calendars of an event.
 ghost use Rattle.std.specs.Prelude.{◌≡◌, ◌==◌, [], IfOk, map};
 ghost use Rattle.std.specs.List.{list_any};
-ghost use Rattle.model_event.specs.Events.{calendars_among, calendars_of, names_calendar};
-ghost use Rattle.model_json.specs.TreeData.{data_of, pair_of};
+ghost use Rattle.spec_events.specs.Events.{calendars_among, calendars_of, names_calendar};
+ghost use Rattle.spec_json.specs.TreeData.{data_of, pair_of};
 
-use model_history::entry::Kind;
-use model_json::tree::{Member, Tree};
+use spec_history::entry::Kind;
+use spec_json::tree::{Member, Tree};
 use std::alloc::{AllocError, Global};
 use time_text::read_object_id;
 

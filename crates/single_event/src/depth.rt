@@ -1,11 +1,11 @@
 //! How deep a value nests.
 ghost use Rattle.std.specs.Prelude.{◌≡◌, map, nat_le};
-ghost use Rattle.model_event.specs.Values.{is_shallow};
-ghost use Rattle.model_json.specs.Data.{depth, items_depth, items_of, members_depth, members_of};
-ghost use Rattle.model_json.specs.TreeData.{data_of, pair_of};
+ghost use Rattle.spec_events.specs.Values.{is_shallow};
+ghost use Rattle.spec_json.specs.Data.{depth, items_depth, items_of, members_depth, members_of};
+ghost use Rattle.spec_json.specs.TreeData.{data_of, pair_of};
 
-use model_event::limits::MAX_DEPTH;
-use model_json::tree::{Member, Tree};
+use spec_events::limits::MAX_DEPTH;
+use spec_json::tree::{Member, Tree};
 
 /// Whether a value nests as deep as one of an event may, and not deeper.
 pub fn is_shallow(value: &Tree) -> bool

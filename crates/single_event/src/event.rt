@@ -1,10 +1,10 @@
 //! An event.
 ghost use Rattle.std.specs.Prelude.{◌≡◌, option_map, true};
-ghost use Rattle.model_event.specs.Values.{is_short_length, is_showing};
+ghost use Rattle.spec_events.specs.Values.{is_short_length, is_showing};
 
-use model_json::text::Text;
-use model_time::length::Length;
-use model_time::wall::Wall;
+use spec_json::text::Text;
+use spec_time::length::Length;
+use spec_time::wall::Wall;
 use participants::people::People;
 use std::marker::Model;
 
@@ -20,12 +20,12 @@ pub struct Event {
 }
 
 impl Model for Event {
-    ghost use Rattle.model_event.specs.Events.{EventProperties};
+    ghost use Rattle.spec_events.specs.Events.{EventProperties};
 
     ghost Value = { EventProperties };
 
     ghost use Rattle.std.specs.Prelude.{◌≡◌, true};
-    ghost use Rattle.model_event.specs.Values.{is_short_length, is_showing};
+    ghost use Rattle.spec_events.specs.Values.{is_short_length, is_showing};
 
     ghost view = { λ a. record { start = a.start; length = a.length; time_zone = a.time_zone; is_occupying = a.is_occupying; calendars = a.calendars.items; people = a.people } };
 

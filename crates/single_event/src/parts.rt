@@ -1,16 +1,16 @@
 //! When an event starts, how long it lasts, and whether it takes up the time, whatever else it has.
 ghost use Rattle.std.specs.Prelude.{◌≡◌, IfSome, codes, option_and_then, true};
-ghost use Rattle.model_event.specs.Events.{has_word, is_occupying, start_in};
-ghost use Rattle.model_json.specs.Parts.{text_at};
-ghost use Rattle.model_json.specs.TreeData.{data_of};
-ghost use Rattle.model_time.specs.Durations.{duration_in};
-ghost use Rattle.model_time.specs.LocalTimes.{local_in};
-ghost use Rattle.model_time.specs.Walls.{is_in_years};
+ghost use Rattle.spec_events.specs.Events.{has_word, is_occupying, start_in};
+ghost use Rattle.spec_json.specs.Parts.{text_at};
+ghost use Rattle.spec_json.specs.TreeData.{data_of};
+ghost use Rattle.spec_time.specs.Durations.{duration_in};
+ghost use Rattle.spec_time.specs.LocalTimes.{local_in};
+ghost use Rattle.spec_time.specs.Walls.{is_in_years};
 
-use model_event::values::is_one_of;
-use model_json::tree::Tree;
-use model_time::length::Length;
-use model_time::wall::Wall;
+use spec_events::values::is_one_of;
+use spec_json::tree::Tree;
+use spec_time::length::Length;
+use spec_time::wall::Wall;
 use time_text::{read_duration, read_local};
 
 /// The wall second at which an event starts, or that of 1970-01-01T00:00:00 where it doesn't say (RFC 8984 section 5.1.1). Takes no memory.

@@ -1,11 +1,11 @@
 //! Whether an event recurs.
 ghost use Rattle.std.specs.Prelude.{◌≡◌, ◌==◌, codes, length};
-ghost use Rattle.model_event.specs.Events.{has_recurrence, is_more_than};
-ghost use Rattle.model_event.specs.Values.{is_empty_list, is_empty_object};
-ghost use Rattle.model_json.specs.Data.{field};
-ghost use Rattle.model_json.specs.TreeData.{data_of};
+ghost use Rattle.spec_events.specs.Events.{has_recurrence, is_more_than};
+ghost use Rattle.spec_events.specs.Values.{is_empty_list, is_empty_object};
+ghost use Rattle.spec_json.specs.Data.{field};
+ghost use Rattle.spec_json.specs.TreeData.{data_of};
 
-use model_json::tree::{Tree, TreeList, TreeObject};
+use spec_json::tree::{Tree, TreeList, TreeObject};
 
 /// Whether an object has rules of recurrence or overrides (RFC 8984 sections 4.3.3 and 4.3.5). Takes no memory.
 ///
@@ -35,7 +35,7 @@ fn has_overrides(tree: &Tree) -> bool
 }
 
 /// Whether a value is a list without items.
-#[tactic(auto, using(model_json::specs::Data::items_back))]
+#[tactic(auto, using(spec_json::specs::Data::items_back))]
 pub(crate) fn is_empty_list(value: &Tree) -> bool
     ensures { result ≡ is_empty_list (data_of value.now) }
 {
@@ -51,7 +51,7 @@ fn has_no_items(list: &TreeList) -> bool
     list.items().is_empty()
 }
 
-#[tactic(auto, using(model_json::specs::Data::pairs_back))]
+#[tactic(auto, using(spec_json::specs::Data::pairs_back))]
 fn is_empty_object(value: &Tree) -> bool
     ensures { result ≡ is_empty_object (data_of value.now) }
 {

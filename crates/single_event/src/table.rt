@@ -1,24 +1,24 @@
 //! The table of an event's properties.
 ghost use Rattle.std.specs.Prelude.{◌≡◌, ◌&&◌, ◌∷◌, [], Some, IfOk, codes, is_some, map};
 ghost use Rattle.std.specs.List.{list_all};
-ghost use Rattle.model_event.specs.Events.{are_calendar_ids, event_table, is_calendar_member, is_free_busy_status, is_status, other_property};
-ghost use Rattle.model_event.specs.Participants.{are_participants};
-ghost use Rattle.model_event.specs.Values.{is_empty_list, is_false, is_object_that, is_one_of, is_shallow, is_short_duration, is_start};
-ghost use Rattle.model_history.specs.ObjectId.{object_number};
-ghost use Rattle.model_history.specs.declared.entry.Kind.TheVariants.{Calendar};
-ghost use Rattle.model_json.specs.TreeData.{data_of, pair_of};
-ghost use Rattle.model_site.specs.TimeZones.{has_zone};
+ghost use Rattle.spec_events.specs.Events.{are_calendar_ids, event_table, is_calendar_member, is_free_busy_status, is_status, other_property};
+ghost use Rattle.spec_events.specs.Participants.{are_participants};
+ghost use Rattle.spec_events.specs.Values.{is_empty_list, is_false, is_object_that, is_one_of, is_shallow, is_short_duration, is_start};
+ghost use Rattle.spec_history.specs.ObjectId.{object_number};
+ghost use Rattle.spec_history.specs.declared.entry.Kind.TheVariants.{Calendar};
+ghost use Rattle.spec_json.specs.TreeData.{data_of, pair_of};
+ghost use Rattle.spec_site.specs.TimeZones.{has_zone};
 ghost use Rattle.property_table.specs.Table.{test_at};
 ghost use Rattle.property_table.specs.Values.{is_text_that};
 
 use crate::depth::is_shallow;
 use crate::recurrence::is_empty_list;
 use crate::times::{is_short_duration, is_start};
-use model_core::names;
-use model_event::limits::MAX_CALENDARS;
-use model_event::values::{is_one_of, is_true};
-use model_history::entry::Kind;
-use model_json::tree::{Member, Tree};
+use spec_core::names;
+use spec_events::limits::MAX_CALENDARS;
+use spec_events::values::{is_one_of, is_true};
+use spec_history::entry::Kind;
+use spec_json::tree::{Member, Tree};
 use participants::table::are_participants;
 use property_table::table::PropertyTable;
 use property_table::values::{is_name, is_text};
@@ -34,7 +34,7 @@ pub struct EventTable<'a> {
 }
 
 impl PropertyTable for EventTable<'_> {
-    ghost use Rattle.model_event.specs.Events.{event_table};
+    ghost use Rattle.spec_events.specs.Events.{event_table};
 
     ghost table = { λ t. event_table t.zones.now };
 
@@ -42,13 +42,13 @@ impl PropertyTable for EventTable<'_> {
         passes(self.alloc, self.zones, name, value)
     }
 
-    #[tactic(auto, unfolding(model_event::specs::Events::event_table))]
+    #[tactic(auto, unfolding(spec_events::specs::Events::event_table))]
     fn required_names(&self) -> &'static [&'static str] {
         &["uid", "calendarIds", "start"]
     }
 }
 
-#[tactic(auto, unfolding(model_event::specs::Events::event_table))]
+#[tactic(auto, unfolding(spec_events::specs::Events::event_table))]
 fn passes(alloc: Global, zones: &Zones, name: &str, value: &Tree) -> Result<bool, AllocError>
     ensures { IfOk result (λ b. b ≡ test_at (event_table zones.now) name.now (Some (data_of value.now))) }
 {
@@ -139,7 +139,7 @@ fn are_shallow_participants(alloc: Global, value: &Tree) -> Result<bool, AllocEr
     are_participants(alloc, value)
 }
 
-#[tactic(auto, using(model_json::specs::Data::pairs_back))]
+#[tactic(auto, using(spec_json::specs::Data::pairs_back))]
 fn are_calendar_ids(value: &Tree) -> bool
     ensures { result ≡ is_object_that are_calendar_ids (data_of value.now) }
 {

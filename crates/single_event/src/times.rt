@@ -1,11 +1,11 @@
 //! When an event may start, and how long it may last.
 ghost use Rattle.std.specs.Prelude.{◌≡◌};
-ghost use Rattle.model_event.specs.Values.{is_short_duration, is_short_length, is_showing, is_start};
-ghost use Rattle.model_time.specs.Durations.{IsShortLength};
+ghost use Rattle.spec_events.specs.Values.{is_short_duration, is_short_length, is_showing, is_start};
+ghost use Rattle.spec_time.specs.Durations.{IsShortLength};
 
-use model_event::limits::{FIRST_START, LAST_START, MAX_WALL_SECONDS};
-use model_time::length::Length;
-use model_time::wall::Wall;
+use spec_events::limits::{FIRST_START, LAST_START, MAX_WALL_SECONDS};
+use spec_time::length::Length;
+use spec_time::wall::Wall;
 use time_text::{read_duration, read_local};
 
 /// The seconds of a day.

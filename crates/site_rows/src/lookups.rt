@@ -1,6 +1,6 @@
 //! How users and accounts are found, against the configuration itself.
-use model_json::text::Text;
-use model_json::tree::Tree;
+use spec_json::text::Text;
+use spec_json::tree::Tree;
 use session_doc::Site;
 use std::alloc::{AllocError, Global};
 

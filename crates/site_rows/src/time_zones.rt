@@ -1,10 +1,10 @@
 //! Rows of time zones: names with their rules, and the table of zones that they come to.
 ghost use Rattle.std.specs.Prelude.{◌≡◌, pos, true};
-ghost use Rattle.model_json.specs.Data.{whole};
-ghost use Rattle.model_json.specs.TreeData.{data_of};
+ghost use Rattle.spec_json.specs.Data.{whole};
+ghost use Rattle.spec_json.specs.TreeData.{data_of};
 
-use model_json::text::Text;
-use model_json::tree::{Tree, TreeList, TreeObject};
+use spec_json::text::Text;
+use spec_json::tree::{Tree, TreeList, TreeObject};
 use row_table::trial::NOT_READ;
 use std::alloc::{AllocError, Global};
 use zone_table::{ZoneError, Zones};

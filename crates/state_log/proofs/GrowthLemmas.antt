@@ -4,7 +4,7 @@ use Rattle.std.proofs.lemmas.Bool.{cond-true, or_parts}
 use Rattle.std.proofs.lemmas.List.{take_more, take-append-drop, drop-append-le, length-take-le}
 use Rattle.std.proofs.lemmas.List.Elements.{filter-append}
 use Rattle.std.proofs.lemmas.List.Folds.{list_any-append}
-use Rattle.model_history.specs.Pages.{Mention, ids_of, is_live, is_touched, size_of_page}
+use Rattle.spec_history.specs.Pages.{Mention, ids_of, is_live, is_touched, size_of_page}
 use Rattle.state_log.proofs.MentionLemmas.{is_live_untouched, is_named, is_named_here}
 use Rattle.state_log.proofs.SizeLemmas.{size_of_page_more}
 use Rattle.state_log.proofs.StandingLemmas.{standing_more}

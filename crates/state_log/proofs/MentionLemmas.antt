@@ -4,7 +4,7 @@ use Rattle.std.proofs.lemmas.Bool.{or_parts, or_right}
 use Rattle.std.proofs.lemmas.List.{take_more, take-append-drop, drop-append-le, length-take-le}
 use Rattle.std.proofs.lemmas.List.Folds.{list_any-append}
 use Rattle.std.specs.List.{list_any}
-use Rattle.model_history.specs.Pages.{Mention, live_from, is_live, is_touched}
+use Rattle.spec_history.specs.Pages.{Mention, live_from, is_live, is_touched}
 use Rattle.state_log.specs.Standing.{is_named_after}
 
 -- an id is mentioned

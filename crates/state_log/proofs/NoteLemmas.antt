@@ -11,8 +11,8 @@ use Rattle.std.proofs.lemmas.Grind.{fold-append}
 use Rattle.indexmap.specs.IndexMap.{insert_entry}
 use Rattle.indexmap.specs.IndexSet.{insert_key}
 use Rattle.indexmap.proofs.SetLemmas.{inserted_at, keys_insert_entry}
-use Rattle.model_history.specs.History.{with_id}
-use Rattle.model_history.specs.Pages.{Mention, ids_of, is_live, is_touched, live_from}
+use Rattle.spec_history.specs.History.{with_id}
+use Rattle.spec_history.specs.Pages.{Mention, ids_of, is_live, is_touched, live_from}
 use Rattle.state_log.proofs.MentionLemmas.{is_live_untouched, live_from-append, or_none, is_named}
 use Rattle.state_log.proofs.SizeLemmas.{eqb_sym}
 use Rattle.state_log.proofs.StandingLemmas.{standing_begun}

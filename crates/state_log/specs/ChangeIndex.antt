@@ -1,7 +1,7 @@
 -- What a change index shows.
 use Rattle.std.specs.Prelude.{ℕ, ◌-◌, min, List, vec_capacity, vec_len}
 use Rattle.indexmap.specs.IndexMap as index
-use Rattle.model_history.specs.Pages.{Mention}
+use Rattle.spec_history.specs.Pages.{Mention}
 use Rattle.state_log.specs.Notes.{said}
 use Rattle.state_log.specs.declared.change_index.ChangeIndex.{ChangeIndex}
 

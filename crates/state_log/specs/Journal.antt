@@ -1,6 +1,6 @@
 -- What a journal shows.
 use Rattle.std.specs.Prelude.{ℕ, ◌-◌, min, List, vec_capacity, vec_len}
-use Rattle.model_history.specs.declared.entry.Entry.{Entry}
+use Rattle.spec_history.specs.declared.entry.Entry.{Entry}
 use Rattle.state_log.specs.ChangeIndex.{room}
 use Rattle.state_log.specs.declared.journal.Journal.{Journal}
 

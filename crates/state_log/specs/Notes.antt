@@ -2,7 +2,7 @@
 use Rattle.std.specs.Prelude.{◌≡◌, ◌==◌, ℕ, Bool, false, List, map, Option, Some, slice_get, unwrap_or}
 use Rattle.std.specs.List.{list_any}
 use Rattle.std.specs.List.Sorted.{IsStrictlyIncreasing}
-use Rattle.model_history.specs.Pages.{Mention, ids_of, is_in, is_live, live_from}
+use Rattle.spec_history.specs.Pages.{Mention, ids_of, is_in, is_live, live_from}
 use Rattle.state_log.specs.declared.change_index.Note.{Note}
 
 -- what a note says, without what it adds

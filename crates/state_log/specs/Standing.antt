@@ -4,7 +4,7 @@ use Rattle.std.specs.HashMap.{get, HashMap}
 use Rattle.std.specs.List.{list_any}
 use Rattle.std.specs.declared.hash.BuildHasherDefault.{BuildHasherDefault}
 use Rattle.std.specs.declared.hash.FoldHasher.{FoldHasher}
-use Rattle.model_history.specs.Pages.{Mention, is_live, is_touched}
+use Rattle.spec_history.specs.Pages.{Mention, is_live, is_touched}
 use Rattle.state_log.specs.declared.standing.Growth.{Growth}
 use Rattle.state_log.specs.declared.standing.Standing.{Standing}
 

@@ -1,7 +1,7 @@
 //! An index of the changes of one kind, from which a page is made without going over those before it.
 ghost use Rattle.std.specs.Prelude.{◌≡◌, ◌≤◌, ◌<◌, ◌+◌, ◌-◌, ◌++◌, ◌∷◌, [], nat_eq, drop, filter, length, map, take, OnOk, IfOk};
 ghost use Rattle.indexmap.specs.IndexMap.{get, keys};
-ghost use Rattle.model_history.specs.Pages.{ids_of, is_touched};
+ghost use Rattle.spec_history.specs.Pages.{ids_of, is_touched};
 ghost use Rattle.state_log.specs.Notes.{AreLive, AreNotes, AreRanks, said};
 
 use indexmap::IndexMap;

@@ -1,14 +1,14 @@
 //! The journal: the entries of an account, in order.
 ghost use Rattle.std.specs.Prelude.{◌≡◌, ◌≤◌, ◌<◌, ◌+◌, ◌++◌, ◌∷◌, ◌↔◌, [], IfOk, IsErrOf, OnOk, false};
-ghost use Rattle.model_history.specs.History.{changes_of, state_at};
-ghost use Rattle.model_history.specs.Pages.{is_retained, mentions};
-ghost use Rattle.model_history.specs.declared.entry.Kind.TheVariants.{Calendar, Event};
+ghost use Rattle.spec_history.specs.History.{changes_of, state_at};
+ghost use Rattle.spec_history.specs.Pages.{is_retained, mentions};
+ghost use Rattle.spec_history.specs.declared.entry.Kind.TheVariants.{Calendar, Event};
 ghost use Rattle.state_log.specs.Notes.{said};
 ghost use Rattle.state_log.specs.declared.journal.ChangesError.TheVariants.{NoMemory, NotRetained};
 
 use crate::change_index::ChangeIndex;
 use crate::page::{Page, page_from};
-use model_history::entry::{Entry, Kind};
+use spec_history::entry::{Entry, Kind};
 use std::alloc::{AllocError, Global};
 
 /// How many changes back of a kind a state is still answered from.

@@ -1,10 +1,10 @@
 //! The laws of pages, each the contract of a function that does nothing.
 ghost use Rattle.std.specs.Prelude.{◌≡◌, ◌≤◌, ◌<◌, ℕ, List, Option, Some, true, length, is_some, take, filter};
-ghost use Rattle.model_history.specs.History.{ids_at, is_kind, live_object, state_at};
-ghost use Rattle.model_history.specs.Pages.{Mention, ids_of, is_live, is_within, mentions, page_end, size_of_page};
-ghost use Rattle.model_history.specs.PagesLead.{AreApart, held_after_all, last_state};
-ghost use Rattle.model_history.specs.declared.entry.Change.{Change};
-ghost use Rattle.model_history.specs.declared.entry.Kind.{Kind};
+ghost use Rattle.spec_history.specs.History.{ids_at, is_kind, live_object, state_at};
+ghost use Rattle.spec_history.specs.Pages.{Mention, ids_of, is_live, is_within, mentions, page_end, size_of_page};
+ghost use Rattle.spec_history.specs.PagesLead.{AreApart, held_after_all, last_state};
+ghost use Rattle.spec_history.specs.declared.entry.Change.{Change};
+ghost use Rattle.spec_history.specs.declared.entry.Kind.{Kind};
 
 /// Pages lead a client from one state to the next (RFC 8620 section 5.2).
 ///

@@ -1,13 +1,13 @@
 //! Makes a page of changes.
 ghost use Rattle.std.specs.Prelude.{◌≡◌, ◌≤◌, ◌<◌, ◌+◌, ◌^◌, ◌++◌, ◌∷◌, [], None, Some, IfOk, OnOk, if◌then◌else◌, length, nat_eq};
 ghost use Rattle.std.specs.HashMap.{get};
-ghost use Rattle.model_history.specs.Pages.{created, destroyed, page_end, updated};
+ghost use Rattle.spec_history.specs.Pages.{created, destroyed, page_end, updated};
 ghost use Rattle.state_log.specs.ChangeIndex.{mentioned};
 ghost use Rattle.state_log.specs.Standing.{AreStandings, is_changed, is_gone, is_new, listed_by, one_if};
 
 use crate::change_index::ChangeIndex;
 use crate::standing::{Growth, Standings, advance, standings_from};
-use model_history::ids::Ids;
+use spec_history::ids::Ids;
 use std::alloc::{AllocError, Global};
 
 /// What was created, updated and destroyed between two states of a kind (RFC 8620 section 5.2).

@@ -3,7 +3,7 @@ use Rattle.std.proofs.Common.{◌≡◌, ◌≤ℤ◌, ◌+◌, ◌*◌, ◌^◌
 use Rattle.std.proofs.lemmas.Bool.{and_from, and_parts}
 use Rattle.std.proofs.lemmas.Bool.Decides.{nat_tests}
 use Rattle.std.specs.Option.{SomeIff}
-use Rattle.model_time.specs.CivilDay.{IsDate, day_number, day_of_month, days_before_year, days_through_month, month_of, year_of}
+use Rattle.spec_time.specs.CivilDay.{IsDate, day_number, day_of_month, days_before_year, days_through_month, month_of, year_of}
 use Rattle.civil_days.proofs.DateLemmas.{one_date, IsDateOf-in_year}
 use Rattle.civil_days.proofs.MonthLemmas.{month_length_bound}
 use Rattle.civil_days.proofs.YearLemmas.{new_year_mono, year_of-in_year}
@@ -11,9 +11,9 @@ use Rattle.std.proofs.lemmas.Int.{by_lt_z}
 use Rattle.std.proofs.lemmas.Option.{same_Some}
 use Rattle.std.specs.Prelude.{◌↔◌, int_le, ◌+ℤ◌, ◌-◌, nat_lt, List, [], ◌∷◌, IfSome}
 use Rattle.jiff_core.proofs.SignedLemmas.{signed_arith}
-use Rattle.model_time.specs.Forms.{fits_mark, fits_marks, pair_at}
-use Rattle.model_time.specs.LocalTimes.{HasFourDigitYear, is_date, day_in, second_in, spaced_wall, wall_of, year_in}
-use Rattle.model_time.specs.Walls.{day_of_wall, is_in_years, wall_at}
+use Rattle.spec_time.specs.Forms.{fits_mark, fits_marks, pair_at}
+use Rattle.spec_time.specs.LocalTimes.{HasFourDigitYear, is_date, day_in, second_in, spaced_wall, wall_of, year_in}
+use Rattle.spec_time.specs.Walls.{day_of_wall, is_in_years, wall_at}
 use Rattle.std.specs.Char.{is_ascii_digit}
 
 facts_of : (y m d : ℕ) → is_date y m d ≡ true → IsDate (pos y) m d

@@ -1,6 +1,6 @@
 -- A text that ends before its form.
 use Rattle.std.proofs.Common.{◌≡◌, ◌≤◌, ◌<◌, ℕ, zero, suc, List, [], ◌∷◌, false, drop, length, refl, arith}
-use Rattle.model_time.specs.Forms.{fits_marks}
+use Rattle.spec_time.specs.Forms.{fits_marks}
 
 nothing_left : (text : List ℕ) (i : ℕ) → length text ≤ i → drop i text ≡ []
 nothing_left [] zero h = refl

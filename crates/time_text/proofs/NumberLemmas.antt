@@ -12,7 +12,7 @@ use Rattle.std.specs.List.{list_all}
 use Rattle.std.specs.Result.{result_ok}
 use Rattle.std.specs.Str.{bytes_eq, IsUtf8}
 use Rattle.std.specs.Str.Parse.{ParsesUnsigned}
-use Rattle.model_json.specs.Number.{number_in, value_of_digits, writes_out}
+use Rattle.spec_json.specs.Number.{number_in, value_of_digits, writes_out}
 use Rattle.time_text.specs.Digits.{has_leading_zero}
 
 abbrev are_digits : List ℕ → Bool

@@ -2,12 +2,12 @@
 use Rattle.std.proofs.Common.{◌≡◌, ◌<◌, ◌+◌, ◌-◌, ◌*◌, ◌/◌, ◌%◌, ◌≤ℤ◌, ℕ, ℤ, pos, negsuc, List, [], ◌∷◌, ◌++◌, Bool, true, false, Option, Some, None, codes, nat_lt, unsigned_abs, if◌then◌else◌, arith, refl, ap, ◌∙◌}
 use Rattle.std.proofs.lemmas.Bool.Decides.{nat_tests}
 use Rattle.std.specs.Char.{is_ascii_digit}
-use Rattle.model_time.specs.CivilDay.{IsDate, day_of_month, month_of, year_of}
+use Rattle.spec_time.specs.CivilDay.{IsDate, day_of_month, month_of, year_of}
 use Rattle.civil_days.proofs.DateLemmas.{one_date}
 use Rattle.jiff_core.proofs.SignedLemmas.{signed_arith}
-use Rattle.model_time.specs.Forms.{fits_form, fits_mark, two}
-use Rattle.model_time.specs.LocalTimes.{HasFourDigitYear, day_in, is_date, local_text, second_in, spaced_wall, utc_text, wall_of}
-use Rattle.model_time.specs.Walls.{day_of_wall, is_in_years, second_of_wall, wall_at}
+use Rattle.spec_time.specs.Forms.{fits_form, fits_mark, two}
+use Rattle.spec_time.specs.LocalTimes.{HasFourDigitYear, day_in, is_date, local_text, second_in, spaced_wall, utc_text, wall_of}
+use Rattle.spec_time.specs.Walls.{day_of_wall, is_in_years, second_of_wall, wall_at}
 use Rattle.time_text.proofs.DateLemmas.{day_in_month, four_digit_year, month_in_year, test_of}
 use Rattle.time_text.specs.ReadBack.{IsReadBack}
 

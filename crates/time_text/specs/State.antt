@@ -1,7 +1,7 @@
 -- States as clients see them (RFC 8620 section 5.1).
 use Rattle.std.specs.Prelude.{ℕ, List, Option, Some, None, option_and_then, if◌then◌else◌, nat_le}
-use Rattle.model_core.specs.declared.numbers.TheConstants.{MAX_UNSIGNED_INT}
-use Rattle.model_json.specs.Number.{number_in}
+use Rattle.spec_core.specs.declared.numbers.TheConstants.{MAX_UNSIGNED_INT}
+use Rattle.spec_json.specs.Number.{number_in}
 
 abbrev pub up_to_unsigned : ℕ → Option ℕ
 up_to_unsigned n = if nat_le n MAX_UNSIGNED_INT then Some n else None

@@ -2,10 +2,10 @@
 ghost use Rattle.std.specs.Prelude.{◌≡◌, ◌≤◌, ◌<◌, IfSome, true, length, take};
 ghost use Rattle.std.specs.Char.{is_ascii_digit};
 ghost use Rattle.std.specs.List.{list_all};
-ghost use Rattle.model_json.specs.Number.{value_of_digits};
-ghost use Rattle.model_time.specs.Durations.{amount, behind_part, clock_in, digits_first, duration_in, has_part, parts_in, seconds_in, IsShortLength};
+ghost use Rattle.spec_json.specs.Number.{value_of_digits};
+ghost use Rattle.spec_time.specs.Durations.{amount, behind_part, clock_in, digits_first, duration_in, has_part, parts_in, seconds_in, IsShortLength};
 
-use model_time::length::Length;
+use spec_time::length::Length;
 
 // A number with its letter, or none, and what stands behind.
 #[derive(Clone, Copy)]
@@ -78,7 +78,7 @@ fn read_clock(text: &[u8]) -> Option<u64>
 }
 
 // The part of this letter that stands first, if there is one.
-#[tactic(auto, unfolding(model_time::specs::Durations::amount, model_time::specs::Durations::behind_part))]
+#[tactic(auto, unfolding(spec_time::specs::Durations::amount, spec_time::specs::Durations::behind_part))]
 fn first_part(text: &[u8], letter: u8) -> Part<'_>
     requires { 0 < letter }
     ensures is_there { result.is_there ≡ has_part letter text.now }
@@ -102,7 +102,7 @@ fn first_part(text: &[u8], letter: u8) -> Part<'_>
     }
 }
 
-#[tactic(auto, unfolding(model_time::specs::Durations::has_part))]
+#[tactic(auto, unfolding(spec_time::specs::Durations::has_part))]
 fn has_part(text: &[u8], digits: usize, letter: u8) -> bool
     requires digits { digits ≡ digits_first text.now }
     requires letter { 0 < letter }

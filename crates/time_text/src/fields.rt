@@ -1,11 +1,11 @@
 //! The numbers of a date and a time of day.
 ghost use Rattle.std.specs.Prelude.{◌≡◌, ◌≤◌, ◌<◌, ◌+◌, ◌^◌, length, IfSome, unsigned_abs};
-ghost use Rattle.model_time.specs.Forms.{fits_form, fits_mark, fits_marks, pair_at};
-ghost use Rattle.model_time.specs.LocalTimes.{day_in, second_in, wall_of, year_in};
-ghost use Rattle.model_time.specs.Walls.{wall_at};
+ghost use Rattle.spec_time.specs.Forms.{fits_form, fits_mark, fits_marks, pair_at};
+ghost use Rattle.spec_time.specs.LocalTimes.{day_in, second_in, wall_of, year_in};
+ghost use Rattle.spec_time.specs.Walls.{wall_at};
 
 use civil_days::day_of;
-use model_time::wall::Wall;
+use spec_time::wall::Wall;
 
 /// The numbers of a date and a time of day, which may be none.
 #[derive(Clone, Copy)]
@@ -40,7 +40,7 @@ fn fits_marks(text: &[u8], form: &[u8]) -> bool
     true
 }
 
-#[tactic(auto, unfolding(model_time::specs::Forms::fits_mark))]
+#[tactic(auto, unfolding(spec_time::specs::Forms::fits_mark))]
 fn fits_mark(byte: u8, mark: u8) -> bool
     ensures { result ≡ fits_mark mark byte }
 {

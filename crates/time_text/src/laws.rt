@@ -1,7 +1,7 @@
 //! The laws of texts that are written and read.
 ghost use Rattle.std.specs.Prelude.{◌≡◌, ◌↔◌, ℤ, true};
-ghost use Rattle.model_time.specs.LocalTimes.{HasFourDigitYear};
-ghost use Rattle.model_time.specs.Walls.{is_in_years};
+ghost use Rattle.spec_time.specs.LocalTimes.{HasFourDigitYear};
+ghost use Rattle.spec_time.specs.Walls.{is_in_years};
 ghost use Rattle.time_text.specs.ReadBack.{IsReadBack};
 
 /// A wall second in the years 0 to 9999 that was written is read back.

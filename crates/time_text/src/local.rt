@@ -1,10 +1,10 @@
 //! Local times and moments.
 ghost use Rattle.std.specs.Prelude.{◌≡◌, ◌&&◌, int_le, true, IfSome};
-ghost use Rattle.model_time.specs.LocalTimes.{local_in, utc_in};
-ghost use Rattle.model_time.specs.Walls.{is_in_years};
+ghost use Rattle.spec_time.specs.LocalTimes.{local_in, utc_in};
+ghost use Rattle.spec_time.specs.Walls.{is_in_years};
 
 use crate::fields::{fits_form, spaced_fields, wall};
-use model_time::wall::Wall;
+use spec_time::wall::Wall;
 
 /// The wall second of 0000-01-01T00:00:00.
 const FIRST_SECOND: i64 = -62_167_219_200;

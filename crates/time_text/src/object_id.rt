@@ -1,10 +1,10 @@
 //! The ids of objects.
 ghost use Rattle.std.specs.Prelude.{◌≡◌, IfOk};
-ghost use Rattle.model_history.specs.ObjectId.{id_text, letter, object_number};
+ghost use Rattle.spec_history.specs.ObjectId.{id_text, letter, object_number};
 
 use crate::number::read_number;
-use model_history::entry::Kind;
-use model_json::text::Text;
+use spec_history::entry::Kind;
+use spec_json::text::Text;
 use std::alloc::{AllocError, Global};
 
 /// The number of the object that an id names: the letter of its kind, `C` or `E`, and a number above 0.

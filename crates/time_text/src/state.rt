@@ -3,8 +3,8 @@ ghost use Rattle.std.specs.Prelude.{◌≡◌, IfOk, decimal};
 ghost use Rattle.time_text.specs.State.{state_in};
 
 use crate::number::read_number;
-use model_core::numbers::MAX_UNSIGNED_INT;
-use model_json::text::Text;
+use spec_core::numbers::MAX_UNSIGNED_INT;
+use spec_json::text::Text;
 use std::alloc::{AllocError, Global};
 
 /// The number of entries that a state names (RFC 8620 section 5.1): decimal digits of a number below 2^53, without a leading zero.

@@ -1,14 +1,14 @@
 //! Local times and moments as texts.
 ghost use Rattle.std.specs.Prelude.{◌≡◌, ◌++◌, ◌∷◌, ◌+◌, ◌<◌, ◌≤◌, [], true, IfOk, OnOk, pos, string_bytes, unsigned_abs, ◌^◌, ◌≤ℤ◌};
-ghost use Rattle.model_time.specs.CivilDay.{day_of_month, month_of, year_of};
+ghost use Rattle.spec_time.specs.CivilDay.{day_of_month, month_of, year_of};
 ghost use Rattle.time_text.specs.Written.{IsTwoDigits};
-ghost use Rattle.model_time.specs.Forms.{two};
-ghost use Rattle.model_time.specs.LocalTimes.{clock_text, date_text, local_text, utc_text};
-ghost use Rattle.model_time.specs.Walls.{day_of_wall, is_in_years, second_of_wall};
+ghost use Rattle.spec_time.specs.Forms.{two};
+ghost use Rattle.spec_time.specs.LocalTimes.{clock_text, date_text, local_text, utc_text};
+ghost use Rattle.spec_time.specs.Walls.{day_of_wall, is_in_years, second_of_wall};
 
 use civil_days::civil;
-use model_json::text::Text;
-use model_time::wall::Wall;
+use spec_json::text::Text;
+use spec_time::wall::Wall;
 use std::alloc::{AllocError, Global};
 
 // A date in the years 0 to 9999.

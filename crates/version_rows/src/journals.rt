@@ -1,11 +1,11 @@
 //! Rows of journals.
 ghost use Rattle.std.specs.Prelude.{◌≡◌};
-ghost use Rattle.model_history.specs.Pages.{mention_of};
+ghost use Rattle.spec_history.specs.Pages.{mention_of};
 
 use crate::words::{number, words_of};
-use model_history::entry::{Change, Entry, Kind};
-use model_json::tree::Tree;
-use model_time::moment::Moment;
+use spec_history::entry::{Change, Entry, Kind};
+use spec_json::tree::Tree;
+use spec_time::moment::Moment;
 use state_log::{ChangesError, Journal, Page};
 use std::alloc::{AllocError, Global};
 use std::fmt::Write;

@@ -5,7 +5,7 @@ ghost use Rattle.version_table.specs.Table as table_words;
 
 use crate::journals::entry_of;
 use crate::words::number;
-use model_history::entry::Kind;
+use spec_history::entry::Kind;
 use state_log::Journal;
 use std::alloc::{AllocError, Global};
 use std::io;

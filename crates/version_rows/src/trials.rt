@@ -2,7 +2,7 @@
 use crate::journals::{add, page_text, push_ids};
 use crate::plain::{Step, lists_between, live_at, object_at, page_end, sizes_from};
 use crate::words::{number, words_of};
-use model_history::entry::Kind;
+use spec_history::entry::Kind;
 use state_log::Journal;
 use std::alloc::{AllocError, Global};
 use version_table::Table;

@@ -4,10 +4,10 @@ use Rattle.std.specs.Prelude.{nat_le}
 use Rattle.std.proofs.lemmas.Bool.{lt-leb}
 use Rattle.std.proofs.lemmas.Grind.{common_steps}
 use Rattle.std.proofs.lemmas.List.Elements.{filter_agree}
-use Rattle.model_history.specs.History.{ids_at, ids_from, is_kind, live_object, object_from, with_id}
-use Rattle.model_history.specs.declared.entry.Change.{Change}
-use Rattle.model_history.specs.declared.entry.Kind.{Kind}
-use Rattle.model_json.specs.declared.tree.Tree.{Tree}
+use Rattle.spec_history.specs.History.{ids_at, ids_from, is_kind, live_object, object_from, with_id}
+use Rattle.spec_history.specs.declared.entry.Change.{Change}
+use Rattle.spec_history.specs.declared.entry.Kind.{Kind}
+use Rattle.spec_json.specs.declared.tree.Tree.{Tree}
 use Rattle.version_table.specs.Histories.{of_kind, puts_after, puts_in}
 use Rattle.version_table.specs.Puts.{Put, ids_put, latest_from, live_ids_at, version_at, up_to}
 

@@ -5,7 +5,7 @@ use Rattle.std.proofs.lemmas.Grind.{common_steps, fold-append}
 use Rattle.std.proofs.Math.Bool.{and-true}
 use Rattle.std.specs.List.{list_any}
 use Rattle.indexmap.specs.IndexSet.{insert_key}
-use Rattle.model_history.specs.History.{with_id}
+use Rattle.spec_history.specs.History.{with_id}
 use Rattle.version_table.specs.Puts.{Put, ids_put, latest, latest_from}
 
 module _ {T : Type 0} where

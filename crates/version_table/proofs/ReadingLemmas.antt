@@ -2,7 +2,7 @@
 use Rattle.std.proofs.Common.{◌≡◌, ℕ, ◌==◌, Bool, true, false, if◌then◌else◌, List, [], ◌∷◌, Option, None, Some, filter, fold, is_some, option_map, refl, ap, ◌∙◌}
 use Rattle.std.specs.Prelude.{nat_le}
 use Rattle.std.proofs.lemmas.List.Elements.{filter_agree}
-use Rattle.model_history.specs.History.{with_id}
+use Rattle.spec_history.specs.History.{with_id}
 use Rattle.version_table.specs.Histories.{read_by}
 use Rattle.version_table.specs.Puts.{Put, ids_put, latest_from, live_ids_at, version_at, up_to}
 

@@ -1,9 +1,9 @@
 -- The puts and removals of a history.
 use Rattle.std.specs.Prelude.{ℕ, suc, List, [], ◌∷◌, filter, map, option_map}
-use Rattle.model_history.specs.History.{is_kind}
-use Rattle.model_history.specs.declared.entry.Change.{Change}
-use Rattle.model_history.specs.declared.entry.Kind.{Kind}
-use Rattle.model_json.specs.declared.tree.Tree.{Tree}
+use Rattle.spec_history.specs.History.{is_kind}
+use Rattle.spec_history.specs.declared.entry.Change.{Change}
+use Rattle.spec_history.specs.declared.entry.Kind.{Kind}
+use Rattle.spec_json.specs.declared.tree.Tree.{Tree}
 use Rattle.version_table.specs.Puts.{Put}
 
 abbrev pub of_kind : Kind → List Change → List Change

@@ -1,6 +1,6 @@
 -- What puts and removals say of the objects of ids.
 use Rattle.std.specs.Prelude.{ℕ, List, [], ◌∷◌, ◌==◌, nat_le, Option, None, is_some, filter, fold, if◌then◌else◌}
-use Rattle.model_history.specs.History.{with_id}
+use Rattle.spec_history.specs.History.{with_id}
 
 -- from a state on an id has this object, or none
 pub record Put (T : Type 0) : Type 0 where

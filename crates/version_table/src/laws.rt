@@ -1,8 +1,8 @@
 //! What a table that follows a history tells of it, each law the contract of a function that does nothing.
 ghost use Rattle.std.specs.Prelude.{◌≡◌, ℕ, List, filter, is_some, option_map, take};
-ghost use Rattle.model_history.specs.History.{ids_at, live_object};
-ghost use Rattle.model_history.specs.declared.entry.Change.{Change};
-ghost use Rattle.model_history.specs.declared.entry.Kind.{Kind};
+ghost use Rattle.spec_history.specs.History.{ids_at, live_object};
+ghost use Rattle.spec_history.specs.declared.entry.Change.{Change};
+ghost use Rattle.spec_history.specs.declared.entry.Kind.{Kind};
 ghost use Rattle.version_table.specs.Histories.{of_kind, puts_in, read_by};
 ghost use Rattle.version_table.specs.Puts.{Put, ids_put, latest, live_ids_at, version_at};
 

@@ -6,7 +6,7 @@ ghost use Rattle.version_table.specs.Versions.{AreIndexed, AreLinked, AreSkips, 
 ghost use Rattle.version_table.specs.declared.table.Version.{Version};
 
 use indexmap::IndexMap;
-use model_history::ids::Ids;
+use spec_history::ids::Ids;
 use std::alloc::{AllocError, Global};
 
 /// What an id holds from a state on.

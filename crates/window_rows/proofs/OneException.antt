@@ -1,10 +1,10 @@
 -- Why a list of one exception keeps the limits of a series.
 use Rattle.std.proofs.Common.{◌≡◌, ◌≤◌, ◌&&◌, true, [], ◌∷◌, Option, Some, None, IfSome, refl, arith}
 use Rattle.std.proofs.lemmas.Bool.Decides.{nat_tests}
-use Rattle.model_series.specs.declared.exception.Exception.{Exception}
-use Rattle.model_series.specs.declared.exception.Span.{Span}
-use Rattle.model_series.specs.SeriesLimits.{are_distinct, are_in_years, are_short, is_named, is_span_in_years, is_span_short, wall_seconds}
-use Rattle.model_time.specs.Walls.{is_in_years}
+use Rattle.spec_series.specs.declared.exception.Exception.{Exception}
+use Rattle.spec_series.specs.declared.exception.Span.{Span}
+use Rattle.spec_series.specs.SeriesLimits.{are_distinct, are_in_years, are_short, is_named, is_span_in_years, is_span_short, wall_seconds}
+use Rattle.spec_time.specs.Walls.{is_in_years}
 use Rattle.rule_expand.proofs.Sets.{both_and}
 
 span_in : (o : Option Span) → IfSome o (λ s. is_in_years s.start ≡ true) → is_span_in_years o ≡ true

@@ -1,16 +1,16 @@
 //! The events of a row: a series in a zone.
 ghost use Rattle.std.specs.Prelude.{◌≡◌, ◌≤◌, IfOk, IfSome, length as count, true};
-ghost use Rattle.model_series.specs.SeriesLimits.{are_distinct, are_in_years, are_short, wall_seconds};
-ghost use Rattle.model_time.specs.Walls.{is_in_years};
+ghost use Rattle.spec_series.specs.SeriesLimits.{are_distinct, are_in_years, are_short, wall_seconds};
+ghost use Rattle.spec_time.specs.Walls.{is_in_years};
 
 use crate::fields::{length_at, rule_at, wall_at};
 use jiff_tz::posix::TimeZone;
-use model_json::tree::Tree;
-use model_series::exception::{Exception, Exceptions, Span};
-use model_series::rules::Rules;
-use model_series::series::Series;
-use model_time::length::Length;
-use model_time::wall::Wall;
+use spec_json::tree::Tree;
+use spec_series::exception::{Exception, Exceptions, Span};
+use spec_series::rules::Rules;
+use spec_series::series::Series;
+use spec_time::length::Length;
+use spec_time::wall::Wall;
 use rule_read::{RulesError, read_rules};
 use std::alloc::{AllocError, Global};
 

@@ -1,16 +1,16 @@
 //! The members of a row's objects.
 ghost use Rattle.std.specs.Prelude.{◌≡◌, ◌≤◌, IfSome, true};
 ghost use Rattle.jiff_core.specs.Calendar.{IsWithin};
-ghost use Rattle.model_series.specs.SeriesLimits.{wall_seconds};
-ghost use Rattle.model_time.specs.Walls.{is_in_years};
+ghost use Rattle.spec_series.specs.SeriesLimits.{wall_seconds};
+ghost use Rattle.spec_time.specs.Walls.{is_in_years};
 ghost use Rattle.occurrence_windows.specs.Bounds.{AreNear};
 
 use jiff_tz::posix::TimeZone;
-use model_json::text::Text;
-use model_json::tree::Tree;
-use model_time::length::Length;
-use model_time::wall::Wall;
-use model_window::window::Window;
+use spec_json::text::Text;
+use spec_json::tree::Tree;
+use spec_time::length::Length;
+use spec_time::wall::Wall;
+use spec_windows::window::Window;
 use std::alloc::{AllocError, Global};
 use time_text::{is_in_years, read_duration, read_local, read_utc};
 use zone_instants::rule_of;

@@ -1,12 +1,12 @@
 //! What is told of a row.
-ghost use Rattle.model_time.specs.Walls.{is_in_years};
+ghost use Rattle.spec_time.specs.Walls.{is_in_years};
 
 use crate::events::{ZonedSeries, event_in};
 use crate::fields::{instant_at, rule_at, wall_at, window_at};
 use availability::Busy;
-use model_json::tree::Tree;
-use model_time::wall::Wall;
-use model_window::period::Period;
+use spec_json::tree::Tree;
+use spec_time::wall::Wall;
+use spec_windows::period::Period;
 use occurrence_windows::{expanded, matches_window};
 use std::alloc::{AllocError, Global};
 use std::fmt::Write;

@@ -3,11 +3,11 @@ use Rattle.std.proofs.Common.{◌≡◌, ◌≤◌, ◌<◌, ◌+◌, ◌-◌, �
 use mir.Val.{bool_byte}
 use Rattle.std.specs.Prelude.{count_by}
 use Rattle.std.proofs.lemmas.List.Sums.{sum_by-cons}
-use Rattle.model_call.specs.declared.call.Call.{Call}
-use Rattle.model_call.specs.declared.call.Reply.{Reply}
-use Rattle.model_history.specs.Base.{Base}
-use Rattle.model_history.specs.declared.entry.Entry.{Entry}
-use Rattle.model_history.specs.declared.stamp.Stamp.{Stamp}
+use Rattle.spec_calls.specs.declared.call.Call.{Call}
+use Rattle.spec_calls.specs.declared.call.Reply.{Reply}
+use Rattle.spec_history.specs.Base.{Base}
+use Rattle.spec_history.specs.declared.entry.Entry.{Entry}
+use Rattle.spec_history.specs.declared.stamp.Stamp.{Stamp}
 use Rattle.workload.specs.Counts.{is_refused_as_clash, has_created}
 use Rattle.workload.specs.Generated.{drawn, request_call, request_calls}
 use Rattle.workload.specs.Work.{with_call, with_calls, replies}

@@ -2,11 +2,11 @@
 use Rattle.std.specs.Prelude.{ℕ, ◌+◌, List, [], ◌∷◌, ◌++◌, Bool, false, Option, Some, None, codes, decimal, if◌then◌else◌, is_some, length, option_and_then, unwrap_or}
 use Rattle.std.specs.Option.{option_map_or}
 use Rattle.std.specs.Str.{bytes_eq}
-use Rattle.model_call.specs.declared.call.Reply.{Reply}
-use Rattle.model_json.specs.Data.{Data, field}
-use Rattle.model_json.specs.Number.{number_in}
-use Rattle.model_json.specs.Parts.{list_at, object_at, text_at, truth_at}
-use Rattle.model_json.specs.TreeData.{data_of}
+use Rattle.spec_calls.specs.declared.call.Reply.{Reply}
+use Rattle.spec_json.specs.Data.{Data, field}
+use Rattle.spec_json.specs.Number.{number_in}
+use Rattle.spec_json.specs.Parts.{list_at, object_at, text_at, truth_at}
+use Rattle.spec_json.specs.TreeData.{data_of}
 use Rattle.workload.specs.Generated.{creation_id}
 use Rattle.workload.specs.declared.numbers.Numbers.{Numbers}
 

@@ -1,13 +1,13 @@
 -- The calls of a workload, by the numbers of a generator.
 use Rattle.std.specs.Prelude.{ℕ, zero, suc, ◌+◌, ◌*◌, ◌%◌, ℤ, pos, List, [], ◌∷◌, Some, None, true, codes, decimal}
-use Rattle.model_call.specs.declared.call.Asks.{Asks}
-use Rattle.model_call.specs.declared.call.Asks.TheVariants.{Changes, Set}
-use Rattle.model_call.specs.declared.call.Call.{Call}
-use Rattle.model_history.specs.declared.entry.Kind.{Kind}
-use Rattle.model_history.specs.declared.entry.Kind.TheVariants.{Calendar, Event}
-use Rattle.model_json.specs.Data.{Data, Pair, items_of, list, members_of, object, text, truth, whole}
-use Rattle.model_time.specs.LocalTimes.{local_text, seconds_of_clock}
-use Rattle.model_time.specs.Walls.{wall_at}
+use Rattle.spec_calls.specs.declared.call.Asks.{Asks}
+use Rattle.spec_calls.specs.declared.call.Asks.TheVariants.{Changes, Set}
+use Rattle.spec_calls.specs.declared.call.Call.{Call}
+use Rattle.spec_history.specs.declared.entry.Kind.{Kind}
+use Rattle.spec_history.specs.declared.entry.Kind.TheVariants.{Calendar, Event}
+use Rattle.spec_json.specs.Data.{Data, Pair, items_of, list, members_of, object, text, truth, whole}
+use Rattle.spec_time.specs.LocalTimes.{local_text, seconds_of_clock}
+use Rattle.spec_time.specs.Walls.{wall_at}
 
 -- ---- the generator
 

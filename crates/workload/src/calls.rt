@@ -1,18 +1,18 @@
 //! The calls of a workload.
 ghost use Rattle.std.specs.Prelude.{◌≡◌, ◌<◌, ◌+◌, ◌*◌, ◌∷◌, [], IfOk, None, Some, pos, true};
-ghost use Rattle.model_call.specs.declared.call.Asks.TheVariants.{Set};
-ghost use Rattle.model_json.specs.TreeData.{data_of};
-ghost use Rattle.model_time.specs.LocalTimes.{seconds_of_clock};
-ghost use Rattle.model_time.specs.Walls.{is_in_years, wall_at};
+ghost use Rattle.spec_calls.specs.declared.call.Asks.TheVariants.{Set};
+ghost use Rattle.spec_json.specs.TreeData.{data_of};
+ghost use Rattle.spec_time.specs.LocalTimes.{seconds_of_clock};
+ghost use Rattle.spec_time.specs.Walls.{is_in_years, wall_at};
 ghost use Rattle.workload.specs.Generated.{call_asking, creation_id, drawn, event, page_call, request_call, room_call, weekly};
 
-use model_call::call::{Asks, Call};
-use model_history::entry::Kind;
-use model_json::lists::Pairs;
-use model_json::num::Num;
-use model_json::text::Text;
-use model_json::tree::{Member, Tree, TreeList, TreeObject};
-use model_time::wall::Wall;
+use spec_calls::call::{Asks, Call};
+use spec_history::entry::Kind;
+use spec_json::lists::Pairs;
+use spec_json::num::Num;
+use spec_json::text::Text;
+use spec_json::tree::{Member, Tree, TreeList, TreeObject};
+use spec_time::wall::Wall;
 use std::alloc::{AllocError, Global};
 use time_text::local_text;
 

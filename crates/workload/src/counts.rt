@@ -1,12 +1,12 @@
 //! What is counted of replies.
 ghost use Rattle.std.specs.Prelude.{◌≡◌, ◌≤◌, IfOk, option_map};
-ghost use Rattle.model_json.specs.TreeData.{data_of};
+ghost use Rattle.spec_json.specs.TreeData.{data_of};
 ghost use Rattle.workload.specs.Counts.{count_listed, count_of_ids, create_error, has_more, is_refused_as_clash, is_clash_error, has_created, new_state, next_page_state};
 
 use crate::calls::CREATION_ID;
-use model_call::call::Reply;
-use model_json::text::Text;
-use model_json::tree::Tree;
+use spec_calls::call::Reply;
+use spec_json::text::Text;
+use spec_json::tree::Tree;
 use std::alloc::{AllocError, Global};
 
 /// What came of a create.

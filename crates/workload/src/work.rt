@@ -1,17 +1,17 @@
 //! A workload on an account.
 ghost use Rattle.std.specs.Prelude.{◌≡◌, ◌≤◌, ◌+◌, ◌-◌, ◌*◌, ◌^◌, IfOk, List, OnOk, pos, count_by, length, map, sum};
 ghost use Rattle.workload.specs.Counts.{count_of_ids, is_refused_as_clash, has_created, next_page_state, state_number};
-ghost use Rattle.model_call.specs.declared.call.Reply.{Reply};
+ghost use Rattle.spec_calls.specs.declared.call.Reply.{Reply};
 ghost use Rattle.workload.specs.Generated.{page_call, request_calls};
 ghost use Rattle.workload.specs.Work.{ArePages, IsWork, PagesLead, with_call, with_calls, replies};
 
 use crate::calls::{drawn, page_call, request_call, room_call};
 use crate::counts::{Page, outcome_of, page_of};
 use crate::numbers::Numbers;
-use model_call::call::{Call, Reply};
-use model_history::book::Book;
-use model_json::text::Text;
-use model_time::moment::Moment;
+use spec_calls::call::{Call, Reply};
+use spec_history::book::Book;
+use spec_json::text::Text;
+use spec_time::moment::Moment;
 use std::alloc::{AllocError, Global};
 
 /// The author number of all entries.

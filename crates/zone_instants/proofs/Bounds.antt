@@ -8,8 +8,8 @@ use Rattle.jiff_tz.specs.declared.posix.Dst.{Dst}
 use Rattle.jiff_tz.specs.declared.posix.TimeZone.{TimeZone}
 use Rattle.jiff_tz.specs.PosixText.{TzText, DstText, tz_view, dst_view}
 use Rattle.jiff_tz.specs.PosixRule.{in_window, in_span, saturating_add, saturating_sub}
-use Rattle.model_event.specs.Values.{is_showing}
-use Rattle.model_window.specs.Clocks.{ClockReading, Once, Twice, Never, advance, reading_behind, reading_ahead, reading_by, reading_at, instant_of, instant_in, change_at}
+use Rattle.spec_events.specs.Values.{is_showing}
+use Rattle.spec_windows.specs.Clocks.{ClockReading, Once, Twice, Never, advance, reading_behind, reading_ahead, reading_by, reading_at, instant_of, instant_in, change_at}
 
 abbrev pub IsNearDst : Option DstText → Type 0
 IsNearDst None = Unit {0}

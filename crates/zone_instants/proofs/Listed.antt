@@ -7,8 +7,8 @@ use Rattle.std.proofs.lemmas.List.{drop_all, drop_more}
 use Rattle.std.proofs.lemmas.Option.{slice_get_within, get_or_from_slice_get}
 use Rattle.jiff_tz.specs.PosixReader.{read_whole}
 use Rattle.jiff_tz.specs.PosixText.{TzText}
-use Rattle.model_site.specs.TimeZones.{ZoneText}
-use Rattle.model_window.specs.ZoneRules.{listed_rule}
+use Rattle.spec_site.specs.TimeZones.{ZoneText}
+use Rattle.spec_windows.specs.ZoneRules.{listed_rule}
 
 or_right : (a b : Bool) → b ≡ true → (a || b) ≡ true
 or_right true b h = refl

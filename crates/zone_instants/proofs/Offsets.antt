@@ -7,7 +7,7 @@ use Rattle.jiff_core.specs.Calendar.{IsWithin}
 use Rattle.jiff_tz.specs.PosixText.{TzText, DstText}
 use Rattle.jiff_tz.specs.PosixReader.{Read, at_most, begins, begins_name, signed_by, read_byte, read_sign, read_up_to_two, read_exactly_two, read_sixty, read_after_minute, read_minutes, read_offset, read_abbreviation, read_day_time, read_dst, read_tz, read_whole, tz_text}
 use Rattle.zone_instants.proofs.Bounds.{HasNearOffsets, instant_near}
-use Rattle.model_window.specs.Clocks.{instant_in}
+use Rattle.spec_windows.specs.Clocks.{instant_in}
 
 after : {A B : Type 0} (o : Option A) (f : A → Option B) (y : B) → option_and_then f o ≡ Some y → (x : A) × ((o ≡ Some x) × (f x ≡ Some y))
 after None f y h = cc

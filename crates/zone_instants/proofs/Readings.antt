@@ -11,12 +11,12 @@ use Rattle.jiff_tz.specs.PosixText.{TzText, tz_view, dst_view, day_time_view}
 use Rattle.jiff_tz.specs.PosixRule.{rule_nanos, ambiguous_at, ambiguous_at_by, ambiguous_by, ambiguous_behind, ambiguous_ahead}
 use Rattle.jiff_core.specs.Date.{epoch_day}
 use Rattle.jiff_core.proofs.DateTimeLemmas.{civil_nanos-parts, time_nanos_bound}
-use Rattle.model_time.specs.CivilDay.{year_of}
-use Rattle.model_time.specs.Walls.{day_of_wall}
+use Rattle.spec_time.specs.CivilDay.{year_of}
+use Rattle.spec_time.specs.Walls.{day_of_wall}
 use Rattle.civil_days.proofs.JiffLemmas.{IsDateOf_later}
 use Rattle.civil_days.proofs.DateLemmas.{one_date}
-use Rattle.model_event.specs.Values.{is_showing}
-use Rattle.model_window.specs.Clocks.{change_at, reading_behind, reading_ahead, reading_by, reading_at, instant_in, instant_of}
+use Rattle.spec_events.specs.Values.{is_showing}
+use Rattle.spec_windows.specs.Clocks.{change_at, reading_behind, reading_ahead, reading_by, reading_at, instant_in, instant_of}
 use Rattle.zone_instants.specs.Offsets.{reading_of}
 
 reading_if : (b : Bool) (x y : AmbiguousOffset) → reading_of (if b then x else y) ≡ (if b then reading_of x else reading_of y)

@@ -1,7 +1,7 @@
 -- What `jiff` answers of a wall time.
 use Rattle.jiff_tz.specs.declared.ambiguous.AmbiguousOffset.{AmbiguousOffset}
 use Rattle.jiff_tz.specs.declared.ambiguous.AmbiguousOffset.TheVariants.{Unambiguous, Gap, Fold}
-use Rattle.model_window.specs.Clocks.{ClockReading, Once, Twice, Never}
+use Rattle.spec_windows.specs.Clocks.{ClockReading, Once, Twice, Never}
 
 -- its offsets as seconds
 abbrev pub reading_of : AmbiguousOffset → ClockReading

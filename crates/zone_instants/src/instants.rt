@@ -3,15 +3,15 @@ ghost use Rattle.std.specs.Prelude.{◌≡◌, ◌-ℤ◌, ◌*ℤ◌, pos, IfSo
 ghost use Rattle.jiff_core.specs.DateTime.{civil_nanos};
 ghost use Rattle.jiff_core.specs.Timestamp.{IsOffsetSeconds};
 ghost use Rattle.jiff_tz.specs.PosixText.{tz_view};
-ghost use Rattle.model_event.specs.Values.{is_showing};
-ghost use Rattle.model_window.specs.Clocks.{instant_in, instant_of};
+ghost use Rattle.spec_events.specs.Values.{is_showing};
+ghost use Rattle.spec_windows.specs.Clocks.{instant_in, instant_of};
 ghost use Rattle.zone_instants.specs.Offsets.{reading_of};
 
 use jiff_core::civil::DateTime;
 use jiff_tz::AmbiguousOffset;
 use jiff_tz::posix::TimeZone;
-use model_event::limits::{FIRST_START, LAST_START};
-use model_time::wall::Wall;
+use spec_events::limits::{FIRST_START, LAST_START};
+use spec_time::wall::Wall;
 
 const NANOSECONDS: i128 = 1_000_000_000;
 

@@ -3,15 +3,15 @@ ghost use Rattle.std.specs.Prelude.{◌≡◌, ◌↔◌, option_map, IsSome, Is
 ghost use Rattle.std.specs.List.{list_any};
 ghost use Rattle.std.specs.Str.{bytes_eq};
 ghost use Rattle.jiff_tz.specs.PosixText.{tz_view};
-ghost use Rattle.model_json.specs.TreeData.{data_of};
-ghost use Rattle.model_site.specs.TimeZones.{has_zone};
-ghost use Rattle.model_window.specs.ZoneRules.{listed_rule, rule_of, rule_of_event, utc_rule};
+ghost use Rattle.spec_json.specs.TreeData.{data_of};
+ghost use Rattle.spec_site.specs.TimeZones.{has_zone};
+ghost use Rattle.spec_windows.specs.ZoneRules.{listed_rule, rule_of, rule_of_event, utc_rule};
 
 use jiff_core::Offset;
 use jiff_tz::Abbreviation;
 use jiff_tz::posix::TimeZone;
-use model_json::text::Text;
-use model_json::tree::Tree;
+use spec_json::text::Text;
+use spec_json::tree::Tree;
 use zone_table::{Zone, Zones};
 
 /// The name of the zone that is always there.

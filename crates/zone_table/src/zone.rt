@@ -5,7 +5,7 @@ ghost use Rattle.jiff_tz.specs.PosixReader.{read_whole};
 ghost use Rattle.jiff_tz.specs.PosixText.{tz_view};
 
 use jiff_tz::posix::TimeZone;
-use model_json::text::Text;
+use spec_json::text::Text;
 use std::alloc::AllocError;
 use std::marker::Model;
 

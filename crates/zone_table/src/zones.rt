@@ -1,17 +1,17 @@
 //! The table of time zones.
-ghost use Rattle.model_site.specs.declared.limits.TheConstants.{MAX_ZONES};
+ghost use Rattle.spec_site.specs.declared.limits.TheConstants.{MAX_ZONES};
 ghost use Rattle.std.specs.Prelude.{◌≡◌, ◌≤◌, [], None, IfErr, IfOk, IsTrue, OnOk, length};
 ghost use Rattle.std.specs.List.{list_any};
 ghost use Rattle.std.specs.Option.{SomeIff};
 ghost use Rattle.std.specs.Str.{bytes_eq};
 ghost use Rattle.zone_table.specs.Reports.{Reports};
-ghost use Rattle.model_core.specs.Names.{is_name};
-ghost use Rattle.model_site.specs.TimeZones.{first_bad_zone, has_zone, is_good_zone};
+ghost use Rattle.spec_core.specs.Names.{is_name};
+ghost use Rattle.spec_site.specs.TimeZones.{first_bad_zone, has_zone, is_good_zone};
 ghost use Rattle.zone_table.specs.declared.zones.ZoneError.TheVariants.{NoMemory};
 
 use crate::zone::Zone;
-use model_core::names::is_name;
-use model_json::text::Text;
+use spec_core::names::is_name;
+use spec_json::text::Text;
 use std::alloc::{AllocError, AllocFailed, Global};
 use std::marker::Model;
 

@@ -1,6 +1,6 @@
 -- Why a series without exceptions keeps its limits.
 use Rattle.std.proofs.Common.{◌∙◌, refl, arith}
-use Rattle.model_series.specs.SeriesLimits.{are_distinct}
+use Rattle.spec_series.specs.SeriesLimits.{are_distinct}
 use Rattle.rule_rows.proofs.hourly.Goals as goal
 
 pub invariant_of-result : goal.invariant_of-result

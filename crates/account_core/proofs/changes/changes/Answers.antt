@@ -2,8 +2,8 @@ use Rattle.std.proofs.Common.{ap, is_ok, subst, sym, ◌∙◌}
 use Rattle.std.proofs.lemmas.Bool.{false≢true}
 use Rattle.account_core.proofs.Pages.{changes_told}
 use Rattle.account_store.specs.Store.{entries}
-use Rattle.model_history.specs.History.{changes_of}
-use Rattle.model_history.specs.Pages.{mentions}
+use Rattle.spec_history.specs.History.{changes_of}
+use Rattle.spec_history.specs.Pages.{mentions}
 use Rattle.state_log.specs.IsPage.{IsPage}
 use Rattle.time_text.specs.State.{state_in}
 use Rattle.account_core.proofs.changes.changes.Goals as goal

@@ -1,9 +1,9 @@
 use Rattle.std.proofs.Common.{◌≡◌, filter, flat_map, is_some, map, not}
 use Rattle.account_store.specs.Store.{entries}
 use Rattle.cal_model.specs.Gets.{object_or_occurrence, selected}
-use Rattle.model_history.specs.History.{changes_of}
-use Rattle.model_json.specs.Parts.{some_of}
-use Rattle.model_json.specs.TreeData.{data_of}
+use Rattle.spec_history.specs.History.{changes_of}
+use Rattle.spec_json.specs.Parts.{some_of}
+use Rattle.spec_json.specs.TreeData.{data_of}
 use Rattle.account_core.proofs.found.find_each.Given as goal
 
 abbrev pub invariant-loop-id : goal.invariant-loop-id

@@ -1,6 +1,6 @@
 use Rattle.std.proofs.Common.{◌≡◌, ◌++◌, drop, map}
 use Rattle.cal_model.specs.Gets.{selected}
-use Rattle.model_json.specs.TreeData.{data_of}
+use Rattle.spec_json.specs.TreeData.{data_of}
 use Rattle.account_core.proofs.found.select_all.Given as goal
 
 abbrev pub invariant-loop-object : goal.invariant-loop-object

@@ -1,6 +1,6 @@
 use Rattle.std.proofs.Common.{◌≡◌, ◌++◌, drop, filter, map}
 use Rattle.cal_model.specs.Gets.{is_asked_for}
-use Rattle.model_json.specs.TreeData.{pair_of}
+use Rattle.spec_json.specs.TreeData.{pair_of}
 use Rattle.account_core.proofs.properties.chosen.Given as goal
 
 abbrev pub invariant-loop-member : goal.invariant-loop-member

@@ -2,10 +2,10 @@ use Rattle.std.proofs.Common.{◌≡◌, MatchOption, None, Some, [], subst, sub
 use Rattle.account_core.specs.Ledger.{base, ledger_entries}
 use Rattle.account_store.specs.Store.{entries}
 use Rattle.cal_model.specs.Answer.{answered, unless_error}
-use Rattle.model_availability.specs.Availability.{availability_refusal, availability_response}
-use Rattle.model_call.specs.declared.call.MethodError.TheVariants.{InvalidArguments}
-use Rattle.model_history.specs.Base.{Base}
-use Rattle.model_history.specs.History.{changes_of}
+use Rattle.spec_availability.specs.Availability.{availability_refusal, availability_response}
+use Rattle.spec_calls.specs.declared.call.MethodError.TheVariants.{InvalidArguments}
+use Rattle.spec_history.specs.Base.{Base}
+use Rattle.spec_history.specs.History.{changes_of}
 use Rattle.account_core.proofs.queries.busy_periods.Goals as goal
 
 pub returns-in-Some : goal.returns-in-Some

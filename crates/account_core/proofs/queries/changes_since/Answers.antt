@@ -2,8 +2,8 @@ use Rattle.std.proofs.Common.{◌≡◌, IfOk, [], subst₂}
 use Rattle.account_core.specs.Ledger.{ledger_entries}
 use Rattle.account_store.specs.Store.{entries}
 use Rattle.cal_model.specs.Answer.{answered, unless_error}
-use Rattle.model_history.specs.History.{changes_of}
-use Rattle.model_queries.specs.Queries.{query_changes_refusal, query_changes_response}
+use Rattle.spec_history.specs.History.{changes_of}
+use Rattle.spec_queries.specs.Queries.{query_changes_refusal, query_changes_response}
 use Rattle.query_methods.specs.Requests.{criteria_in, since_in}
 use Rattle.account_core.proofs.queries.changes_since.Goals as goal
 

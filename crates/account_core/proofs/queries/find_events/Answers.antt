@@ -2,8 +2,8 @@ use Rattle.std.proofs.Common.{◌≡◌, IfOk, [], false, subst₂}
 use Rattle.account_core.specs.Ledger.{ledger_entries}
 use Rattle.account_store.specs.Store.{entries}
 use Rattle.cal_model.specs.Answer.{answered, unless_error}
-use Rattle.model_history.specs.History.{changes_of}
-use Rattle.model_queries.specs.Queries.{query_refusal, query_response}
+use Rattle.spec_history.specs.History.{changes_of}
+use Rattle.spec_queries.specs.Queries.{query_refusal, query_response}
 use Rattle.query_methods.specs.Requests.{criteria_in, paging_in}
 use Rattle.account_core.proofs.queries.find_events.Goals as goal
 

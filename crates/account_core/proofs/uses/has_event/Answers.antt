@@ -2,8 +2,8 @@ use Rattle.std.proofs.Common.{◌≡◌, ◌+◌, ◌-◌, ◌++◌, ◌||◌, �
 use Rattle.account_core.proofs.LiveEvents.{has_event_from, next_event}
 use Rattle.account_core.specs.Ledger.{history, staged}
 use Rattle.account_core.specs.Uses.{is_object_in_calendar}
-use Rattle.model_history.specs.History.{live_object}
-use Rattle.model_history.specs.declared.entry.Kind.TheVariants.{Event}
+use Rattle.spec_history.specs.History.{live_object}
+use Rattle.spec_history.specs.declared.entry.Kind.TheVariants.{Event}
 use Rattle.account_core.proofs.uses.has_event.Goals as goal
 
 pub loop-before-preserved : goal.loop-before-preserved

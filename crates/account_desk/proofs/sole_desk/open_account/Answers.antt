@@ -1,6 +1,6 @@
 use Rattle.std.proofs.Common.{◌≡◌, List, ◌∙◌, IfOk, subst}
-use Rattle.model_history.specs.Base.{Base}
-use Rattle.model_history.specs.declared.entry.Entry.{Entry}
+use Rattle.spec_history.specs.Base.{Base}
+use Rattle.spec_history.specs.declared.entry.Entry.{Entry}
 use Rattle.account_desk.proofs.FreshLemmas.{fresh_is}
 use Rattle.account_desk.proofs.sole_desk.open_account.Goals as goal
 

@@ -1,6 +1,6 @@
 -- The law of occurrences.
 use Rattle.account_rooms.proofs.Covered.{not_covered_twice}
-use Rattle.model_resource.specs.Bookings.{bookings_of}
+use Rattle.spec_bookings.specs.BookedResources.{bookings_of}
 use Rattle.account_rooms.proofs.laws.free_rooms_are_covered_once.Goals as goal
 
 pub returns : goal.returns

@@ -1,6 +1,6 @@
 -- The laws of rooms.
 use Rattle.account_rooms.proofs.Following.{bookings_of_room, calendars_of_rooms, room_of_resource}
-use Rattle.model_resource.specs.Resources.{resources_at}
+use Rattle.spec_bookings.specs.Resources.{resources_at}
 use Rattle.account_rooms.proofs.laws.rooms_are_of_resources.Goals as goal
 
 pub returns-clause-calendars : goal.returns-clause-calendars

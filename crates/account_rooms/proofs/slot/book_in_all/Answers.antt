@@ -1,7 +1,7 @@
 use Rattle.std.proofs.Common.{arith, ap, ◌∙◌}
 use Rattle.account_rooms.proofs.Slots.{one_changed, same_kept}
 use Rattle.account_rooms.specs.Slots.{booked, room_kept}
-use Rattle.model_json.specs.TreeData.{data_of}
+use Rattle.spec_json.specs.TreeData.{data_of}
 use Rattle.account_rooms.proofs.slot.book_in_all.Goals as goal
 
 pub loop-i-preserved : goal.loop-i-preserved

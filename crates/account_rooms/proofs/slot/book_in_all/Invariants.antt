@@ -1,6 +1,6 @@
 use Rattle.std.proofs.Common.{◌≡◌, ◌++◌, ◌-◌, drop, map, take, vec_len}
 use Rattle.account_rooms.specs.Slots.{booked, rooms_kept}
-use Rattle.model_json.specs.TreeData.{data_of}
+use Rattle.spec_json.specs.TreeData.{data_of}
 use Rattle.account_rooms.proofs.slot.book_in_all.Given as goal
 
 abbrev pub invariant-loop-i : goal.invariant-loop-i

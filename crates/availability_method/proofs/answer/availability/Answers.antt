@@ -1,9 +1,9 @@
 use Rattle.std.proofs.Common.{◌≡◌, ◌&&◌, Bool, true, false, not, ℕ, List, Some, refl, sym, ◌∙◌}
 use Rattle.std.specs.Str.{bytes_eq}
-use Rattle.model_availability.specs.Availability.{availability_refusal}
-use Rattle.model_call.specs.declared.call.MethodError.TheVariants.{InvalidArguments}
-use Rattle.model_history.specs.Base.{Base}
-use Rattle.model_site.specs.TimeZones.{has_zone}
+use Rattle.spec_availability.specs.Availability.{availability_refusal}
+use Rattle.spec_calls.specs.declared.call.MethodError.TheVariants.{InvalidArguments}
+use Rattle.spec_history.specs.Base.{Base}
+use Rattle.spec_site.specs.TimeZones.{has_zone}
 use Rattle.availability_method.proofs.answer.availability.Goals as goal
 use Rattle.availability_method.proofs.answer.availability.Goals.{then-ne-via-then-ne, then-ne-via-else-ne+then-not-has}
 

@@ -1,8 +1,8 @@
 use Rattle.std.proofs.Common.{◌∙◌, ap, option_map, sym}
 use Rattle.jiff_tz.specs.PosixText.{tz_view}
-use Rattle.model_json.specs.TreeData.{data_of}
-use Rattle.model_recurrence.specs.SeriesOf.{series_in}
-use Rattle.model_window.specs.ZoneRules.{rule_of_event}
+use Rattle.spec_json.specs.TreeData.{data_of}
+use Rattle.spec_recurrence.specs.SeriesOf.{series_in}
+use Rattle.spec_windows.specs.ZoneRules.{rule_of_event}
 use Rattle.availability_method.proofs.BusyLemmas.{one_more_by}
 use Rattle.availability_method.proofs.events.add_event.Goals as goal
 

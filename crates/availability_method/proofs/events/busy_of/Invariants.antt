@@ -1,6 +1,6 @@
 use Rattle.std.specs.Prelude.{◌≡◌, ◌&&◌, ℤ, map, take}
-use Rattle.model_availability.specs.BusyInstants.{is_taken_up}
-use Rattle.model_window.specs.BusyPeriods.{is_busy, lies_in}
+use Rattle.spec_availability.specs.BusyInstants.{is_taken_up}
+use Rattle.spec_windows.specs.BusyPeriods.{is_busy, lies_in}
 use Rattle.availability_method.proofs.events.busy_of.Given as goal
 
 abbrev pub invariant-loop-event : goal.invariant-loop-event

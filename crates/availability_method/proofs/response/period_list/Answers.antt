@@ -1,10 +1,10 @@
 use Rattle.std.proofs.Common.{◌≡◌, ◌<◌, ◌+◌, get_or, ap, length, map, take, ◌++◌, ◌∷◌, [], ◌∙◌, sym, ℕ, List}
 use Rattle.std.proofs.lemmas.List.{map-append, map_more}
 use Rattle.std.proofs.lemmas.Option.{slice_get-get_or}
-use Rattle.model_json.specs.TreeData.{data_of}
-use Rattle.model_json.specs.declared.tree.Tree.{Tree}
-use Rattle.model_availability.specs.Availability.{period_data}
-use Rattle.model_window.specs.declared.period.Period.{Period}
+use Rattle.spec_json.specs.TreeData.{data_of}
+use Rattle.spec_json.specs.declared.tree.Tree.{Tree}
+use Rattle.spec_availability.specs.Availability.{period_data}
+use Rattle.spec_windows.specs.declared.period.Period.{Period}
 use Rattle.availability_method.proofs.response.period_list.Goals as goal
 
 -- one tree more, which tells the next period

@@ -1,6 +1,6 @@
 use Rattle.std.proofs.Common.{◌≡◌, map, take}
-use Rattle.model_availability.specs.Availability.{period_data}
-use Rattle.model_json.specs.TreeData.{data_of}
+use Rattle.spec_availability.specs.Availability.{period_data}
+use Rattle.spec_json.specs.TreeData.{data_of}
 use Rattle.availability_method.proofs.response.period_list.Given as goal
 
 abbrev pub invariant-loop-period : goal.invariant-loop-period

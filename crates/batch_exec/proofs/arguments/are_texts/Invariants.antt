@@ -1,7 +1,7 @@
 use Rattle.std.proofs.Common.{◌≡◌, drop, map}
 use Rattle.std.specs.Prelude.{is_some}
-use Rattle.model_json.specs.Parts.{all_some, as_text}
-use Rattle.model_json.specs.TreeData.{data_of}
+use Rattle.spec_json.specs.Parts.{all_some, as_text}
+use Rattle.spec_json.specs.TreeData.{data_of}
 use Rattle.batch_exec.proofs.arguments.are_texts.Given as goal
 
 abbrev pub invariant-loop-item : goal.invariant-loop-item

@@ -1,8 +1,8 @@
 use Rattle.std.proofs.Common.{◌≡◌, drop, map}
 use Rattle.std.specs.List.{list_all}
-use Rattle.model_call.specs.Arguments.{argument_of, is_well_given}
-use Rattle.model_call.specs.Methods.{are_well_given}
-use Rattle.model_json.specs.Data.{lookup}
+use Rattle.spec_calls.specs.Arguments.{argument_of, is_well_given}
+use Rattle.spec_calls.specs.Methods.{are_well_given}
+use Rattle.spec_json.specs.Data.{lookup}
 use Rattle.batch_exec.proofs.arguments.are_well_given.Given as goal
 
 abbrev pub invariant-loop-argument : goal.invariant-loop-argument

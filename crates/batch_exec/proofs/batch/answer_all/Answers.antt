@@ -1,10 +1,10 @@
 use Rattle.std.proofs.Common.{◌≡◌, ◌∷◌, ◌++◌, [], ◌<◌, All, List, Ok, Err, inl, refl, sym, subst, arith, rules}
 use Rattle.std.proofs.lemmas.Grind.{common_steps}
 use Rattle.std.specs.Vec.Iter.{into_iter_items}
-use Rattle.model_batch.proofs.Chains.{accounts_stay}
-use Rattle.model_batch.specs.declared.request.Invocation.{Invocation}
-use Rattle.model_batch.specs.declared.request.Request.{Request}
-use Rattle.model_batch.specs.declared.method_response.MethodResponse.{MethodResponse}
+use Rattle.spec_batch.proofs.Chains.{accounts_stay}
+use Rattle.spec_batch.specs.declared.request.Invocation.{Invocation}
+use Rattle.spec_batch.specs.declared.request.Request.{Request}
+use Rattle.spec_batch.specs.declared.method_response.MethodResponse.{MethodResponse}
 use Rattle.batch_exec.specs.Answering.{Going}
 use Rattle.batch_exec.proofs.Progressing.{going_first, goes_on, stopped_first}
 use Rattle.batch_exec.proofs.batch.answer_all.Goals as goal

@@ -1,6 +1,6 @@
 use Rattle.std.proofs.Common.{List}
 use Rattle.std.specs.Vec.Iter.{into_iter_items}
-use Rattle.model_batch.specs.Batch.{Step}
+use Rattle.spec_batch.specs.Batch.{Step}
 use Rattle.batch_exec.specs.Answering.{Going}
 use Rattle.batch_exec.proofs.batch.answer_all.Given as goal
 

@@ -1,6 +1,6 @@
 use Rattle.std.proofs.Common.{◌≡◌, ◌++◌, drop, map}
-use Rattle.model_batch.specs.Requests.{id_pair_of}
-use Rattle.model_json.specs.TreeData.{pair_of}
+use Rattle.spec_batch.specs.Requests.{id_pair_of}
+use Rattle.spec_json.specs.TreeData.{pair_of}
 use Rattle.batch_exec.proofs.batch.id_pairs.Given as goal
 
 abbrev pub invariant-loop-member : goal.invariant-loop-member

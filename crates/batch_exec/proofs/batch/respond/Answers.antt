@@ -1,5 +1,5 @@
 use Rattle.std.proofs.Common.{◌∙◌, ℕ, refl, sym, ap, subst}
-use Rattle.model_batch.specs.Meaning.{refuses, echoes}
+use Rattle.spec_batch.specs.Meaning.{refuses, echoes}
 use Rattle.batch_exec.specs.Judgements.{account_is_below, created_with, meaning_in}
 use Rattle.batch_exec.proofs.Responding.{responds_itself, responds_from_account}
 use Rattle.batch_exec.proofs.batch.respond.Goals as goal

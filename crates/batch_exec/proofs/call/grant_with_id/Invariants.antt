@@ -1,5 +1,5 @@
 use Rattle.std.proofs.Common.{◌≡◌, drop}
-use Rattle.model_batch.specs.Meaning.{grant_of}
+use Rattle.spec_batch.specs.Meaning.{grant_of}
 use Rattle.batch_exec.proofs.call.grant_with_id.Given as goal
 
 abbrev pub invariant-loop-grant : goal.invariant-loop-grant

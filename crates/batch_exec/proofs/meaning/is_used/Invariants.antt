@@ -1,5 +1,5 @@
 use Rattle.std.proofs.Common.{◌≡◌, drop}
-use Rattle.model_call.specs.Methods.{uses}
+use Rattle.spec_calls.specs.Methods.{uses}
 use Rattle.batch_exec.proofs.meaning.is_used.Given as goal
 
 abbrev pub invariant-loop-name : goal.invariant-loop-name

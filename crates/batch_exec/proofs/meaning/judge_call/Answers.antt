@@ -1,5 +1,5 @@
 use Rattle.std.proofs.Common.{codes}
-use Rattle.model_call.specs.Asking.{text_argument}
+use Rattle.spec_calls.specs.Asking.{text_argument}
 use Rattle.batch_exec.proofs.Granting.{grant_is_below}
 use Rattle.batch_exec.proofs.meaning.judge_call.Goals as goal
 

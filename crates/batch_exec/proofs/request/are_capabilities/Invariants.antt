@@ -1,6 +1,6 @@
 use Rattle.std.proofs.Common.{◌≡◌, drop}
 use Rattle.std.specs.List.{list_all}
-use Rattle.model_core.specs.Capabilities.{is_capability}
+use Rattle.spec_core.specs.Capabilities.{is_capability}
 use Rattle.batch_exec.proofs.request.are_capabilities.Given as goal
 
 abbrev pub invariant-loop-name : goal.invariant-loop-name

@@ -1,7 +1,7 @@
 use Rattle.std.proofs.Common.{◌≡◌, drop, map}
 use Rattle.std.specs.List.{list_all}
-use Rattle.model_batch.specs.Requests.{is_id_pair}
-use Rattle.model_json.specs.TreeData.{pair_of}
+use Rattle.spec_batch.specs.Requests.{is_id_pair}
+use Rattle.spec_json.specs.TreeData.{pair_of}
 use Rattle.batch_exec.proofs.request.are_ids.Given as goal
 
 abbrev pub invariant-loop-member : goal.invariant-loop-member

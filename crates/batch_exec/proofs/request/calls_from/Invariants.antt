@@ -1,8 +1,8 @@
 use Rattle.std.proofs.Common.{◌≡◌, ◌++◌, map, option_and_then, option_map}
 use Rattle.std.specs.Vec.Iter.{into_iter_items}
-use Rattle.model_json.specs.Parts.{all_some, as_list}
-use Rattle.model_batch.specs.Requests.{invocation_of}
-use Rattle.model_json.specs.TreeData.{data_of}
+use Rattle.spec_json.specs.Parts.{all_some, as_list}
+use Rattle.spec_batch.specs.Requests.{invocation_of}
+use Rattle.spec_json.specs.TreeData.{data_of}
 use Rattle.batch_exec.proofs.request.calls_from.Given as goal
 
 abbrev pub invariant-loop-item : goal.invariant-loop-item

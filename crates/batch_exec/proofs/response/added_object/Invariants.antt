@@ -1,7 +1,7 @@
 use Rattle.std.proofs.Common.{◌≡◌, [], map}
 use Rattle.std.specs.Vec.Iter.{into_iter_items}
-use Rattle.model_batch.specs.Batch.{id_member}
-use Rattle.model_json.specs.Edit.{put_all}
+use Rattle.spec_batch.specs.Batch.{id_member}
+use Rattle.spec_json.specs.Edit.{put_all}
 use Rattle.batch_exec.proofs.response.added_object.Given as goal
 
 abbrev pub invariant-loop-key : goal.invariant-loop-key

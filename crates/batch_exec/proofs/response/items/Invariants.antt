@@ -1,7 +1,7 @@
 use Rattle.std.proofs.Common.{◌≡◌, ◌++◌, map}
 use Rattle.std.specs.Vec.Iter.{into_iter_items}
-use Rattle.model_batch.specs.Batch.{response_data}
-use Rattle.model_json.specs.TreeData.{data_of}
+use Rattle.spec_batch.specs.Batch.{response_data}
+use Rattle.spec_json.specs.TreeData.{data_of}
 use Rattle.batch_exec.proofs.response.items.Given as goal
 
 abbrev pub invariant-loop-response : goal.invariant-loop-response

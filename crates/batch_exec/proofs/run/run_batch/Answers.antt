@@ -1,4 +1,4 @@
-use Rattle.model_json.specs.TreeData.{data_of}
+use Rattle.spec_json.specs.TreeData.{data_of}
 use Rattle.batch_exec.proofs.Finishing.{batch_of_request}
 use Rattle.batch_exec.proofs.run.run_batch.Goals as goal
 

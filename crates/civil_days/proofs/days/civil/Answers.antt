@@ -3,7 +3,7 @@ use Rattle.std.proofs.Common.{◌≡◌, rules, arith, pos, ◌+ℤ◌, ◌*ℤ�
 use Rattle.std.proofs.lemmas.Int.{to_z-of_z}
 use Rattle.jiff_core.specs.Date.{epoch_day}
 use Rattle.jiff_core.proofs.SignedLemmas.{signed_arith}
-use Rattle.model_time.specs.CivilDay.{cycles_later}
+use Rattle.spec_time.specs.CivilDay.{cycles_later}
 use Rattle.civil_days.proofs.DateLemmas.{one_date}
 use Rattle.civil_days.proofs.YearLemmas.{year_of_size}
 use Rattle.civil_days.proofs.JiffLemmas.{IsDateOf_later}

@@ -5,7 +5,7 @@ use Rattle.std.proofs.lemmas.Bool.{false≢true}
 use Rattle.jiff_core.specs.Date.{epoch_day}
 use Rattle.jiff_core.specs.Calendar.{IsYear}
 use Rattle.jiff_core.proofs.SignedLemmas.{signed_arith, signed_casts}
-use Rattle.model_time.specs.CivilDay.{IsDateOf, cycles_later}
+use Rattle.spec_time.specs.CivilDay.{IsDateOf, cycles_later}
 use Rattle.civil_days.proofs.DateLemmas.{day_number_size}
 use Rattle.civil_days.proofs.MonthLemmas.{month_length_bound}
 use Rattle.civil_days.proofs.JiffLemmas.{IsDateOf_later, IsJiffDate_earlier}

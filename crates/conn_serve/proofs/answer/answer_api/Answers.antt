@@ -1,5 +1,5 @@
 use Rattle.std.proofs.Common.{◌≡◌, rules}
-use Rattle.model_time.specs.Moments.{clamped}
+use Rattle.spec_time.specs.Moments.{clamped}
 use Rattle.conn_serve.proofs.Messaging.{answered, stopped, unwritten}
 use Rattle.http_edge.specs.Reading.{message_shown}
 use Rattle.conn_serve.proofs.answer.answer_api.Goals as goal

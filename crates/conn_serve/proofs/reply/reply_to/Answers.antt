@@ -1,6 +1,6 @@
 use Rattle.std.proofs.Common.{◌∙◌, ap, rules, subst, sym}
-use Rattle.model_batch.specs.Asked.{Asked}
-use Rattle.model_batch.specs.Reply.{asked_by_reading}
+use Rattle.spec_batch.specs.Asked.{Asked}
+use Rattle.spec_batch.specs.Reply.{asked_by_reading}
 use Rattle.conn_serve.proofs.Replying.{as_read, no_reply, over_limit, refused_reply}
 use Rattle.conn_serve.specs.Answering.{IsOutcome}
 use Rattle.conn_serve.proofs.reply.reply_to.Goals as goal

@@ -1,4 +1,4 @@
-use Rattle.model_json.specs.TreeData.{data_of}
+use Rattle.spec_json.specs.TreeData.{data_of}
 use Rattle.conn_serve.proofs.Replying.{batch_reply, memory_of_batch, refused_of_batch, spent_of_batch}
 use Rattle.conn_serve.proofs.reply.reply_to_tree.Goals as goal
 

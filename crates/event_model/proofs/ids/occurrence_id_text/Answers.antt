@@ -1,6 +1,6 @@
 use Rattle.std.proofs.Common.{subst, sym, ◌∙◌}
 use Rattle.std.specs.Str.{IsAscii}
-use Rattle.model_recurrence.proofs.OccurrenceIdLemmas.{local_is_ascii}
+use Rattle.spec_recurrence.proofs.OccurrenceIdLemmas.{local_is_ascii}
 use Rattle.event_model.proofs.ids.occurrence_id_text.Goals as goal
 
 pub push_compact-requires : goal.push_compact-requires

@@ -1,5 +1,5 @@
 use Rattle.std.proofs.Common.{◌≡◌, ◌++◌, drop, filter, string_bytes}
-use Rattle.model_recurrence.specs.OccurrenceIds.{is_no_separator}
+use Rattle.spec_recurrence.specs.OccurrenceIds.{is_no_separator}
 use Rattle.event_model.proofs.ids.push_compact.Given as goal
 
 abbrev pub invariant-loop-byte : goal.invariant-loop-byte

@@ -1,9 +1,9 @@
 use Rattle.std.proofs.Common.{◌≡◌, ℕ, List, IfOk, subst}
-use Rattle.model_history.specs.ObjectId.{id_text}
-use Rattle.model_history.specs.declared.entry.Kind.TheVariants.{Event}
-use Rattle.model_json.specs.TreeData.{data_of}
-use Rattle.model_recurrence.specs.Recurrence.{occurrence_at}
-use Rattle.model_time.specs.LocalTimes.{local_text}
+use Rattle.spec_history.specs.ObjectId.{id_text}
+use Rattle.spec_history.specs.declared.entry.Kind.TheVariants.{Event}
+use Rattle.spec_json.specs.TreeData.{data_of}
+use Rattle.spec_recurrence.specs.Recurrence.{occurrence_at}
+use Rattle.spec_time.specs.LocalTimes.{local_text}
 use Rattle.event_model.proofs.occurrence.occurrence.Goals as goal
 
 pub returns : goal.returns

@@ -1,6 +1,6 @@
 use Rattle.std.proofs.Common.{◌≡◌, drop}
 use Rattle.std.specs.List.{list_any}
-use Rattle.model_series.specs.RuleSets.{is_in_set}
+use Rattle.spec_series.specs.RuleSets.{is_in_set}
 use Rattle.event_model.proofs.rules.is_day_of_any.Given as goal
 
 abbrev pub invariant-loop-rule : goal.invariant-loop-rule

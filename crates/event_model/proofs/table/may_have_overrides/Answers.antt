@@ -1,5 +1,5 @@
 use Rattle.std.proofs.Common.{refl, subst}
-use Rattle.model_json.specs.TreeData.{data_of}
+use Rattle.spec_json.specs.TreeData.{data_of}
 use Rattle.event_model.proofs.OverrideLemmas.{refused_are_none}
 use Rattle.overrides.specs.Reports.{Reports}
 use Rattle.event_model.proofs.table.may_have_overrides.Goals as goal

@@ -1,4 +1,4 @@
-use Rattle.model_recurrence.specs.Recurrence.{recurring_event_table}
+use Rattle.spec_recurrence.specs.Recurrence.{recurring_event_table}
 use Rattle.event_model.proofs.table.passes.Goals as goal
 
 pub returns-in-recurrenceRules : goal.returns-in-recurrenceRules

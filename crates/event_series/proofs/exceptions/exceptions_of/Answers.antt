@@ -1,4 +1,4 @@
-use Rattle.model_json.specs.TreeData.{data_of}
+use Rattle.spec_json.specs.TreeData.{data_of}
 use Rattle.event_series.proofs.ExceptionLemmas.{exceptions_are_distinct, exceptions_are_few, exceptions_are_in_years, exceptions_are_short}
 use Rattle.event_series.proofs.exceptions.exceptions_of.Goals as goal
 

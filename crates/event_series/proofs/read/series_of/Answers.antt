@@ -1,4 +1,4 @@
-use Rattle.model_json.specs.TreeData.{data_of}
+use Rattle.spec_json.specs.TreeData.{data_of}
 use Rattle.event_series.proofs.SeriesLemmas.{one_series}
 use Rattle.event_series.proofs.read.series_of.Goals as goal
 

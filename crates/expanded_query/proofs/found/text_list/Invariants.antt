@@ -1,6 +1,6 @@
 use Rattle.std.proofs.Common.{◌≡◌, map, take}
-use Rattle.model_json.specs.Data.{text}
-use Rattle.model_json.specs.TreeData.{data_of}
+use Rattle.spec_json.specs.Data.{text}
+use Rattle.spec_json.specs.TreeData.{data_of}
 use Rattle.expanded_query.proofs.found.text_list.Given as goal
 
 abbrev pub invariant-loop-text : goal.invariant-loop-text

@@ -1,7 +1,7 @@
 use Rattle.std.proofs.Common.{◌≡◌, ◌++◌, drop, map}
 use Rattle.account_store.specs.Store.{entries}
 use Rattle.expanded_query.specs.Sights.{given_among}
-use Rattle.model_history.specs.History.{changes_of}
+use Rattle.spec_history.specs.History.{changes_of}
 use Rattle.expanded_query.proofs.matches.matches_among.Given as goal
 
 abbrev pub invariant-loop-number : goal.invariant-loop-number

@@ -1,7 +1,7 @@
 use Rattle.std.proofs.Common.{sym, ◌∙◌}
 use Rattle.account_store.specs.Store.{entries}
 use Rattle.expanded_query.proofs.RefusalLemmas.{answered, ids_same, refused, replied}
-use Rattle.model_history.specs.History.{changes_of}
+use Rattle.spec_history.specs.History.{changes_of}
 use Rattle.expanded_query.proofs.query.expanded_query.Goals as goal
 use Rattle.query_methods.specs.Requests.{criteria_in, paging_in}
 

@@ -1,10 +1,10 @@
 use Rattle.std.proofs.Common.{◌∙◌, ℕ, List, [], ◌∷◌, ◌++◌, ap}
 use Rattle.expanded_query.proofs.PushLemmas.{pushed}
 use Rattle.jiff_tz.specs.PosixText.{tz_view}
-use Rattle.model_json.specs.TreeData.{data_of}
-use Rattle.model_queries.specs.Expanded.{occurrence_result}
-use Rattle.model_query.specs.declared.item.Item.{Item}
-use Rattle.model_window.specs.Clocks.{instant_in}
+use Rattle.spec_json.specs.TreeData.{data_of}
+use Rattle.spec_queries.specs.Expanded.{occurrence_result}
+use Rattle.spec_queries.specs.declared.item.Item.{Item}
+use Rattle.spec_windows.specs.Clocks.{instant_in}
 use Rattle.expanded_query.proofs.sight.add_occurrences.Goals as goal
 
 pub loop-occurrence-preserved : goal.loop-occurrence-preserved

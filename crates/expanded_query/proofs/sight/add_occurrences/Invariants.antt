@@ -1,8 +1,8 @@
 use Rattle.std.proofs.Common.{◌≡◌, ◌++◌, drop, map}
 use Rattle.jiff_tz.specs.PosixText.{tz_view}
-use Rattle.model_json.specs.TreeData.{data_of}
-use Rattle.model_queries.specs.Expanded.{occurrence_result}
-use Rattle.model_window.specs.Clocks.{instant_in}
+use Rattle.spec_json.specs.TreeData.{data_of}
+use Rattle.spec_queries.specs.Expanded.{occurrence_result}
+use Rattle.spec_windows.specs.Clocks.{instant_in}
 use Rattle.expanded_query.proofs.sight.add_occurrences.Given as goal
 
 abbrev pub invariant-loop-occurrence : goal.invariant-loop-occurrence

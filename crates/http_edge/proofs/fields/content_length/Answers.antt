@@ -1,6 +1,6 @@
 use Rattle.std.proofs.Common.{map, codes, ap₂, ◌∙◌, fold}
 use Rattle.httparse.specs.Spans.{header_bytes}
-use Rattle.model_http.specs.Fields.{values_of, length_said, value_if_named}
+use Rattle.spec_http.specs.Fields.{values_of, length_said, value_if_named}
 use Rattle.http_edge.specs.Reading.{length_step, length_shown}
 use Rattle.http_edge.proofs.Values.{fold_values}
 use Rattle.http_edge.proofs.Lengths.{said}

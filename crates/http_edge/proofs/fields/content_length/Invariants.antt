@@ -1,6 +1,6 @@
 use Rattle.std.proofs.Common.{◌≡◌, map, drop, codes, fold}
 use Rattle.httparse.specs.Spans.{header_bytes}
-use Rattle.model_http.specs.Fields.{length_said, values_of}
+use Rattle.spec_http.specs.Fields.{length_said, values_of}
 use Rattle.http_edge.specs.Reading.{length_shown, length_step}
 use Rattle.http_edge.proofs.fields.content_length.Given as goal
 

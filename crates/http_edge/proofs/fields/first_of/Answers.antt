@@ -1,6 +1,6 @@
 use Rattle.std.proofs.Common.{◌≡◌, true, false, Some, sym, ap, ◌∙◌}
 use Rattle.httparse.specs.Spans.{header_bytes}
-use Rattle.model_http.specs.Fields.{same_word, first_value}
+use Rattle.spec_http.specs.Fields.{same_word, first_value}
 use Rattle.http_edge.proofs.Values.{value_here, value_elsewhere}
 use Rattle.http_edge.proofs.fields.first_of.Goals as goal
 

@@ -1,6 +1,6 @@
 use Rattle.std.proofs.Common.{◌≡◌, map, drop}
 use Rattle.httparse.specs.Spans.{header_bytes}
-use Rattle.model_http.specs.Fields.{values_of}
+use Rattle.spec_http.specs.Fields.{values_of}
 use Rattle.http_edge.proofs.fields.first_of.Given as goal
 
 abbrev pub invariant-loop-field : goal.invariant-loop-field

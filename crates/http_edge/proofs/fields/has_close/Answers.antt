@@ -1,7 +1,7 @@
 use Rattle.std.proofs.Common.{◌≡◌, true, false, codes, sym, ap₂, ◌∙◌}
 use Rattle.std.specs.Prelude.{◌&&◌}
 use Rattle.httparse.specs.Spans.{header_bytes}
-use Rattle.model_http.specs.Fields.{same_word, says_close}
+use Rattle.spec_http.specs.Fields.{same_word, says_close}
 use Rattle.http_edge.proofs.Values.{any_here, any_elsewhere}
 use Rattle.http_edge.proofs.fields.has_close.Goals as goal
 

@@ -1,7 +1,7 @@
 use Rattle.std.proofs.Common.{◌≡◌, map, drop, codes}
 use Rattle.std.specs.List.{list_any}
 use Rattle.httparse.specs.Spans.{header_bytes}
-use Rattle.model_http.specs.Fields.{says_close, values_of}
+use Rattle.spec_http.specs.Fields.{says_close, values_of}
 use Rattle.http_edge.proofs.fields.has_close.Given as goal
 
 abbrev pub invariant-loop-field : goal.invariant-loop-field

@@ -1,5 +1,5 @@
 use Rattle.std.proofs.Common.{◌≡◌, ◌++◌, take, drop}
-use Rattle.model_http.specs.Messages.{path_of}
+use Rattle.spec_http.specs.Messages.{path_of}
 use Rattle.http_edge.proofs.head.path_end.Given as goal
 
 abbrev pub invariant-loop-i : goal.invariant-loop-i

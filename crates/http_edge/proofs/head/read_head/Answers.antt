@@ -1,5 +1,5 @@
 use Rattle.std.proofs.Common.{◌≤◌, Err, inr, arith}
-use Rattle.model_http.specs.Heads.{line_feeds}
+use Rattle.spec_http.specs.Heads.{line_feeds}
 use Rattle.http_edge.proofs.HeadParts.{judged, method_ascii}
 use Rattle.http_edge.proofs.head.read_head.Goals as goal
 

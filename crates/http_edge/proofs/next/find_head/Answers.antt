@@ -1,11 +1,11 @@
 use Rattle.std.proofs.Common.{◌+◌, inl, refl, rules, ◌≡◌, ◌≤◌, ◌<◌, ◌∙◌, ℕ, List, length, min, sym, ap, arith}
 use Rattle.std.proofs.lemmas.List.{length-take-le}
-use Rattle.model_http.specs.Heads.{head_end, head_length, unended}
+use Rattle.spec_http.specs.Heads.{head_end, head_length, unended}
 use Rattle.http_edge.specs.Reading.{StopCause}
 use Rattle.http_edge.proofs.Ends.{prefix_same, prefix_end, prefix_full, prefix_open, open_none}
 use Rattle.http_edge.proofs.Searching.{searched_none}
 use Rattle.http_edge.proofs.Taking.{asked_for, searched_still, stop_earlier, took_more, took_none}
-use Rattle.model_http.specs.declared.limits.TheConstants.{PIECE}
+use Rattle.spec_http.specs.declared.limits.TheConstants.{PIECE}
 use Rattle.http_edge.proofs.next.find_head.Goals as goal
 
 pub loop-size-init : goal.loop-size-init

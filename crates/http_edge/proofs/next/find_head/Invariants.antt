@@ -1,8 +1,8 @@
 use Rattle.std.proofs.Common.{◌≡◌, ◌+◌, ◌-◌, ◌≤◌, length, take}
-use Rattle.model_http.specs.Heads.{head_end, unended}
+use Rattle.spec_http.specs.Heads.{head_end, unended}
 use Rattle.http_edge.specs.Reading.{AskedWhile, Took}
 use Rattle.http_edge.specs.Searches.{IsSearched}
-use Rattle.model_http.specs.declared.limits.TheConstants.{PIECE}
+use Rattle.spec_http.specs.declared.limits.TheConstants.{PIECE}
 use Rattle.http_edge.proofs.next.find_head.Given as goal
 
 abbrev pub invariant-loop-size : goal.invariant-loop-size

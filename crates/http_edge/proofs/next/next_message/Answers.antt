@@ -1,6 +1,6 @@
 use Rattle.std.proofs.Common.{inl, rules, ◌≡◌, ◌≤◌, ◌∙◌, length, take, sym, ap, arith, refl}
 use Rattle.std.proofs.lemmas.List.{length-take-le}
-use Rattle.model_http.specs.Heads.{head_end, ended}
+use Rattle.spec_http.specs.Heads.{head_end, ended}
 use Rattle.http_edge.specs.Reading.{end_shown}
 use Rattle.http_edge.proofs.Ends.{ended_within}
 use Rattle.http_edge.proofs.Exits.{Read, head_ended, head_failed, head_refused, head_refused_so, head_wanting, sum_bound, body_ended, body_failed, body_wanting, body_whole}

@@ -1,6 +1,6 @@
 use Rattle.std.proofs.Common.{◌-◌, ◌<◌, length}
 use Rattle.http_edge.specs.Reading.{AskedWhile, Took}
-use Rattle.model_http.specs.declared.limits.TheConstants.{PIECE}
+use Rattle.spec_http.specs.declared.limits.TheConstants.{PIECE}
 use Rattle.http_edge.proofs.next.take_until.Given as goal
 
 abbrev pub invariant-loop-kept : goal.invariant-loop-kept

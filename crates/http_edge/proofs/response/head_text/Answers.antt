@@ -1,5 +1,5 @@
 use Rattle.std.proofs.Common.{◌≡◌, length, ap, ◌∙◌, string_bytes}
-use Rattle.model_http.specs.Responses.{content}
+use Rattle.spec_http.specs.Responses.{content}
 use Rattle.http_edge.specs.Reading.{response_shown}
 use Rattle.http_edge.proofs.HeadText.{text_parts}
 use Rattle.http_edge.proofs.response.head_text.Goals as goal

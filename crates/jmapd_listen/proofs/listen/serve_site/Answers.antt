@@ -3,7 +3,7 @@ use Rattle.std.specs.Prelude.{All}
 use denote.Exit.{no}
 use denote.Param.Send.{arg_send, param_send}
 use Rattle.jmapd_listen.specs.declared.job.WorkerJob.{WorkerJob}
-use Rattle.worker_crew.specs.Crew.{Ends}
+use Rattle.listen_workers.specs.Crew.{Ends}
 use Rattle.jmapd_listen.proofs.Sending.{back_sent, job_sent}
 use Rattle.jmapd_listen.proofs.listen.serve_site.Goals as goal
 

@@ -3,7 +3,7 @@ use Rattle.std.specs.Prelude.{string_bytes}
 use denote.Param.Send.{sendable}
 use Rattle.account_desk.proofs.Crossing.{account_sent}
 use Rattle.account_desk.specs.SoleDesk.{fresh_account}
-use Rattle.model_site.specs.Configuration.{Site}
+use Rattle.spec_site.specs.Configuration.{Site}
 use Rattle.jmapd_run.proofs.AccountPages.{pages_lead, text_is}
 use Rattle.jmapd_run.proofs.work.text_of.Goals as goal
 

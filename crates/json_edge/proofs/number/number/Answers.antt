@@ -1,7 +1,7 @@
 use Rattle.std.proofs.Common.{◌≡◌, drop, get_or, true, false, ◌==◌, option_map, sym, ap, ◌∙◌, arith, take_all, length-drop}
 use Rattle.fast_float.specs.Text.{scan}
 use Rattle.serde_json.specs.Read.{number_of, number_from}
-use Rattle.model_json.specs.Json.{whole_number}
+use Rattle.spec_json.specs.Json.{whole_number}
 use Rattle.json_edge.proofs.number.number.Goals as goal
 
 pub returns-then-has_minus : goal.returns-then-has_minus

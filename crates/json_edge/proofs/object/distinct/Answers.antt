@@ -1,8 +1,8 @@
 use Rattle.std.proofs.Common.{◌≡◌, ◌++◌, ◌∷◌, [], map, option_map, true, sym, ap, ap₂, subst, ◌∙◌, rules}
 use Rattle.std.proofs.lemmas.List.{map-append}
 use Rattle.std.specs.Vec.Iter.{into_iter_items}
-use Rattle.model_json.specs.ObjectKeys.{HasOrderedKeys}
-use Rattle.model_json.specs.TreeData.{data_of, pair_of}
+use Rattle.spec_json.specs.ObjectKeys.{HasOrderedKeys}
+use Rattle.spec_json.specs.TreeData.{data_of, pair_of}
 use Rattle.json_edge.specs.FoundMembers.{is_next, last_key, whole_pairs, first_of_each}
 use Rattle.json_edge.specs.FoundData.{found_of}
 use Rattle.json_edge.proofs.Distinct.{kept, rises_on}

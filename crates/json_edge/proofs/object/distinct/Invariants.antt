@@ -1,7 +1,7 @@
 use Rattle.std.proofs.Common.{◌≡◌, ◌++◌, [], map, option_map}
 use Rattle.std.specs.Vec.Iter.{into_iter_items}
-use Rattle.model_json.specs.ObjectKeys.{HasOrderedKeys}
-use Rattle.model_json.specs.TreeData.{pair_of}
+use Rattle.spec_json.specs.ObjectKeys.{HasOrderedKeys}
+use Rattle.spec_json.specs.TreeData.{pair_of}
 use Rattle.json_edge.specs.FoundMembers.{whole_pairs, first_of_each, last_key}
 use Rattle.json_edge.specs.FoundData.{found_of}
 use Rattle.json_edge.proofs.object.distinct.Given as goal

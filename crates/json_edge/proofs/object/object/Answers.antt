@@ -1,6 +1,6 @@
 use Rattle.std.proofs.Common.{Some, map, option_map, sym, ap, ◌∙◌}
-use Rattle.model_json.specs.Data.{members_of, object as object_data}
-use Rattle.model_json.specs.TreeData.{pair_of}
+use Rattle.spec_json.specs.Data.{members_of, object as object_data}
+use Rattle.spec_json.specs.TreeData.{pair_of}
 use Rattle.json_edge.specs.FoundMembers.{whole_pairs}
 use Rattle.json_edge.specs.FoundData.{found_of}
 use Rattle.json_edge.proofs.Settling.{firsts_sorted}

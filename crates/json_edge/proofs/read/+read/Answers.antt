@@ -5,14 +5,14 @@ use Rattle.json.specs.Json.{parse_map, after_end_array, read_key, items, members
 use Rattle.json.specs.Reads.{token_of}
 use Rattle.json.proofs.Grammar.{value_is, value-begin_array, value-begin_object, read_key-shorter}
 use Rattle.serde_json.specs.Read.{converted}
-use Rattle.model_json.specs.TreeData.{data_of}
+use Rattle.spec_json.specs.TreeData.{data_of}
 use Rattle.json_edge.specs.Readings.{value_read, items_read, members_read, one_item, and_items, list_data}
 use Rattle.json_edge.specs.FoundData.{found_of, all_data}
 use Rattle.json_edge.proofs.Reading.{next_item, item_refused, items_over, next_member, member_refused, key_refused, members_over, number_read, one_more_item, no_item_yet, after_all, one_more_member, no_member_yet, converted_array}
 use Rattle.json_edge.proofs.Settling.{converted_object}
 use Rattle.json_edge.specs.FoundMembers.{object_found}
 use Rattle.std.proofs.lemmas.Result.{IfOk-weaker}
-use Rattle.model_json.specs.Data.{text}
+use Rattle.spec_json.specs.Data.{text}
 use Rattle.json_edge.proofs.read.+read.Goals as goal
 
 pub read_items-items-init : goal.read_items-items-init

@@ -4,7 +4,7 @@ use Rattle.std.specs.Arc.{arc_value}
 use Rattle.account_desk.proofs.FreshLemmas.{count_bases}
 use Rattle.account_desk.specs.FreshDesk.{bases}
 use Rattle.account_lock.specs.Passes.{PassState}
-use Rattle.shared_accounts.proofs.PassLemmas.{passes_count, passes_locks}
+use Rattle.listen_workers.proofs.PassLemmas.{passes_count, passes_locks}
 use Rattle.listen_rows.proofs.workers.told.Goals as goal
 
 first_hand : {A : Type 0} (hands : List A) (hand : A) → length hands ≡ 1 → hand ≡ slice_index_or hands 0 hand → slice_get hands 0 ≡ Some hand

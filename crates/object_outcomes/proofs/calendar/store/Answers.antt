@@ -1,9 +1,9 @@
 use Rattle.std.proofs.Common.{◌≡◌, ◌++◌, ◌∙◌, IfOk, None, Some, ap, subst}
 use Rattle.cal_model.specs.Calendar.{calendar_in, stored}
 use Rattle.cal_model.specs.Operations.{put, within_quota}
-use Rattle.model_history.specs.declared.entry.Kind.TheVariants.{Calendar}
-use Rattle.model_json.specs.TreeData.{data_of}
-use Rattle.model_json.specs.declared.tree.Tree.TheVariants.{Object}
+use Rattle.spec_history.specs.declared.entry.Kind.TheVariants.{Calendar}
+use Rattle.spec_json.specs.TreeData.{data_of}
+use Rattle.spec_json.specs.declared.tree.Tree.TheVariants.{Object}
 use Rattle.object_outcomes.proofs.calendar.store.Goals as goal
 
 pub returns-clause-exact : goal.returns-clause-exact

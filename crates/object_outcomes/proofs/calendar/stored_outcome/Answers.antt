@@ -1,7 +1,7 @@
 use Rattle.std.proofs.Common.{◌≡◌, ◌==◌, ◌++◌, ◌∙◌, IfOk, ap, arith, codes, length, option_map, subst, sym, vec_len}
 use Rattle.cal_model.specs.Calendar.{bad_properties}
 use Rattle.cal_model.specs.Operations.{has_other_zone, with_name_if}
-use Rattle.model_json.specs.TreeData.{data_of}
+use Rattle.spec_json.specs.TreeData.{data_of}
 use Rattle.object_outcomes.specs.Judging.{ground_in}
 use Rattle.object_outcomes.specs.declared.setting.Judged.{Judged}
 use Rattle.object_outcomes.proofs.CalendarLemmas.{bad_calendar, good_calendar}

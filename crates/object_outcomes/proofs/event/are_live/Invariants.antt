@@ -1,9 +1,9 @@
 use Rattle.std.proofs.Common.{◌≡◌, ◌++◌, drop, is_some, map}
 use Rattle.std.specs.List.{list_all}
-use Rattle.model_event.specs.Events.{calendars_among}
-use Rattle.model_history.specs.History.{live_object}
-use Rattle.model_history.specs.declared.entry.Kind.TheVariants.{Calendar}
-use Rattle.model_json.specs.TreeData.{pair_of}
+use Rattle.spec_events.specs.Events.{calendars_among}
+use Rattle.spec_history.specs.History.{live_object}
+use Rattle.spec_history.specs.declared.entry.Kind.TheVariants.{Calendar}
+use Rattle.spec_json.specs.TreeData.{pair_of}
 use Rattle.object_outcomes.proofs.event.are_live.Given as goal
 
 abbrev pub invariant-loop-member : goal.invariant-loop-member

@@ -1,6 +1,6 @@
 use Rattle.std.proofs.Common.{◌++◌, ◌∙◌, ap, ap₂, codes}
 use Rattle.cal_model.specs.Operations.{bad_of_booking, with_name_if}
-use Rattle.model_json.specs.TreeData.{data_of}
+use Rattle.spec_json.specs.TreeData.{data_of}
 use Rattle.object_outcomes.specs.Judging.{ground_in}
 use Rattle.object_outcomes.proofs.event.bad_names.Goals as goal
 

@@ -1,5 +1,5 @@
 use Rattle.std.proofs.Common.{◌≡◌, map}
-use Rattle.model_json.specs.TreeData.{pair_of}
+use Rattle.spec_json.specs.TreeData.{pair_of}
 use Rattle.property_table.specs.Table.{given}
 use Rattle.object_outcomes.proofs.event.given_members.Given as goal
 

@@ -1,6 +1,6 @@
 use Rattle.std.proofs.Common.{◌≡◌, ◌==◌, ◌++◌, ◌∙◌, ap, arith, length, option_map, sym, subst, vec_len}
 use Rattle.cal_model.specs.Fits.{IsEventFit}
-use Rattle.model_json.specs.Data.{members_of, object}
+use Rattle.spec_json.specs.Data.{members_of, object}
 use Rattle.object_outcomes.specs.Judging.{ground_in}
 use Rattle.object_outcomes.proofs.EventLemmas.{good_event}
 use Rattle.object_outcomes.proofs.NameLemmas.{none_left}

@@ -1,6 +1,6 @@
 use Rattle.std.proofs.Common.{◌≡◌, [], map}
-use Rattle.model_json.specs.Edit.{put_all}
-use Rattle.model_json.specs.TreeData.{pair_of}
+use Rattle.spec_json.specs.Edit.{put_all}
+use Rattle.spec_json.specs.TreeData.{pair_of}
 use Rattle.object_outcomes.proofs.objects.object_of.Given as goal
 
 abbrev pub invariant-loop-member : goal.invariant-loop-member

@@ -1,6 +1,6 @@
 use Rattle.std.proofs.Common.{◌≡◌, map, take}
 use Rattle.cal_model.specs.CreatedIds.{resolved_member_value}
-use Rattle.model_json.specs.TreeData.{pair_of}
+use Rattle.spec_json.specs.TreeData.{pair_of}
 use Rattle.object_outcomes.proofs.resolved.resolved_members.Given as goal
 
 abbrev pub invariant-loop-member : goal.invariant-loop-member

@@ -1,7 +1,7 @@
 use Rattle.std.proofs.Common.{◌≡◌, ◌++◌, ◌∷◌, ◌∙◌, IfOk, [], ap, append_assoc, subst}
 use Rattle.cal_model.specs.EventObject.{named_uuid}
-use Rattle.model_history.specs.ObjectId.{id_text}
-use Rattle.model_history.specs.declared.entry.Kind.TheVariants.{Event}
+use Rattle.spec_history.specs.ObjectId.{id_text}
+use Rattle.spec_history.specs.declared.entry.Kind.TheVariants.{Event}
 use Rattle.object_outcomes.proofs.uid.supplied_uid.Goals as goal
 
 pub returns : goal.returns

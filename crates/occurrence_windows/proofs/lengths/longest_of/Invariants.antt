@@ -1,5 +1,5 @@
 use Rattle.std.specs.Prelude.{◌≡◌, ℕ, ◌≤◌, ◌<◌, true, Some, slice_get}
-use Rattle.model_series.specs.declared.exception.Exception.{Exception}
+use Rattle.spec_series.specs.declared.exception.Exception.{Exception}
 use Rattle.occurrence_windows.specs.Bounds.{lasts_up_to}
 use Rattle.occurrence_windows.proofs.lengths.longest_of.Given as goal
 

@@ -1,7 +1,7 @@
 use Rattle.std.proofs.Common.{rules}
 use Rattle.jiff_tz.specs.PosixText.{tz_view}
-use Rattle.model_window.specs.Clocks.{instant_in}
-use Rattle.model_window.specs.Windows.{IsMeeting}
+use Rattle.spec_windows.specs.Clocks.{instant_in}
+use Rattle.spec_windows.specs.Windows.{IsMeeting}
 use Rattle.occurrence_windows.proofs.Walking.{moves_on}
 use Rattle.occurrence_windows.proofs.Meeting.{at_first, met_single, shows, showing_near}
 use Rattle.occurrence_windows.proofs.Listing.{list_begun, list_ended, list_more}

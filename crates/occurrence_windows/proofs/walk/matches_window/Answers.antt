@@ -1,6 +1,6 @@
 use Rattle.jiff_tz.specs.PosixText.{tz_view}
-use Rattle.model_window.specs.Clocks.{instant_in}
-use Rattle.model_window.specs.Windows.{IsMeeting}
+use Rattle.spec_windows.specs.Clocks.{instant_in}
+use Rattle.spec_windows.specs.Windows.{IsMeeting}
 use Rattle.occurrence_windows.proofs.Meeting.{at_first, some_one}
 use Rattle.occurrence_windows.proofs.Passing.{meeting_value}
 use Rattle.occurrence_windows.proofs.Series.{rule_instants}

@@ -1,7 +1,7 @@
 use Rattle.std.proofs.Common.{◌∙◌, sym}
 use Rattle.jiff_tz.specs.PosixText.{tz_view}
-use Rattle.model_series.specs.Occurrences.{IsOccurrence}
-use Rattle.model_window.specs.Clocks.{instant_in}
+use Rattle.spec_series.specs.Occurrences.{IsOccurrence}
+use Rattle.spec_windows.specs.Clocks.{instant_in}
 use Rattle.occurrence_windows.proofs.Walking.{moves_on, late_not}
 use Rattle.occurrence_windows.proofs.Meeting.{none_left, none_high, found_first, onward_more, left_more, start_in}
 use Rattle.occurrence_windows.proofs.Series.{lengths, rids_near, rule_instants, single}

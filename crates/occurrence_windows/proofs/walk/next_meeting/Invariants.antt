@@ -2,8 +2,8 @@ use Rattle.std.specs.Prelude.{IfSome}
 use Rattle.std.specs.Int.{int_gap}
 use Rattle.jiff_core.specs.Calendar.{IsWithin}
 use Rattle.jiff_tz.specs.PosixText.{tz_view}
-use Rattle.model_window.specs.Clocks.{instant_in}
-use Rattle.model_window.specs.Windows.{IsMeeting}
+use Rattle.spec_windows.specs.Clocks.{instant_in}
+use Rattle.spec_windows.specs.Windows.{IsMeeting}
 use Rattle.occurrence_windows.proofs.Walking.{key, TOP}
 use Rattle.occurrence_windows.proofs.Meeting.{AreLeft, IsOnward}
 use Rattle.occurrence_windows.proofs.walk.next_meeting.Given as goal

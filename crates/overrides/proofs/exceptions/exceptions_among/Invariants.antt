@@ -1,7 +1,7 @@
 use Rattle.std.proofs.Common.{◌≡◌, ◌++◌, drop, map, option_map}
-use Rattle.model_json.specs.Parts.{all_some, members_in}
-use Rattle.model_json.specs.TreeData.{data_of, pair_of}
-use Rattle.model_recurrence.specs.Overrides.{exception_in, first_refused}
+use Rattle.spec_json.specs.Parts.{all_some, members_in}
+use Rattle.spec_json.specs.TreeData.{data_of, pair_of}
+use Rattle.spec_recurrence.specs.Overrides.{exception_in, first_refused}
 use Rattle.overrides.proofs.exceptions.exceptions_among.Given as goal
 
 abbrev pub invariant-loop-member : goal.invariant-loop-member

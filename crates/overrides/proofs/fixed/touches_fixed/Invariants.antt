@@ -1,7 +1,7 @@
 use Rattle.std.proofs.Common.{◌≡◌, drop, map}
 use Rattle.std.specs.List.{list_any}
-use Rattle.model_json.specs.TreeData.{pair_of}
-use Rattle.model_recurrence.specs.Overrides.{touches_fixed}
+use Rattle.spec_json.specs.TreeData.{pair_of}
+use Rattle.spec_recurrence.specs.Overrides.{touches_fixed}
 use Rattle.overrides.proofs.fixed.touches_fixed.Given as goal
 
 abbrev pub invariant-loop-change : goal.invariant-loop-change

@@ -1,5 +1,5 @@
 use Rattle.std.proofs.Common.{◌≡◌, ◌++◌, drop, map}
-use Rattle.model_json.specs.TreeData.{pair_of}
+use Rattle.spec_json.specs.TreeData.{pair_of}
 use Rattle.overrides.specs.Parts.{firsts_of}
 use Rattle.overrides.proofs.part.firsts_of.Given as goal
 

@@ -1,6 +1,6 @@
 use Rattle.std.proofs.Common.{ap, map, ◌∙◌}
-use Rattle.model_json.specs.Parts.{members_in}
-use Rattle.model_json.specs.TreeData.{data_of, pair_of}
+use Rattle.spec_json.specs.Parts.{members_in}
+use Rattle.spec_json.specs.TreeData.{data_of, pair_of}
 use Rattle.overrides.proofs.MemberLemmas.{all_needed_put}
 use Rattle.overrides.specs.Parts.{always_needed, part_with, with_each_member}
 use Rattle.overrides.proofs.part.part_of.Goals as goal

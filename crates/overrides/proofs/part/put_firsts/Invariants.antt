@@ -1,6 +1,6 @@
 use Rattle.std.proofs.Common.{◌≡◌, drop}
-use Rattle.model_json.specs.Parts.{members_in}
-use Rattle.model_json.specs.TreeData.{data_of}
+use Rattle.spec_json.specs.Parts.{members_in}
+use Rattle.spec_json.specs.TreeData.{data_of}
 use Rattle.overrides.specs.Parts.{with_each_member}
 use Rattle.overrides.proofs.part.put_firsts.Given as goal
 

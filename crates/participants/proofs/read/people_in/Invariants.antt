@@ -1,6 +1,6 @@
 use Rattle.std.proofs.Common.{◌≡◌, ◌++◌, drop, map}
-use Rattle.model_event.specs.Participants.{participant_in}
-use Rattle.model_json.specs.TreeData.{pair_of}
+use Rattle.spec_events.specs.Participants.{participant_in}
+use Rattle.spec_json.specs.TreeData.{pair_of}
 use Rattle.participants.proofs.read.people_in.Given as goal
 
 abbrev pub invariant-loop-member : goal.invariant-loop-member

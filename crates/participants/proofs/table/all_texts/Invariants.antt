@@ -1,6 +1,6 @@
 use Rattle.std.proofs.Common.{◌≡◌, drop, map}
-use Rattle.model_event.specs.Participants.{are_texts}
-use Rattle.model_json.specs.TreeData.{pair_of}
+use Rattle.spec_events.specs.Participants.{are_texts}
+use Rattle.spec_json.specs.TreeData.{pair_of}
 use Rattle.participants.proofs.table.all_texts.Given as goal
 
 abbrev pub invariant-loop-member : goal.invariant-loop-member

@@ -1,6 +1,6 @@
 use Rattle.std.proofs.Common.{⊎_elim, refl}
 use Rattle.property_table.proofs.TableLemmas.{unlike}
-use Rattle.model_event.specs.Participants.{participant_table}
+use Rattle.spec_events.specs.Participants.{participant_table}
 use Rattle.participants.proofs.table.passes.Goals as goal
 
 pub returns-in-name : goal.returns-in-name

@@ -4,7 +4,7 @@ use Rattle.std.specs.Cmp.Lexicographic.{slice_cmp}
 use Rattle.std.specs.Ordering.{nat_cmp, is_lt}
 use Rattle.patch_object.proofs.cursor.pop_from.Goals as goal
 use Rattle.patch_object.proofs.cursor.pop_from.Goals.{in-Some, in-None}
-use Rattle.model_json.specs.TreeData.{pair_of}
+use Rattle.spec_json.specs.TreeData.{pair_of}
 use Rattle.patch_object.proofs.CursorLemmas.{all_below_last, all_below_none}
 use Rattle.patch_object.specs.Cursor.{all_below}
 

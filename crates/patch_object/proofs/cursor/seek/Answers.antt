@@ -1,7 +1,7 @@
 use Rattle.std.proofs.Common.{◌≡◌, ◌++◌, [], ◌∷◌, map, true, subst, sym, ap, ◌∙◌, append_assoc}
 use Rattle.std.proofs.lemmas.List.{map-append}
-use Rattle.model_json.specs.ObjectKeys.{keys_rise}
-use Rattle.model_json.specs.TreeData.{pair_of}
+use Rattle.spec_json.specs.ObjectKeys.{keys_rise}
+use Rattle.spec_json.specs.TreeData.{pair_of}
 use Rattle.patch_object.proofs.CursorLemmas.{all_below_push, first_below, front_rises}
 use Rattle.patch_object.proofs.cursor.seek.Goals as goal
 

@@ -1,5 +1,5 @@
 use Rattle.std.proofs.Common.{◌≡◌, ◌++◌, map, length, true}
-use Rattle.model_json.specs.TreeData.{pair_of}
+use Rattle.spec_json.specs.TreeData.{pair_of}
 use Rattle.patch_object.specs.Cursor.{all_below}
 use Rattle.patch_object.proofs.cursor.seek.Given as goal
 

@@ -1,10 +1,10 @@
 use Rattle.std.proofs.Common.{◌≡◌, ◌||◌, ℕ, List, ◌∷◌, ◌+◌, map, drop, arith, sym, ap, refl, ◌∙◌}
 use Rattle.std.proofs.lemmas.Grind.{common_steps}
 use Rattle.std.specs.List.{list_any}
-use Rattle.model_json.specs.Patch.{is_prefix}
-use Rattle.model_json.specs.TreeData.{data_of, pair_of}
+use Rattle.spec_json.specs.Patch.{is_prefix}
+use Rattle.spec_json.specs.TreeData.{data_of, pair_of}
 use Rattle.std.proofs.lemmas.List.{at_drop_more}
-use Rattle.model_json.specs.declared.tree.Member.{Member}
+use Rattle.spec_json.specs.declared.tree.Member.{Member}
 use Rattle.patch_object.proofs.PatchLemmas.{placed_none, tested_more}
 use Rattle.patch_object.proofs.patch.tested_edits.Goals as goal
 

@@ -1,7 +1,7 @@
 use Rattle.std.proofs.Common.{◌≡◌, List, ℕ, [], drop, map}
 use Rattle.std.specs.List.{list_any}
-use Rattle.model_json.specs.Patch.{first_failing, is_prefix, on_members, placed_all}
-use Rattle.model_json.specs.TreeData.{data_of, pair_of}
+use Rattle.spec_json.specs.Patch.{first_failing, is_prefix, on_members, placed_all}
+use Rattle.spec_json.specs.TreeData.{data_of, pair_of}
 use Rattle.patch_object.specs.Edits.{change_of, placed_each, pointer_of}
 use Rattle.patch_object.proofs.patch.tested_edits.Given as goal
 

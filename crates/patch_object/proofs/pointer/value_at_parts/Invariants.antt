@@ -1,6 +1,6 @@
 use Rattle.std.proofs.Common.{◌≡◌, drop}
-use Rattle.model_json.specs.Pointer.{value_at}
-use Rattle.model_json.specs.TreeData.{data_of}
+use Rattle.spec_json.specs.Pointer.{value_at}
+use Rattle.spec_json.specs.TreeData.{data_of}
 use Rattle.patch_object.proofs.pointer.value_at_parts.Given as goal
 
 abbrev pub invariant-loop-part : goal.invariant-loop-part

@@ -1,6 +1,6 @@
 use Rattle.std.proofs.Common.{◌≡◌, drop, map}
-use Rattle.model_json.specs.Parts.{members_in}
-use Rattle.model_json.specs.TreeData.{data_of}
+use Rattle.spec_json.specs.Parts.{members_in}
+use Rattle.spec_json.specs.TreeData.{data_of}
 use Rattle.property_table.specs.OnePass.{with_missing}
 use Rattle.property_table.specs.Table.{given}
 use Rattle.property_table.proofs.table.add_missing.Given as goal

@@ -1,5 +1,5 @@
 use Rattle.std.proofs.Common.{◌≡◌, ◌++◌, drop, map}
-use Rattle.model_json.specs.TreeData.{pair_of}
+use Rattle.spec_json.specs.TreeData.{pair_of}
 use Rattle.property_table.specs.OnePass.{failing_keys}
 use Rattle.property_table.proofs.table.failing_keys.Given as goal
 

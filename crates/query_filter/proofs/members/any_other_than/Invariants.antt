@@ -1,6 +1,6 @@
 use Rattle.std.proofs.Common.{◌≡◌, drop, map}
-use Rattle.model_filter.specs.Members.{has_other_than}
-use Rattle.model_json.specs.TreeData.{pair_of}
+use Rattle.spec_filters.specs.Members.{has_other_than}
+use Rattle.spec_json.specs.TreeData.{pair_of}
 use Rattle.query_filter.proofs.members.any_other_than.Given as goal
 
 abbrev pub invariant-loop-member : goal.invariant-loop-member

@@ -1,5 +1,5 @@
 use Rattle.std.proofs.Common.{inl, inr, ⊎_elim, refl}
-use Rattle.model_filter.specs.Members.{condition_table}
+use Rattle.spec_filters.specs.Members.{condition_table}
 use Rattle.property_table.proofs.TableLemmas.{unlike}
 use Rattle.query_filter.proofs.members.passes.Goals as goal
 

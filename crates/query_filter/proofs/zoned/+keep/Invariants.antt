@@ -1,6 +1,6 @@
 use Rattle.std.proofs.Common.{◌≡◌, ◌+◌, ◌*◌, map}
-use Rattle.model_json.specs.Data.{depth, items_depth, items_of, members_depth, members_of}
-use Rattle.model_json.specs.TreeData.{data_of}
+use Rattle.spec_json.specs.Data.{depth, items_depth, items_of, members_depth, members_of}
+use Rattle.spec_json.specs.TreeData.{data_of}
 use Rattle.query_filter.proofs.zoned.+keep.Given as goal
 
 abbrev pub invariant-keep_each-loop-filter : goal.invariant-keep_each-loop-filter

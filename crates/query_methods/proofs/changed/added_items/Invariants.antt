@@ -1,6 +1,6 @@
 use Rattle.std.proofs.Common.{◌≡◌, map, take}
-use Rattle.model_json.specs.TreeData.{data_of}
-use Rattle.model_queries.specs.Changed.{added_item}
+use Rattle.spec_json.specs.TreeData.{data_of}
+use Rattle.spec_queries.specs.Changed.{added_item}
 use Rattle.query_methods.proofs.changed.added_items.Given as goal
 
 abbrev pub invariant-loop-place : goal.invariant-loop-place

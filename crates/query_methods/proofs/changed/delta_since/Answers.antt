@@ -1,9 +1,9 @@
 use Rattle.std.proofs.Common.{◌≡◌, ap, filter, length, sym, ◌∙◌}
 use Rattle.std.proofs.lemmas.Result.{IfOk-weaker}
 use Rattle.account_store.specs.Store.{entries}
-use Rattle.model_history.specs.History.{changes_of}
-use Rattle.model_history.specs.Pages.{is_in}
-use Rattle.model_query.specs.Matching.{of_events, result_at, touched_since}
+use Rattle.spec_history.specs.History.{changes_of}
+use Rattle.spec_history.specs.Pages.{is_in}
+use Rattle.spec_queries.specs.Matching.{of_events, result_at, touched_since}
 use Rattle.query_methods.proofs.ResultLemmas.{delta_is, state_counts}
 use Rattle.query_methods.proofs.changed.delta_since.Goals as goal
 

@@ -1,7 +1,7 @@
 use Rattle.std.proofs.Common.{◌≡◌, map, take}
-use Rattle.model_history.specs.ObjectId.{id_text}
-use Rattle.model_json.specs.Data.{text}
-use Rattle.model_json.specs.TreeData.{data_of}
+use Rattle.spec_history.specs.ObjectId.{id_text}
+use Rattle.spec_json.specs.Data.{text}
+use Rattle.spec_json.specs.TreeData.{data_of}
 use Rattle.query_methods.proofs.ids.id_list.Given as goal
 
 abbrev pub invariant-loop-number : goal.invariant-loop-number

@@ -1,4 +1,4 @@
-use Rattle.model_queries.specs.Criteria.{order_of, sight_of}
+use Rattle.spec_queries.specs.Criteria.{order_of, sight_of}
 use Rattle.query_methods.proofs.laws.query_changes_lead.Goals as goal
 use Rattle.query_order.proofs.Histories.{results_lead_at}
 

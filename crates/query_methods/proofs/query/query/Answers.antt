@@ -1,9 +1,9 @@
 use Rattle.std.proofs.Common.{◌≡◌, false, subst, sym, ◌∙◌}
 use Rattle.std.proofs.lemmas.Result.{IfErr-weaker, IfOk-weaker, on_ok_weaker}
 use Rattle.account_store.specs.Store.{entries}
-use Rattle.model_history.specs.History.{changes_of}
-use Rattle.model_queries.specs.Found.{anchor_refusal, found_response}
-use Rattle.model_queries.specs.Queries.{query_refusal}
+use Rattle.spec_history.specs.History.{changes_of}
+use Rattle.spec_queries.specs.Found.{anchor_refusal, found_response}
+use Rattle.spec_queries.specs.Queries.{query_refusal}
 use Rattle.query_methods.proofs.RefusalLemmas.{by_anchor}
 use Rattle.query_methods.proofs.query.query.Goals as goal
 use Rattle.query_methods.specs.FilterSights.{seen_by}

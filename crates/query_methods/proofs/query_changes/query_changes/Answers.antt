@@ -1,11 +1,11 @@
 use Rattle.std.proofs.Common.{◌≡◌, Some, if◌then◌else◌, None, subst, sym, ◌∙◌}
 use Rattle.std.proofs.lemmas.Result.{IfErr-weaker, IfOk-weaker, on_ok_weaker}
 use Rattle.account_store.specs.Store.{entries}
-use Rattle.model_history.specs.History.{changes_of}
-use Rattle.model_history.specs.declared.entry.Kind.TheVariants.{Event}
-use Rattle.model_queries.specs.Changed.{changed_response, size_refusal}
-use Rattle.model_queries.specs.Queries.{query_changes_refusal}
-use Rattle.model_queries.specs.States.{is_known_state}
+use Rattle.spec_history.specs.History.{changes_of}
+use Rattle.spec_history.specs.declared.entry.Kind.TheVariants.{Event}
+use Rattle.spec_queries.specs.Changed.{changed_response, size_refusal}
+use Rattle.spec_queries.specs.Queries.{query_changes_refusal}
+use Rattle.spec_queries.specs.States.{is_known_state}
 use Rattle.query_methods.proofs.RefusalLemmas.{by_size, named}
 use Rattle.query_methods.proofs.query_changes.query_changes.Goals as goal
 use Rattle.query_methods.specs.FilterSights.{seen_by}

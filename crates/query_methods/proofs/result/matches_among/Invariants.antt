@@ -1,7 +1,7 @@
 use Rattle.std.proofs.Common.{◌≡◌, ◌++◌, drop, length, map}
 use Rattle.account_store.specs.Earlier.{changes_up_to}
 use Rattle.account_store.specs.Store.{entries}
-use Rattle.model_history.specs.declared.entry.Kind.TheVariants.{Event}
+use Rattle.spec_history.specs.declared.entry.Kind.TheVariants.{Event}
 use Rattle.query_methods.proofs.result.matches_among.Given as goal
 use Rattle.query_methods.specs.Among.{matches_among}
 

@@ -2,7 +2,7 @@ use Rattle.std.proofs.Common.{◌≡◌, [], ◌∙◌}
 use Rattle.std.proofs.lemmas.Result.{IfOk-weaker}
 use Rattle.account_store.specs.Earlier.{changes_up_to}
 use Rattle.account_store.specs.Store.{entries}
-use Rattle.model_history.specs.declared.entry.Kind.TheVariants.{Event}
+use Rattle.spec_history.specs.declared.entry.Kind.TheVariants.{Event}
 use Rattle.query_methods.proofs.ResultLemmas.{result_uncompared}
 use Rattle.query_methods.proofs.result.result_among.Goals as goal
 

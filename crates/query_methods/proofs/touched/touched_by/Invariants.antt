@@ -1,6 +1,6 @@
 use Rattle.std.proofs.Common.{◌≡◌, ◌++◌, drop}
-use Rattle.model_history.specs.History.{changes_of}
-use Rattle.model_query.specs.Matching.{touched_by}
+use Rattle.spec_history.specs.History.{changes_of}
+use Rattle.spec_queries.specs.Matching.{touched_by}
 use Rattle.query_methods.proofs.touched.touched_by.Given as goal
 
 abbrev pub invariant-loop-entry : goal.invariant-loop-entry

@@ -1,5 +1,5 @@
 use Rattle.std.proofs.Common.{◌≡◌, ◌++◌, drop, filter}
-use Rattle.model_history.specs.Pages.{is_in}
+use Rattle.spec_history.specs.Pages.{is_in}
 use Rattle.query_order.proofs.change.among.Given as goal
 
 abbrev pub invariant-loop-id : goal.invariant-loop-id

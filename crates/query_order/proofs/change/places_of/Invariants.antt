@@ -1,6 +1,6 @@
 use Rattle.std.proofs.Common.{◌≡◌, ◌++◌, drop}
-use Rattle.model_history.specs.Pages.{is_in}
-use Rattle.model_query.specs.QueryChanges.{indexed}
+use Rattle.spec_history.specs.Pages.{is_in}
+use Rattle.spec_queries.specs.QueryChanges.{indexed}
 use Rattle.query_order.proofs.change.places_of.Given as goal
 
 abbrev pub invariant-loop-index : goal.invariant-loop-index

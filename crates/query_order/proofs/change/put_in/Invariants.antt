@@ -1,5 +1,5 @@
 use Rattle.std.proofs.Common.{◌≡◌, ◌≤◌, ◌++◌, drop, length}
-use Rattle.model_query.specs.QueryChanges.{with_places}
+use Rattle.spec_queries.specs.QueryChanges.{with_places}
 use Rattle.query_order.proofs.change.put_in.Given as goal
 
 abbrev pub invariant-loop-place : goal.invariant-loop-place

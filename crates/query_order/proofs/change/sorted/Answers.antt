@@ -1,6 +1,6 @@
 use Rattle.std.proofs.Common.{◌==◌, ap, sym, ◌∙◌}
 use Rattle.std.proofs.lemmas.List.Sorted.{IsNonDecreasingBy-from_sort, list_any-IsPermutation}
-use Rattle.model_history.specs.Pages.{is_in}
+use Rattle.spec_history.specs.Pages.{is_in}
 use Rattle.query_order.proofs.change.sorted.Goals as goal
 
 pub returns-clause-rising : goal.returns-clause-rising

@@ -1,6 +1,6 @@
 use Rattle.std.proofs.Common.{ap, ap₂, ◌∙◌}
-use Rattle.model_history.specs.Pages.{is_in}
-use Rattle.model_query.specs.QueryChanges.{with_places}
+use Rattle.spec_history.specs.Pages.{is_in}
+use Rattle.spec_queries.specs.QueryChanges.{with_places}
 use Rattle.query_order.proofs.Splicing.{kept_same}
 use Rattle.query_order.proofs.change.splice.Goals as goal
 

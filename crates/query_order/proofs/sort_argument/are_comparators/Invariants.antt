@@ -1,7 +1,7 @@
 use Rattle.std.proofs.Common.{◌≡◌, drop, map}
 use Rattle.std.specs.List.{list_all}
-use Rattle.model_json.specs.TreeData.{data_of}
-use Rattle.model_query.specs.Sorts.{is_comparator}
+use Rattle.spec_json.specs.TreeData.{data_of}
+use Rattle.spec_queries.specs.Sorts.{is_comparator}
 use Rattle.query_order.proofs.sort_argument.are_comparators.Given as goal
 
 abbrev pub invariant-loop-item : goal.invariant-loop-item

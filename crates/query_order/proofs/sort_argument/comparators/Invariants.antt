@@ -1,7 +1,7 @@
 use Rattle.std.proofs.Common.{◌≡◌, ◌++◌, ◌≤◌, drop, map, length, option_map}
-use Rattle.model_json.specs.Parts.{all_some}
-use Rattle.model_json.specs.TreeData.{data_of}
-use Rattle.model_query.specs.Sorts.{comparator_in}
+use Rattle.spec_json.specs.Parts.{all_some}
+use Rattle.spec_json.specs.TreeData.{data_of}
+use Rattle.spec_queries.specs.Sorts.{comparator_in}
 use Rattle.query_order.proofs.sort_argument.comparators.Given as goal
 
 abbrev pub invariant-loop-item : goal.invariant-loop-item

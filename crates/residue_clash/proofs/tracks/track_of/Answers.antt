@@ -1,7 +1,7 @@
 -- Why the track has the days of the rule's set.
 use Rattle.std.proofs.Common.{refl, rules, ◌∙◌, FitsSigned, w64}
 use Rattle.std.proofs.lemmas.Int.{to_z-of_z}
-use Rattle.model_time.specs.Walls.{day_of_wall}
+use Rattle.spec_time.specs.Walls.{day_of_wall}
 use Rattle.rule_expand.proofs.Sets.{set_start}
 use Rattle.residue_clash.proofs.SetDays.{to_given, from_given}
 use Rattle.residue_clash.proofs.tracks.track_of.Goals as goal

@@ -1,5 +1,5 @@
 -- The first meeting with a booking or with the series itself is the first clash.
-use Rattle.model_room.specs.Bookings.{but}
+use Rattle.spec_bookings.specs.Bookings.{but}
 use Rattle.residue_clash.proofs.Covering.{self_shared_by_test}
 use Rattle.resource_book.proofs.Clashes.{exact_clash, clear_clash, least_clash}
 use Rattle.resource_book.proofs.check.check.Goals as goal

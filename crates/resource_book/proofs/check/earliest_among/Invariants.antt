@@ -1,5 +1,5 @@
 use Rattle.std.proofs.Common.{List, ◌++◌, take}
-use Rattle.model_room.specs.declared.booking.Booking.{Booking}
+use Rattle.spec_bookings.specs.declared.booking.Booking.{Booking}
 use Rattle.resource_book.specs.Meetings.{meets_booking, IsEarliestOf}
 use Rattle.resource_book.proofs.check.earliest_among.Given as goal
 

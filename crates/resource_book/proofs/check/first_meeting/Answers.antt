@@ -1,6 +1,6 @@
 -- The bookings before the excepted one, and those after it.
 use Rattle.std.proofs.Common.{take, subst, List, []}
-use Rattle.model_room.specs.declared.booking.Booking.{Booking}
+use Rattle.spec_bookings.specs.declared.booking.Booking.{Booking}
 use Rattle.resource_book.specs.Meetings.{meets_booking, IsEarliestOf}
 use Rattle.resource_book.proofs.Clashes.{nothing_met}
 use Rattle.resource_book.proofs.Orders.{both_sides}

@@ -1,5 +1,5 @@
 use Rattle.std.proofs.Common.{◌≡◌, take, false}
-use Rattle.model_room.specs.Bookings.{is_booked}
+use Rattle.spec_bookings.specs.Bookings.{is_booked}
 use Rattle.resource_book.proofs.places.place_of.Given as goal
 
 abbrev pub invariant-loop-i : goal.invariant-loop-i

@@ -1,7 +1,7 @@
 use Rattle.std.proofs.Common.{◌≡◌, false, arith}
 use Rattle.std.proofs.lemmas.Grind.{common_steps}
 use Rattle.std.specs.List.{list_any}
-use Rattle.model_batch.specs.References.{has_both_forms, resolution}
+use Rattle.spec_batch.specs.References.{has_both_forms, resolution}
 use Rattle.result_refs.proofs.PartedLemmas.{passed_on, reports_bad, resolved_by_parts}
 use Rattle.result_refs.specs.Reports.{Reports}
 use Rattle.result_refs.proofs.arguments.resolve.Goals as goal

@@ -1,7 +1,7 @@
 use Rattle.std.proofs.Common.{◌≡◌, true, map, arith, sym, subst}
 use Rattle.std.proofs.lemmas.Grind.{common_steps}
-use Rattle.model_json.specs.ObjectKeys.{keys_rise}
-use Rattle.model_json.specs.TreeData.{pair_of}
+use Rattle.spec_json.specs.ObjectKeys.{keys_rise}
+use Rattle.spec_json.specs.TreeData.{pair_of}
 use Rattle.result_refs.proofs.PartedLemmas.{names_rise, plain_rises}
 use Rattle.result_refs.specs.Parted.{plain_in, references_in}
 use Rattle.result_refs.proofs.arguments.take_apart.Goals as goal

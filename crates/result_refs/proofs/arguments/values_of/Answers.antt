@@ -1,7 +1,7 @@
 use Rattle.std.proofs.Common.{◌≡◌, Some, map, arith}
 use Rattle.std.proofs.lemmas.Grind.{common_steps}
-use Rattle.model_json.specs.Parts.{all_some}
-use Rattle.model_json.specs.TreeData.{pair_of}
+use Rattle.spec_json.specs.Parts.{all_some}
+use Rattle.spec_json.specs.TreeData.{pair_of}
 use Rattle.result_refs.proofs.PartedLemmas.{values_rise}
 use Rattle.result_refs.specs.Parted.{with_value}
 use Rattle.result_refs.proofs.arguments.values_of.Goals as goal

@@ -1,7 +1,7 @@
 use Rattle.std.proofs.Common.{◌≡◌, ◌++◌, map, option_map}
 use Rattle.std.specs.Vec.Iter.{into_iter_items}
-use Rattle.model_json.specs.Parts.{all_some}
-use Rattle.model_json.specs.TreeData.{pair_of}
+use Rattle.spec_json.specs.Parts.{all_some}
+use Rattle.spec_json.specs.TreeData.{pair_of}
 use Rattle.result_refs.specs.Parted.{with_value}
 use Rattle.result_refs.proofs.arguments.values_of.Given as goal
 

@@ -1,5 +1,5 @@
 use Rattle.std.proofs.Common.{◌≡◌, drop, map}
-use Rattle.model_json.specs.TreeData.{pair_of}
+use Rattle.spec_json.specs.TreeData.{pair_of}
 use Rattle.result_refs.proofs.FormLemmas.{walk}
 use Rattle.result_refs.proofs.forms.has_both_forms.Given as goal
 

@@ -1,7 +1,7 @@
 use Rattle.std.proofs.Common.{◌≡◌, ◌+◌, ◌-◌, ◌*◌, ◌++◌, length, drop, map, option_map, flat_map}
-use Rattle.model_json.specs.Parts.{all_some}
-use Rattle.model_batch.specs.References.{items_or_self, value_by}
-use Rattle.model_json.specs.TreeData.{data_of}
+use Rattle.spec_json.specs.Parts.{all_some}
+use Rattle.spec_batch.specs.References.{items_or_self, value_by}
+use Rattle.spec_json.specs.TreeData.{data_of}
 use Rattle.result_refs.proofs.path.+value.Given as goal
 
 abbrev pub decreases-value_by : goal.decreases-value_by

@@ -1,6 +1,6 @@
 use Rattle.std.proofs.Common.{arith}
 use Rattle.std.proofs.lemmas.Grind.{common_steps}
-use Rattle.model_json.specs.Data.{items_back}
+use Rattle.spec_json.specs.Data.{items_back}
 use Rattle.result_refs.proofs.path.put_in.Goals as goal
 
 pub returns-in_ok-append-in-List : goal.returns-in_ok-append-in-List

@@ -1,6 +1,6 @@
 -- Why the parts tell whether the day matches.
 use Rattle.std.proofs.Common.{◌∙◌, sym}
-use Rattle.model_series.specs.RuleSets.{month_matches}
+use Rattle.spec_series.specs.RuleSets.{month_matches}
 use Rattle.rule_expand.proofs.MatchingDays.{by_weekday, no_month, no_month_day}
 use Rattle.rule_expand.proofs.matching.matches.Goals as goal
 

@@ -1,9 +1,9 @@
 -- Why what is read is within the limits.
 use Rattle.std.proofs.Common.{◌∙◌, sym, codes}
-use Rattle.model_json.specs.TreeData.{data_of}
+use Rattle.spec_json.specs.TreeData.{data_of}
 use Rattle.std.proofs.lemmas.Bool.{and_from}
-use Rattle.model_series.specs.RuleLimits.{is_month, is_nday, is_place_to}
-use Rattle.model_series.specs.RuleObjects.{month_in, nday_in, place_in, present_at}
+use Rattle.spec_series.specs.RuleLimits.{is_month, is_nday, is_place_to}
+use Rattle.spec_series.specs.RuleObjects.{month_in, nday_in, place_in, present_at}
 use Rattle.rule_read.proofs.ListLemmas.{each_pass, month_pass, nday_pass, place_pass}
 use Rattle.rule_read.proofs.read.with_lists.Goals as goal
 

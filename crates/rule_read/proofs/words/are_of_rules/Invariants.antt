@@ -2,8 +2,8 @@
 use Rattle.std.proofs.Common.{◌≡◌, ◌||◌, drop, map}
 use Rattle.std.specs.List.{list_all, list_any}
 use Rattle.std.specs.Str.{bytes_eq}
-use Rattle.model_json.specs.TreeData.{pair_of}
-use Rattle.model_series.specs.RuleObjects.{is_absent, rule_names}
+use Rattle.spec_json.specs.TreeData.{pair_of}
+use Rattle.spec_series.specs.RuleObjects.{is_absent, rule_names}
 use Rattle.rule_read.proofs.words.are_of_rules.Given as goal
 
 abbrev pub invariant-loop-member : goal.invariant-loop-member

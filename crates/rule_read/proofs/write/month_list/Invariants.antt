@@ -1,7 +1,7 @@
 -- The loop of `month_list`: the trees so far are those of the items so far.
 use Rattle.std.proofs.Common.{◌≡◌, map, take}
-use Rattle.model_series.specs.RuleObjects.{month_data}
-use Rattle.model_json.specs.TreeData.{data_of}
+use Rattle.spec_series.specs.RuleObjects.{month_data}
+use Rattle.spec_json.specs.TreeData.{data_of}
 use Rattle.rule_read.proofs.write.month_list.Given as goal
 
 abbrev pub invariant-loop-month : goal.invariant-loop-month

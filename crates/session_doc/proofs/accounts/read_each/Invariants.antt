@@ -1,6 +1,6 @@
 use Rattle.std.proofs.Common.{◌≡◌, [], drop, length, map}
-use Rattle.model_site.specs.Configuration.{account_in, read_behind}
-use Rattle.model_json.specs.TreeData.{data_of}
+use Rattle.spec_site.specs.Configuration.{account_in, read_behind}
+use Rattle.spec_json.specs.TreeData.{data_of}
 use Rattle.session_doc.proofs.accounts.read_each.Given as goal
 
 abbrev pub invariant-loop-item : goal.invariant-loop-item

@@ -1,6 +1,6 @@
 use Rattle.std.proofs.Common.{◌≡◌, ◌∙◌, Ok, ap, sym}
-use Rattle.model_site.specs.Configuration.{users_in}
-use Rattle.model_json.specs.TreeData.{data_of}
+use Rattle.spec_site.specs.Configuration.{users_in}
+use Rattle.spec_json.specs.TreeData.{data_of}
 use Rattle.session_doc.proofs.Granted.{accounts_few, users_few, users_have, users_some}
 use Rattle.session_doc.proofs.configuration.read_fields.Goals as goal
 

@@ -1,6 +1,6 @@
 use Rattle.std.proofs.Common.{◌≡◌, drop, map}
-use Rattle.model_site.specs.Configuration.{restrict_all}
-use Rattle.model_json.specs.TreeData.{data_of}
+use Rattle.spec_site.specs.Configuration.{restrict_all}
+use Rattle.spec_json.specs.TreeData.{data_of}
 use Rattle.session_doc.proofs.grants.restrict_all.Given as goal
 
 abbrev pub invariant-loop-id : goal.invariant-loop-id

@@ -1,6 +1,6 @@
 use Rattle.std.proofs.Common.{◌≡◌, [], drop}
-use Rattle.model_json.specs.Edit.{put_all}
-use Rattle.model_site.specs.SessionObject.{account_members}
+use Rattle.spec_json.specs.Edit.{put_all}
+use Rattle.spec_site.specs.SessionObject.{account_members}
 use Rattle.session_doc.proofs.SessionMembers.{members_from}
 use Rattle.session_doc.proofs.session_accounts.accounts_object.Given as goal
 

@@ -1,5 +1,5 @@
 use Rattle.std.proofs.Common.{◌≡◌, ◌++◌, drop, map}
-use Rattle.model_json.specs.TreeData.{data_of}
+use Rattle.spec_json.specs.TreeData.{data_of}
 use Rattle.session_doc.specs.LeadingZones.{leading_zones}
 use Rattle.session_doc.proofs.zones.leading_zones.Given as goal
 

@@ -1,7 +1,7 @@
 use Rattle.std.proofs.Common.{◌≡◌, ◌<◌, ◌≤◌, [], None, Some, Err, Ok, length, map, sym, ap, refl, ◌∙◌, arith}
 use Rattle.std.proofs.lemmas.List.{length-map}
-use Rattle.model_site.specs.TimeZones.{first_bad_zone}
-use Rattle.model_json.specs.TreeData.{data_of}
+use Rattle.spec_site.specs.TimeZones.{first_bad_zone}
+use Rattle.spec_json.specs.TreeData.{data_of}
 use Rattle.session_doc.specs.LeadingZones.{leading_zones}
 use Rattle.session_doc.proofs.ZonesRead.{bad_zone, leading_fewer, none_left, some_left}
 use Rattle.session_doc.proofs.zones.read_each.Goals as goal

@@ -1,7 +1,7 @@
 use Rattle.std.proofs.Common.{◌≡◌, ◌∙◌, ap, map}
-use Rattle.model_json.specs.Data.{text}
-use Rattle.model_json.specs.TreeData.{data_of, keyed}
-use Rattle.model_json.specs.declared.tree.Tree.TheVariants.{Object}
+use Rattle.spec_json.specs.Data.{text}
+use Rattle.spec_json.specs.TreeData.{data_of, keyed}
+use Rattle.spec_json.specs.declared.tree.Tree.TheVariants.{Object}
 use Rattle.set_methods.proofs.TellingLemmas.{members_told, told_is}
 use Rattle.set_methods.proofs.arguments.arguments.Goals as goal
 

@@ -2,8 +2,8 @@ use Rattle.std.proofs.Common.{◌≡◌, ◌++◌, ◌∙◌, [], arith, map, re
 use Rattle.std.proofs.lemmas.Grind.{common_steps}
 use Rattle.cal_model.specs.Operations.{destroy, outcomes}
 use Rattle.cal_model.specs.Sets.{ids_named, updates_after}
-use Rattle.model_history.specs.History.{state_at}
-use Rattle.model_json.specs.TreeData.{pair_of}
+use Rattle.spec_history.specs.History.{state_at}
+use Rattle.spec_json.specs.TreeData.{pair_of}
 use Rattle.object_outcomes.specs.Judging.{ground_in, operation_in}
 use Rattle.set_methods.specs.Requests.{objects_in}
 use Rattle.set_methods.proofs.PlanLemmas.{as_many, length-updates_after, set_is}

@@ -1,6 +1,6 @@
 use Rattle.std.proofs.Common.{◌≡◌, ◌++◌, codes, drop, filter, map}
 use Rattle.std.specs.Str.{bytes_eq}
-use Rattle.model_json.specs.TreeData.{pair_of}
+use Rattle.spec_json.specs.TreeData.{pair_of}
 use Rattle.set_methods.proofs.changed.moments_updated.Given as goal
 
 abbrev pub invariant-loop-member : goal.invariant-loop-member

@@ -1,7 +1,7 @@
 use Rattle.std.proofs.Common.{◌≡◌, ◌++◌, drop, map}
 use Rattle.cal_model.specs.SetReply.{members_beyond}
-use Rattle.model_json.specs.Parts.{members_in}
-use Rattle.model_json.specs.TreeData.{data_of, pair_of}
+use Rattle.spec_json.specs.Parts.{members_in}
+use Rattle.spec_json.specs.TreeData.{data_of, pair_of}
 use Rattle.set_methods.proofs.created.members_beyond.Given as goal
 
 abbrev pub invariant-loop-member : goal.invariant-loop-member

@@ -1,6 +1,6 @@
 use Rattle.std.proofs.Common.{◌≡◌, ◌++◌, [], drop, map}
 use Rattle.cal_model.specs.Sets.{updates_after}
-use Rattle.model_json.specs.TreeData.{pair_of}
+use Rattle.spec_json.specs.TreeData.{pair_of}
 use Rattle.object_outcomes.specs.Judging.{operation_in}
 use Rattle.set_methods.proofs.operations.update_operations.Given as goal
 

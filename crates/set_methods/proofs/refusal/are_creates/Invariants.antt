@@ -1,8 +1,8 @@
 use Rattle.std.proofs.Common.{◌≡◌, ◌&&◌, drop, map}
 use Rattle.std.specs.List.{list_all}
-use Rattle.model_core.specs.Id.{is_id}
-use Rattle.model_json.specs.Patch.{is_object}
-use Rattle.model_json.specs.TreeData.{pair_of}
+use Rattle.spec_core.specs.Id.{is_id}
+use Rattle.spec_json.specs.Patch.{is_object}
+use Rattle.spec_json.specs.TreeData.{pair_of}
 use Rattle.set_methods.proofs.refusal.are_creates.Given as goal
 
 abbrev pub invariant-loop-create : goal.invariant-loop-create

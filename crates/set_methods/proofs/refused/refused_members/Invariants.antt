@@ -1,7 +1,7 @@
 use Rattle.std.proofs.Common.{◌≡◌, ◌++◌, drop, map}
 use Rattle.cal_model.specs.SetReply.{refused_member}
 use Rattle.cal_model.specs.Sets.{of_each}
-use Rattle.model_json.specs.TreeData.{pair_of}
+use Rattle.spec_json.specs.TreeData.{pair_of}
 use Rattle.set_methods.proofs.refused.refused_members.Given as goal
 
 abbrev pub invariant-loop-i : goal.invariant-loop-i

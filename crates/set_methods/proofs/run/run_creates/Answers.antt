@@ -3,8 +3,8 @@ use Rattle.std.proofs.lemmas.List.{at_drop_more}
 use Rattle.std.proofs.lemmas.List.Concat.{flat_map-append}
 use Rattle.cal_model.specs.Operations.{changes_in, create_outcome, created_id, outcomes_of_creates}
 use Rattle.cal_model.specs.Sets.{of_each}
-use Rattle.model_json.specs.TreeData.{data_of, pair_of}
-use Rattle.model_json.specs.declared.tree.Member.{Member}
+use Rattle.spec_json.specs.TreeData.{data_of, pair_of}
+use Rattle.spec_json.specs.declared.tree.Member.{Member}
 use Rattle.object_outcomes.specs.Judging.{ground_in}
 use Rattle.set_methods.proofs.PlanLemmas.{next_create}
 use Rattle.set_methods.proofs.run.run_creates.Goals as goal

@@ -1,7 +1,7 @@
 use Rattle.std.proofs.Common.{◌≡◌, ◌++◌, drop, flat_map, map, vec_len}
 use Rattle.cal_model.specs.Operations.{changes_in, created_id, outcomes_of_creates}
 use Rattle.cal_model.specs.Sets.{of_each}
-use Rattle.model_json.specs.TreeData.{pair_of}
+use Rattle.spec_json.specs.TreeData.{pair_of}
 use Rattle.object_outcomes.specs.Judging.{ground_in}
 use Rattle.set_methods.proofs.run.run_creates.Given as goal
 

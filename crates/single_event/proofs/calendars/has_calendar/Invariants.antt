@@ -1,7 +1,7 @@
 use Rattle.std.proofs.Common.{◌≡◌, ◌==◌, drop, map}
 use Rattle.std.specs.List.{list_any}
-use Rattle.model_event.specs.Events.{calendars_among}
-use Rattle.model_json.specs.TreeData.{pair_of}
+use Rattle.spec_events.specs.Events.{calendars_among}
+use Rattle.spec_json.specs.TreeData.{pair_of}
 use Rattle.single_event.proofs.calendars.has_calendar.Given as goal
 
 abbrev pub invariant-loop-member : goal.invariant-loop-member

@@ -1,6 +1,6 @@
 use Rattle.std.proofs.Common.{◌≡◌, ◌*◌, ◌+◌, drop, map, nat_le}
-use Rattle.model_json.specs.Data.{items_depth, items_of, members_depth, members_of}
-use Rattle.model_json.specs.TreeData.{data_of, pair_of}
+use Rattle.spec_json.specs.Data.{items_depth, items_of, members_depth, members_of}
+use Rattle.spec_json.specs.TreeData.{data_of, pair_of}
 use Rattle.single_event.proofs.depth.+nests.Given as goal
 
 abbrev pub decreases-nests_within : goal.decreases-nests_within

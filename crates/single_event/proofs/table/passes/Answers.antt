@@ -1,6 +1,6 @@
 use Rattle.std.proofs.Common.{⊎_elim}
 use Rattle.property_table.proofs.TableLemmas.{unlike}
-use Rattle.model_event.specs.Events.{event_table}
+use Rattle.spec_events.specs.Events.{event_table}
 use Rattle.single_event.proofs.table.passes.Goals as goal
 
 pub returns-in-timeZone : goal.returns-in-timeZone

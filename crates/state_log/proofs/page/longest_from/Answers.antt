@@ -1,7 +1,7 @@
 use Rattle.std.proofs.Common.{◌≡◌, ◌≤◌, ◌<◌, ◌+◌, ◌-◌, arith, Some, true, false, length, refl, sym, le-leb}
 use Rattle.std.proofs.lemmas.Bool.{lt-leb}
 use Rattle.std.proofs.lemmas.Grind.{common_steps}
-use Rattle.model_history.specs.Pages.{is_within, size_of_page}
+use Rattle.spec_history.specs.Pages.{is_within, size_of_page}
 use Rattle.state_log.proofs.EndLemmas.{greatest_grows, greatest-ge, greatest-le}
 use Rattle.state_log.proofs.GrowthLemmas.{size_grows}
 use Rattle.state_log.proofs.SizeLemmas.{one_if-le, size_of_page_none}

@@ -1,5 +1,5 @@
 use Rattle.std.proofs.Common.{◌≡◌, ◌≤◌, ◌+◌, ◌-◌, Some}
-use Rattle.model_history.specs.Pages.{greatest, is_within, size_of_page}
+use Rattle.spec_history.specs.Pages.{greatest, is_within, size_of_page}
 use Rattle.state_log.specs.Standing.{AreStandings}
 use Rattle.state_log.specs.ChangeIndex.{mentioned}
 use Rattle.state_log.proofs.page.longest_from.Given as goal

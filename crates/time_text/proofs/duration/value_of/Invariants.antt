@@ -1,5 +1,5 @@
 use Rattle.std.proofs.Common.{◌≡◌, ◌<◌, ◌^◌, take}
-use Rattle.model_json.specs.Number.{value_of_digits}
+use Rattle.spec_json.specs.Number.{value_of_digits}
 use Rattle.time_text.proofs.duration.value_of.Given as goal
 
 abbrev pub invariant-loop-digit : goal.invariant-loop-digit

@@ -1,5 +1,5 @@
 use Rattle.std.proofs.Common.{◌≡◌, drop}
-use Rattle.model_time.specs.Forms.{fits_marks}
+use Rattle.spec_time.specs.Forms.{fits_marks}
 use Rattle.time_text.proofs.fields.fits_marks.Given as goal
 
 abbrev pub invariant-loop-i : goal.invariant-loop-i

@@ -1,8 +1,8 @@
 -- Why what is read lies in the years that four digits write.
 use Rattle.std.proofs.Common.{◌≡◌, ◌==◌, codes, length, sym, ◌∙◌, true}
 use Rattle.std.proofs.lemmas.Bool.{and_parts}
-use Rattle.model_time.specs.Forms.{fits_form, fits_marks}
-use Rattle.model_time.specs.LocalTimes.{spaced_wall}
+use Rattle.spec_time.specs.Forms.{fits_form, fits_marks}
+use Rattle.spec_time.specs.LocalTimes.{spaced_wall}
 use Rattle.time_text.proofs.DateLemmas.{spaced_in_years}
 use Rattle.time_text.proofs.local.read_utc.Goals as goal
 

@@ -1,7 +1,7 @@
 -- Why the day of a wall second in the years 0 to 9999 lies in these years.
 use Rattle.std.proofs.Common.{◌≡◌, refl, rules, FitsSigned, w64}
 use Rattle.std.proofs.lemmas.Int.{to_z-of_z}
-use Rattle.model_time.specs.Walls.{day_of_wall}
+use Rattle.spec_time.specs.Walls.{day_of_wall}
 use Rattle.time_text.proofs.DateLemmas.{day_size, four_digit_year}
 use Rattle.time_text.proofs.text.day_of_wall.Goals as goal
 

@@ -1,5 +1,5 @@
 use Rattle.std.proofs.Common.{◌∙◌, refl, arith}
-use Rattle.model_series.specs.SeriesLimits.{are_distinct}
+use Rattle.spec_series.specs.SeriesLimits.{are_distinct}
 use Rattle.window_rows.proofs.events.no_exceptions.Goals as goal
 
 pub invariant_of-result : goal.invariant_of-result

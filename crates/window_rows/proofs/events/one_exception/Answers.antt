@@ -1,5 +1,5 @@
 use Rattle.std.proofs.Common.{◌∙◌, arith}
-use Rattle.model_series.specs.declared.exception.Exception.{Exception}
+use Rattle.spec_series.specs.declared.exception.Exception.{Exception}
 use Rattle.window_rows.proofs.OneException.{one_in_years, one_short, one_distinct}
 use Rattle.window_rows.proofs.events.one_exception.Goals as goal
 

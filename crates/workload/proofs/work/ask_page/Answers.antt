@@ -1,6 +1,6 @@
 use Rattle.std.proofs.Common.{◌≡◌, ◌≤◌, pos, ap, sym, subst, ◌∙◌}
-use Rattle.model_call.specs.declared.call.Call.{Call}
-use Rattle.model_call.specs.declared.call.Reply.{Reply}
+use Rattle.spec_calls.specs.declared.call.Call.{Call}
+use Rattle.spec_calls.specs.declared.call.Reply.{Reply}
 use Rattle.workload.proofs.work.ask_page.Goals as goal
 use Rattle.workload.specs.Counts.{count_of_ids}
 use Rattle.workload.specs.Generated.{page_call}

@@ -1,7 +1,7 @@
 use Rattle.std.proofs.Common.{FitsSigned, w64, rules, ◌∙◌, ap}
 use Rattle.std.proofs.lemmas.Int.{to_z-of_z}
 use Rattle.jiff_tz.specs.PosixText.{tz_view}
-use Rattle.model_window.specs.Clocks.{instant_in}
+use Rattle.spec_windows.specs.Clocks.{instant_in}
 use Rattle.zone_instants.proofs.Bounds.{near_some}
 use Rattle.zone_instants.proofs.instants.instant.Goals as goal
 

@@ -1,7 +1,7 @@
 use Rattle.std.specs.Prelude.{◌≡◌, drop, take, false}
 use Rattle.std.specs.List.{list_any}
 use Rattle.std.specs.Str.{bytes_eq}
-use Rattle.model_window.specs.ZoneRules.{listed_rule}
+use Rattle.spec_windows.specs.ZoneRules.{listed_rule}
 use Rattle.zone_instants.proofs.rules.listed_rule.Given as goal
 
 abbrev pub invariant-loop-zone : goal.invariant-loop-zone

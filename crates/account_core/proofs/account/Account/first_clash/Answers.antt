@@ -1,13 +1,13 @@
 use Rattle.std.proofs.Common.{◌++◌, List, ap, append-nil, option_map, subst, ◌∙◌}
 use Rattle.std.specs.Arc.{arc_value}
 use Rattle.account_core.specs.Ledger.{history}
-use Rattle.model_history.specs.Base.{Base}
-use Rattle.model_history.specs.History.{changes_of}
-use Rattle.model_history.specs.declared.entry.Entry.{Entry}
-use Rattle.model_resource.specs.Bookings.{bookings_of}
-use Rattle.model_room.specs.Bookings.{without_booking}
-use Rattle.model_room.specs.Clashes.{IsClash, second_of}
-use Rattle.model_room.specs.declared.booking.Booking.{Booking}
+use Rattle.spec_history.specs.Base.{Base}
+use Rattle.spec_history.specs.History.{changes_of}
+use Rattle.spec_history.specs.declared.entry.Entry.{Entry}
+use Rattle.spec_bookings.specs.BookedResources.{bookings_of}
+use Rattle.spec_bookings.specs.Bookings.{without_booking}
+use Rattle.spec_bookings.specs.Clashes.{IsClash, second_of}
+use Rattle.spec_bookings.specs.declared.booking.Booking.{Booking}
 use Rattle.rule_expand.specs.Least.{IsLeastOf}
 use Rattle.account_core.proofs.account.Account.first_clash.Goals as goal
 

@@ -1,8 +1,8 @@
 use Rattle.std.proofs.Common.{List, subst}
 use Rattle.account_rooms.specs.Covered.{AreCoveredOnce}
-use Rattle.model_history.specs.Base.{Base}
-use Rattle.model_history.specs.History.{changes_of}
-use Rattle.model_history.specs.declared.entry.Entry.{Entry}
+use Rattle.spec_history.specs.Base.{Base}
+use Rattle.spec_history.specs.History.{changes_of}
+use Rattle.spec_history.specs.declared.entry.Entry.{Entry}
 use Rattle.account_core.proofs.account.Account.is_never_booked_twice.Goals as goal
 
 pub returns-clause-occurrences : goal.returns-clause-occurrences

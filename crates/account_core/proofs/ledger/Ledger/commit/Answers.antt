@@ -8,7 +8,7 @@ use Rattle.account_rooms.specs.Rooms.{AreRooms}
 use Rattle.account_rooms.specs.RoomsView.{RoomsView}
 use Rattle.account_store.specs.Store.{entries}
 use Rattle.cal_model.specs.Answer.{entries_from}
-use Rattle.model_history.specs.History.{changes_of}
+use Rattle.spec_history.specs.History.{changes_of}
 use Rattle.account_core.proofs.ledger.Ledger.commit.Goals as goal
 
 pub invariant_of-self : goal.invariant_of-self

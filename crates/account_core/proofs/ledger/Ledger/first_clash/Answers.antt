@@ -1,8 +1,8 @@
 use Rattle.std.proofs.Common.{IfNone, List, ap, option_map, subst, ◌∙◌}
 use Rattle.account_core.proofs.Rooms.{room_is_found, room_is_there}
-use Rattle.model_room.specs.Bookings.{without_booking}
-use Rattle.model_room.specs.Clashes.{IsClash, IsClear, first_clash, second_of}
-use Rattle.model_room.specs.declared.booking.Booking.{Booking}
+use Rattle.spec_bookings.specs.Bookings.{without_booking}
+use Rattle.spec_bookings.specs.Clashes.{IsClash, IsClear, first_clash, second_of}
+use Rattle.spec_bookings.specs.declared.booking.Booking.{Booking}
 use Rattle.rule_expand.specs.Least.{IsLeastOf}
 use Rattle.account_core.proofs.ledger.Ledger.first_clash.Goals as goal
 

@@ -1,7 +1,7 @@
 use Rattle.std.specs.Arc.{arc_value}
 use Rattle.account_core.specs.Ledger.{history}
 use Rattle.account_rooms.proofs.Covered.{not_covered_twice}
-use Rattle.model_resource.specs.Bookings.{bookings_of}
+use Rattle.spec_bookings.specs.BookedResources.{bookings_of}
 use Rattle.account_core.proofs.ledger.Ledger.is_never_booked_twice.Goals as goal
 
 pub returns-clause-occurrences : goal.returns-clause-occurrences

@@ -1,6 +1,6 @@
 use Rattle.std.proofs.Common.{ap, length, ◌∙◌}
 use Rattle.account_core.proofs.Rooms.{room_is_found, room_is_there}
-use Rattle.model_room.specs.Bookings.{without_booking}
+use Rattle.spec_bookings.specs.Bookings.{without_booking}
 use Rattle.account_core.proofs.ledger.LedgerAccountView.bookings.Goals as goal
 
 pub bookings-requires : goal.bookings-requires

@@ -1,6 +1,6 @@
 use Rattle.std.proofs.Common.{◌≡◌, ◌++◌, drop, option_map}
 use Rattle.account_store.specs.Store.{entries}
-use Rattle.model_history.specs.History.{changes_of, live_object, object_from}
+use Rattle.spec_history.specs.History.{changes_of, live_object, object_from}
 use Rattle.account_core.proofs.ledger.LedgerAccountView.live.Given as goal
 
 abbrev pub invariant-loop-change : goal.invariant-loop-change

@@ -10,7 +10,7 @@ use Rattle.account_rooms.proofs.Following.{rooms_may}
 use Rattle.account_rooms.specs.RoomChanges.{MayChange, rooms_after}
 use Rattle.account_rooms.specs.Rooms.{AreRooms}
 use Rattle.event_store.specs.SeriesPut.{series_put}
-use Rattle.model_history.specs.declared.entry.Kind.TheVariants.{Calendar}
+use Rattle.spec_history.specs.declared.entry.Kind.TheVariants.{Calendar}
 use Rattle.account_core.proofs.ledger.LedgerAccountView.stage.Goals as goal
 
 pub follow-requires : goal.follow-requires

@@ -1,6 +1,6 @@
 use Rattle.std.proofs.Common.{◌≡◌, ◌+◌, take}
 use Rattle.account_store.specs.Store.{entries}
-use Rattle.model_history.specs.History.{changes_of, state_at}
+use Rattle.spec_history.specs.History.{changes_of, state_at}
 use Rattle.account_core.proofs.ledger.LedgerAccountView.state.Given as goal
 
 abbrev pub invariant-loop-change : goal.invariant-loop-change

@@ -1,6 +1,6 @@
 use Rattle.std.proofs.Common.{◌≡◌, ◌≤◌, ap, ◌∙◌, arith, length, max, rules, take}
 use denote.Param.Send.{sendable}
-use Rattle.model_history.specs.MostTurns.{most_turns}
+use Rattle.spec_history.specs.MostTurns.{most_turns}
 use Rattle.account_desk.specs.SharedDesk.{greatest_turn}
 use Rattle.account_desk.proofs.Crossing.{gated_sent}
 use Rattle.account_desk.proofs.SharedLemmas.{just_shared, turns_so_far}

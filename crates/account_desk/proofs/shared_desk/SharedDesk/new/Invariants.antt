@@ -1,5 +1,5 @@
 use Rattle.std.proofs.Common.{◌≡◌, ◌≤◌, take}
-use Rattle.model_history.specs.MostTurns.{most_turns}
+use Rattle.spec_history.specs.MostTurns.{most_turns}
 use Rattle.account_desk.specs.SharedDesk.{greatest_turn}
 use Rattle.account_desk.proofs.shared_desk.SharedDesk.new.Given as goal
 

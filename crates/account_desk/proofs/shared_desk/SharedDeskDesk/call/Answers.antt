@@ -2,10 +2,10 @@ use Rattle.std.proofs.Common.{◌≡◌, ◌<◌, ◌≤◌, ◌+◌, ℕ, List,
 use Rattle.std.proofs.lemmas.Option.{slice_get_read}
 use denote.Param.Send.{sendable}
 use Rattle.account_lock.specs.Passes.{PassState}
-use Rattle.model_batch.specs.Chain.{Called}
-use Rattle.model_call.specs.declared.call.Reply.{Reply}
-use Rattle.model_batch.specs.declared.desk.DeskError.{DeskError}
-use Rattle.model_history.specs.MostTurns.{most_turns}
+use Rattle.spec_batch.specs.Chain.{Called}
+use Rattle.spec_calls.specs.declared.call.Reply.{Reply}
+use Rattle.spec_batch.specs.declared.desk.DeskError.{DeskError}
+use Rattle.spec_history.specs.MostTurns.{most_turns}
 use Rattle.account_desk.specs.SharedDesk.{shown_by_passes, through_pass}
 use Rattle.account_desk.proofs.Crossing.{gated_sent}
 use Rattle.account_desk.proofs.SharedLemmas.{shared_called, still_shared, of_all}

@@ -1,11 +1,11 @@
 use Rattle.std.proofs.Common.{◌<◌, ◌+◌, ℕ, List, [], Result, arith, rules, subst, sym, length, set}
 use Rattle.std.proofs.lemmas.List.{get_or_read}
-use Rattle.model_history.specs.Base.{Base, no_base}
-use Rattle.model_batch.specs.Chain.{Called}
-use Rattle.model_history.specs.MostTurns.{most_turns}
-use Rattle.model_call.specs.declared.call.Reply.{Reply}
-use Rattle.model_batch.specs.declared.desk.DeskError.{DeskError}
-use Rattle.model_history.specs.declared.entry.Entry.{Entry}
+use Rattle.spec_history.specs.Base.{Base, no_base}
+use Rattle.spec_batch.specs.Chain.{Called}
+use Rattle.spec_history.specs.MostTurns.{most_turns}
+use Rattle.spec_calls.specs.declared.call.Reply.{Reply}
+use Rattle.spec_batch.specs.declared.desk.DeskError.{DeskError}
+use Rattle.spec_history.specs.declared.entry.Entry.{Entry}
 use Rattle.account_desk.specs.SoleDesk.{of_desk, shown_of}
 use Rattle.account_desk.proofs.SoleLemmas.{sole_called, still_sole}
 use Rattle.account_desk.proofs.sole_desk.SoleDeskDesk.call.Goals as goal

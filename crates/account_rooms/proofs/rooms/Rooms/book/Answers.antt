@@ -6,8 +6,8 @@ use Rattle.account_rooms.specs.RoomChanges.{MayChange, booked_again}
 use Rattle.account_rooms.specs.RoomsView.{RoomsView}
 use Rattle.account_rooms.specs.Slots.{booked, rooms_kept, rooms_now, is_booked_by}
 use Rattle.event_series.proofs.SeriesLemmas.{series_is_valid}
-use Rattle.model_history.specs.declared.entry.Kind.TheVariants.{Event}
-use Rattle.model_json.specs.TreeData.{data_of}
+use Rattle.spec_history.specs.declared.entry.Kind.TheVariants.{Event}
+use Rattle.spec_json.specs.TreeData.{data_of}
 use Rattle.account_rooms.proofs.rooms.Rooms.book.Goals as goal
 
 pub returns-then-not-is_in_any-clause-ok : goal.returns-then-not-is_in_any-clause-ok

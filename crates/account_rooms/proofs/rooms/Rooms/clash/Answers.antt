@@ -2,9 +2,9 @@ use Rattle.std.proofs.Common.{◌∙◌, List, ap, option_map, subst, sym}
 use Rattle.account_rooms.specs.Rooms.{bookings_in}
 use Rattle.account_rooms.specs.RoomsView.{RoomsView}
 use Rattle.account_rooms.specs.Slots.{rooms_now}
-use Rattle.model_room.specs.Bookings.{without_booking}
-use Rattle.model_room.specs.Clashes.{IsClash, second_of}
-use Rattle.model_room.specs.declared.booking.Booking.{Booking}
+use Rattle.spec_bookings.specs.Bookings.{without_booking}
+use Rattle.spec_bookings.specs.Clashes.{IsClash, second_of}
+use Rattle.spec_bookings.specs.declared.booking.Booking.{Booking}
 use Rattle.rule_expand.specs.Least.{IsLeastOf}
 use Rattle.account_rooms.proofs.rooms.Rooms.clash.Goals as goal
 

@@ -1,5 +1,5 @@
 use Rattle.std.proofs.Common.{◌≡◌, flat_map, map, take}
-use Rattle.model_history.specs.History.{changes_of, live_object, some_object}
+use Rattle.spec_history.specs.History.{changes_of, live_object, some_object}
 use Rattle.account_store.specs.Store.{entries}
 use Rattle.account_store.proofs.store.Store.live.Given as goal
 

@@ -1,7 +1,7 @@
 use Rattle.std.proofs.Common.{◌∙◌, arith, length, refl}
 use Rattle.std.proofs.lemmas.Option.{slice_get_read}
 use Rattle.jiff_tz.specs.PosixText.{tz_view}
-use Rattle.model_window.specs.Clocks.{instant_in}
+use Rattle.spec_windows.specs.Clocks.{instant_in}
 use Rattle.availability.specs.Merging.{limits}
 use Rattle.availability.proofs.Marking.{listed_at, marks_more, marks_all}
 use Rattle.occurrence_windows.proofs.Series.{lengths, rule_instants}

@@ -1,8 +1,8 @@
 use Rattle.std.specs.Prelude.{◌≡◌, ℤ, ◌&&◌, ◌||◌, take}
 use Rattle.std.specs.List.{list_any}
 use Rattle.jiff_tz.specs.PosixText.{tz_view}
-use Rattle.model_window.specs.BusyPeriods.{is_busy, lies_in, occupies}
-use Rattle.model_window.specs.Clocks.{instant_in}
+use Rattle.spec_windows.specs.BusyPeriods.{is_busy, lies_in, occupies}
+use Rattle.spec_windows.specs.Clocks.{instant_in}
 use Rattle.availability.proofs.busy.Busy.add.Given as goal
 
 abbrev pub invariant-loop-o : goal.invariant-loop-o

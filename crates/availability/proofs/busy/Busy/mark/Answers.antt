@@ -1,5 +1,5 @@
 use Rattle.std.proofs.Common.{◌∙◌, sym, ◌||◌, ◌&&◌, pos, ◌-ℤ◌}
-use Rattle.model_window.specs.BusyPeriods.{is_busy, lies_in}
+use Rattle.spec_windows.specs.BusyPeriods.{is_busy, lies_in}
 use Rattle.availability.specs.Merging.{common}
 use Rattle.availability.proofs.Runs.{marks_nothing, marks_runs, marks_busy, runs_either, busy_either}
 use Rattle.availability.proofs.busy.Busy.mark.Goals as goal

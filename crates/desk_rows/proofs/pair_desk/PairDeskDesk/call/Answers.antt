@@ -1,12 +1,12 @@
 use Rattle.std.proofs.Common.{◌≡◌, ◌-◌, ◌<◌, ◌^◌, List, rules, subst, sym, Result}
-use Rattle.model_history.specs.Base.{Base}
-use Rattle.model_history.specs.declared.entry.Entry.{Entry}
+use Rattle.spec_history.specs.Base.{Base}
+use Rattle.spec_history.specs.declared.entry.Entry.{Entry}
 use Rattle.account_desk.specs.SoleDesk.{of_desk}
-use Rattle.model_batch.specs.Chain.{Called}
-use Rattle.model_history.specs.MostTurns.{most_turns}
-use Rattle.model_call.specs.declared.call.Reply.{Reply}
-use Rattle.model_batch.specs.declared.desk.DeskError.{DeskError}
-use Rattle.model_history.specs.declared.stamp.Stamp.{Stamp}
+use Rattle.spec_batch.specs.Chain.{Called}
+use Rattle.spec_history.specs.MostTurns.{most_turns}
+use Rattle.spec_calls.specs.declared.call.Reply.{Reply}
+use Rattle.spec_batch.specs.declared.desk.DeskError.{DeskError}
+use Rattle.spec_history.specs.declared.stamp.Stamp.{Stamp}
 use Rattle.desk_rows.specs.Pair.{pair_shown}
 use Rattle.desk_rows.proofs.PairLemmas.{first_called, second_called, stamp_next}
 use Rattle.desk_rows.proofs.pair_desk.PairDeskDesk.call.Goals as goal

@@ -3,8 +3,8 @@ use Rattle.account_store.specs.Store.{entries}
 use Rattle.event_store.proofs.LiveLemmas.{all_more, objects_more}
 use Rattle.event_store.specs.StoredEvents.{HasItsSeries}
 use Rattle.event_store.specs.declared.events.StoredEvent.{StoredEvent}
-use Rattle.model_history.specs.History.{changes_of, live_object}
-use Rattle.model_history.specs.declared.entry.Kind.TheVariants.{Event}
+use Rattle.spec_history.specs.History.{changes_of, live_object}
+use Rattle.spec_history.specs.declared.entry.Kind.TheVariants.{Event}
 use Rattle.event_store.proofs.events.StoredEvents.live.Goals as goal
 
 pub loop-id-preserved : goal.loop-id-preserved

@@ -1,8 +1,8 @@
 use Rattle.std.proofs.Common.{◌≡◌, All, flat_map, map, take}
 use Rattle.account_store.specs.Store.{entries}
 use Rattle.event_store.specs.StoredEvents.{HasItsSeries}
-use Rattle.model_history.specs.History.{changes_of, live_object, some_object}
-use Rattle.model_history.specs.declared.entry.Kind.TheVariants.{Event}
+use Rattle.spec_history.specs.History.{changes_of, live_object, some_object}
+use Rattle.spec_history.specs.declared.entry.Kind.TheVariants.{Event}
 use Rattle.event_store.proofs.events.StoredEvents.live.Given as goal
 
 abbrev pub invariant-loop-id : goal.invariant-loop-id

@@ -1,6 +1,6 @@
 use Rattle.std.proofs.Common.{Option, option_map}
-use Rattle.model_json.specs.TreeData.{data_of}
-use Rattle.model_series.specs.declared.series.Series.{Series}
+use Rattle.spec_json.specs.TreeData.{data_of}
+use Rattle.spec_series.specs.declared.series.Series.{Series}
 use Rattle.expanded_query.proofs.SightLemmas.{none_given}
 use Rattle.expanded_query.proofs.sight.OccurrenceSight.add.Goals as goal
 

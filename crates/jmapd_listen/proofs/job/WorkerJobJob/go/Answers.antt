@@ -4,9 +4,9 @@ use Rattle.account_desk.proofs.FreshLemmas.{count_bases}
 use Rattle.account_desk.specs.FreshDesk.{bases}
 use Rattle.account_desk.specs.SharedDesk.{greatest_turn, shown_by_passes}
 use Rattle.account_lock.specs.Passes.{PassState}
-use Rattle.conn_worker.specs.Working.{Tools, Works}
-use Rattle.model_site.specs.Configuration.{Site}
-use Rattle.shared_accounts.proofs.PassLemmas.{no_turns, passes_count, passes_locks}
+use Rattle.listen_workers.specs.Working.{Tools, Works}
+use Rattle.spec_site.specs.Configuration.{Site}
+use Rattle.listen_workers.proofs.PassLemmas.{no_turns, passes_count, passes_locks}
 use Rattle.jmapd_listen.proofs.JobLemmas.{whole}
 use Rattle.jmapd_listen.proofs.job.WorkerJobJob.go.Goals as goal
 

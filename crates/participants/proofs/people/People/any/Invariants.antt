@@ -1,5 +1,5 @@
 use Rattle.std.proofs.Common.{◌≡◌, drop, option_map}
-use Rattle.model_event.specs.Participants.{any_meets}
+use Rattle.spec_events.specs.Participants.{any_meets}
 use Rattle.participants.proofs.people.People.any.Given as goal
 
 abbrev pub invariant-loop-participant : goal.invariant-loop-participant

@@ -3,7 +3,7 @@ use Rattle.std.proofs.lemmas.Grind.{common_steps}
 use Rattle.std.proofs.lemmas.Iterator.{YieldsList-from_chars}
 use Rattle.std.proofs.lemmas.Iterator.Consumers.{YieldsList-end}
 use Rattle.std.specs.Str.{chars}
-use Rattle.model_json.specs.Pointer.{parts, parts_from}
+use Rattle.spec_json.specs.Pointer.{parts, parts_from}
 use Rattle.patch_object.specs.Reading.{read_on}
 use Rattle.patch_object.proofs.pointer.Pointer.read.Goals as goal
 

@@ -1,5 +1,5 @@
 use Rattle.std.proofs.Common.{◌≡◌, ℕ, List, [], ◌++◌}
-use Rattle.model_json.specs.Pointer.{parts_from}
+use Rattle.spec_json.specs.Pointer.{parts_from}
 use Rattle.patch_object.specs.Reading.{read_on}
 use Rattle.patch_object.proofs.pointer.Pointer.read.Given as goal
 

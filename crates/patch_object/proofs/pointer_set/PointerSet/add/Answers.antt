@@ -1,6 +1,6 @@
 use Rattle.std.proofs.Common.{◌||◌, ap, ◌∙◌, map}
 use Rattle.std.specs.List.{list_any}
-use Rattle.model_json.specs.Patch.{is_prefix}
+use Rattle.spec_json.specs.Patch.{is_prefix}
 use Rattle.patch_object.specs.Paths.{string_parts}
 use Rattle.patch_object.proofs.PointerLemmas.{any_inserted}
 use Rattle.patch_object.proofs.pointer_set.PointerSet.add.Goals as goal

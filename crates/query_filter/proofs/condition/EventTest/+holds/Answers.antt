@@ -1,7 +1,7 @@
 use Rattle.std.proofs.Common.{◌≡◌, ◌∙◌, [], Bool, ap, map, subst, sym}
 use Rattle.std.specs.Prelude.{IfOk}
-use Rattle.model_filter.specs.Filters.{holds, operator_holds}
-use Rattle.model_json.specs.TreeData.{data_of}
+use Rattle.spec_filters.specs.Filters.{holds, operator_holds}
+use Rattle.spec_json.specs.TreeData.{data_of}
 use Rattle.query_filter.specs.EventTests.{event_meets}
 use Rattle.query_filter.proofs.ConditionLemmas.{holds_condition, holds_listed, holds_unlisted}
 use Rattle.query_filter.proofs.condition.EventTest.+holds.Goals as goal

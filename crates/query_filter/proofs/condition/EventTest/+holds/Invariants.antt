@@ -1,7 +1,7 @@
 use Rattle.std.proofs.Common.{◌≡◌, ◌+◌, ◌*◌, drop, map}
-use Rattle.model_filter.specs.Filters.{all_true, holds, some_true}
-use Rattle.model_json.specs.Data.{depth, items_depth, items_of, members_depth, members_of}
-use Rattle.model_json.specs.TreeData.{data_of}
+use Rattle.spec_filters.specs.Filters.{all_true, holds, some_true}
+use Rattle.spec_json.specs.Data.{depth, items_depth, items_of, members_depth, members_of}
+use Rattle.spec_json.specs.TreeData.{data_of}
 use Rattle.query_filter.specs.EventTests.{event_meets}
 use Rattle.query_filter.proofs.condition.EventTest.+holds.Given as goal
 

@@ -1,7 +1,7 @@
 use Rattle.std.proofs.Common.{◌≡◌, ◌∙◌, Bool, option_map, subst, sym}
 use Rattle.std.specs.Prelude.{IfOk}
 use Rattle.jiff_tz.specs.PosixText.{tz_view}
-use Rattle.model_json.specs.TreeData.{data_of}
+use Rattle.spec_json.specs.TreeData.{data_of}
 use Rattle.query_filter.proofs.KeptLemmas.{times_alone, times_met, times_missed}
 use Rattle.query_filter.proofs.condition.EventTest.holds_by.Goals as goal
 

@@ -1,6 +1,6 @@
 use Rattle.std.proofs.Common.{◌∙◌, option_map, sym}
 use Rattle.jiff_tz.specs.PosixText.{tz_view}
-use Rattle.model_json.specs.TreeData.{data_of}
+use Rattle.spec_json.specs.TreeData.{data_of}
 use Rattle.query_filter.proofs.KeptLemmas.{unmet_ids, unmet_times}
 use Rattle.query_filter.proofs.condition.EventTest.meets.Goals as goal
 

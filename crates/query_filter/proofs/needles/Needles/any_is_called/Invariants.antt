@@ -1,8 +1,8 @@
 use Rattle.std.proofs.Common.{◌≡◌, drop, map}
 use Rattle.std.specs.List.{list_any}
-use Rattle.model_event.specs.Participants.{participant_in}
-use Rattle.model_filter.specs.Matches.{is_called}
-use Rattle.model_json.specs.TreeData.{pair_of}
+use Rattle.spec_events.specs.Participants.{participant_in}
+use Rattle.spec_filters.specs.Matches.{is_called}
+use Rattle.spec_json.specs.TreeData.{pair_of}
 use Rattle.query_filter.proofs.needles.Needles.any_is_called.Given as goal
 
 abbrev pub invariant-loop-participant : goal.invariant-loop-participant

@@ -1,7 +1,7 @@
 use Rattle.std.proofs.Common.{◌≡◌, drop, map, option_map}
 use Rattle.folded_text.specs.Contains.{contains}
-use Rattle.model_event.specs.Participants.{any_meets, participant_in}
-use Rattle.model_json.specs.TreeData.{pair_of}
+use Rattle.spec_events.specs.Participants.{any_meets, participant_in}
+use Rattle.spec_json.specs.TreeData.{pair_of}
 use Rattle.query_filter.proofs.needles.Needles.any_meets.Given as goal
 
 abbrev pub invariant-loop-participant : goal.invariant-loop-participant

@@ -1,8 +1,8 @@
 use Rattle.std.proofs.Common.{◌≡◌, drop, map}
 use Rattle.std.specs.List.{list_any}
 use Rattle.folded_text.specs.Contains.{contains}
-use Rattle.model_event.specs.Participants.{texts_among}
-use Rattle.model_json.specs.TreeData.{pair_of}
+use Rattle.spec_events.specs.Participants.{texts_among}
+use Rattle.spec_json.specs.TreeData.{pair_of}
 use Rattle.query_filter.proofs.needles.Needles.are_among.Given as goal
 
 abbrev pub invariant-loop-member : goal.invariant-loop-member

@@ -1,5 +1,5 @@
 use Rattle.std.proofs.Common.{◌∙◌, map, sym}
-use Rattle.model_json.specs.TreeData.{data_of}
+use Rattle.spec_json.specs.TreeData.{data_of}
 use Rattle.query_filter.specs.SoughtKinds.{sought_of}
 use Rattle.query_filter.proofs.ConditionLemmas.{found_condition, found_listed, found_operator, found_unlisted}
 use Rattle.query_filter.proofs.sought.SoughtKind.+sought.Goals as goal

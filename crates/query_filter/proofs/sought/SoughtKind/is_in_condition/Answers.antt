@@ -1,4 +1,4 @@
-use Rattle.model_filter.specs.Members.{condition_table}
+use Rattle.spec_filters.specs.Members.{condition_table}
 use Rattle.query_filter.proofs.sought.SoughtKind.is_in_condition.Goals as goal
 
 pub returns-in-Unknown : goal.returns-in-Unknown

@@ -1,5 +1,5 @@
 use Rattle.std.proofs.Common.{◌∙◌, None, Option, Some, ap, option_map, sym}
-use Rattle.model_series.specs.declared.series.Series.{Series}
+use Rattle.spec_series.specs.declared.series.Series.{Series}
 use Rattle.query_filter.proofs.RefusalLemmas.{kept_says}
 use Rattle.query_filter.proofs.zoned.ZonedFilter.may_match.Goals as goal
 use Rattle.query_filter.specs.Refusals.{may_match}

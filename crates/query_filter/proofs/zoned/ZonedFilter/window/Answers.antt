@@ -1,6 +1,6 @@
 use Rattle.std.proofs.Common.{◌∙◌, sym}
-use Rattle.model_filter.specs.Matches.{instants_asked}
-use Rattle.model_json.specs.Parts.{members_in}
+use Rattle.spec_filters.specs.Matches.{instants_asked}
+use Rattle.spec_json.specs.Parts.{members_in}
 use Rattle.query_filter.proofs.KeptLemmas.{kept_window}
 use Rattle.query_filter.proofs.zoned.ZonedFilter.window.Goals as goal
 

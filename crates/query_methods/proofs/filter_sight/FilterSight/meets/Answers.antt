@@ -1,6 +1,6 @@
 use Rattle.std.proofs.Common.{Option, option_map}
-use Rattle.model_json.specs.TreeData.{data_of}
-use Rattle.model_series.specs.declared.series.Series.{Series}
+use Rattle.spec_json.specs.TreeData.{data_of}
+use Rattle.spec_series.specs.declared.series.Series.{Series}
 use Rattle.query_methods.proofs.SightLemmas.{not_matched}
 use Rattle.query_methods.proofs.filter_sight.FilterSight.meets.Goals as goal
 

@@ -1,5 +1,5 @@
 use Rattle.std.proofs.Common.{◌≡◌, drop}
-use Rattle.model_query.specs.Comparing.{by_all}
+use Rattle.spec_queries.specs.Comparing.{by_all}
 use Rattle.query_order.proofs.order.Order.compare.Given as goal
 
 abbrev pub invariant-loop-comparator : goal.invariant-loop-comparator

@@ -1,9 +1,9 @@
 -- The bookings that the room holds are those that contracts see.
 use Rattle.std.proofs.Common.{List, option_map, subst, ap, ◌∙◌}
 use Rattle.rule_expand.specs.Least.{IsLeastOf}
-use Rattle.model_room.specs.declared.booking.Booking.{Booking}
-use Rattle.model_room.specs.Bookings.{but}
-use Rattle.model_room.specs.Clashes.{IsClash, second_of}
+use Rattle.spec_bookings.specs.declared.booking.Booking.{Booking}
+use Rattle.spec_bookings.specs.Bookings.{but}
+use Rattle.spec_bookings.specs.Clashes.{IsClash, second_of}
 use Rattle.resource_book.specs.RoomView.{RoomView}
 use Rattle.resource_book.proofs.room.Room.check.Goals as goal
 

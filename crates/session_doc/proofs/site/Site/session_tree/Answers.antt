@@ -1,10 +1,10 @@
 use Rattle.std.proofs.Common.{◌≡◌, ℕ, List, [], ◌++◌, codes, ap, ◌∙◌}
 use Rattle.std.proofs.lemmas.Result.{IfOk-weaker}
-use Rattle.model_json.specs.Data.{text}
-use Rattle.model_json.specs.Edit.{put_all}
-use Rattle.model_site.specs.Configuration.{user_at}
-use Rattle.model_site.specs.SessionObject.{account_members, primary_accounts}
-use Rattle.model_json.specs.TreeData.{data_of}
+use Rattle.spec_json.specs.Data.{text}
+use Rattle.spec_json.specs.Edit.{put_all}
+use Rattle.spec_site.specs.Configuration.{user_at}
+use Rattle.spec_site.specs.SessionObject.{account_members, primary_accounts}
+use Rattle.spec_json.specs.TreeData.{data_of}
 use Rattle.session_doc.proofs.SessionMembers.{members_together}
 use Rattle.session_doc.proofs.site.Site.session_tree.Goals as goal
 

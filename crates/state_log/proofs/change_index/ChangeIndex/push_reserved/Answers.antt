@@ -3,7 +3,7 @@ use Rattle.std.proofs.lemmas.Result.{IfOk-at_ok}
 use Rattle.std.specs.List.{position_or_len}
 use Rattle.std.specs.Map.{keys_of}
 use Rattle.indexmap.specs.IndexMap.{get, keys}
-use Rattle.model_history.specs.Pages.{Mention, ids_of, live_from}
+use Rattle.spec_history.specs.Pages.{Mention, ids_of, live_from}
 use Rattle.state_log.proofs.NoteLemmas.{noted_more, live_more, ordered_more, rank_found, said_more}
 use Rattle.state_log.specs.Notes.{AreLive, AreNotes, said}
 use Rattle.state_log.specs.declared.change_index.Note.{Note}

@@ -1,6 +1,6 @@
 use Rattle.std.proofs.Common.{◌∙◌, ap, sym, subst, nat_eq, unwrap_or, false}
 use Rattle.std.specs.Map.{keys_of, lookup}
-use Rattle.model_history.specs.Pages.{ids_of, live_from}
+use Rattle.spec_history.specs.Pages.{ids_of, live_from}
 use Rattle.state_log.specs.Notes.{AreNotes, said}
 use Rattle.state_log.proofs.change_index.ChangeIndex.reserve.Goals as goal
 

@@ -1,6 +1,6 @@
 use Rattle.std.proofs.Common.{◌≡◌, ap, arith, length}
-use Rattle.model_history.specs.History.{changes_of}
-use Rattle.model_history.specs.Pages.{mentions}
+use Rattle.spec_history.specs.History.{changes_of}
+use Rattle.spec_history.specs.Pages.{mentions}
 use Rattle.state_log.specs.Journal.{logged}
 use Rattle.state_log.specs.ChangeIndex.{mentioned}
 use Rattle.state_log.proofs.LawLemmas.{length-mentions}

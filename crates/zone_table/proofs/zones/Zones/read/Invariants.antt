@@ -1,5 +1,5 @@
 use Rattle.std.proofs.Common.{◌≡◌, ◌++◌, [], drop}
-use Rattle.model_site.specs.TimeZones.{first_bad_zone}
+use Rattle.spec_site.specs.TimeZones.{first_bad_zone}
 use Rattle.zone_table.proofs.zones.Zones.read.Given as goal
 
 abbrev pub invariant-loop-name : goal.invariant-loop-name

@@ -1,7 +1,0 @@
-use Rattle.std.proofs.Common.{◌≡◌, ◌++◌, drop, filter}
-use Rattle.model_event.specs.Events.{names_calendar}
-use Rattle.model_json.specs.TreeData.{data_of}
-use Rattle.booking_rules.proofs.resources.named_among.Given as goal
-
-abbrev pub invariant-loop-number : goal.invariant-loop-number
-invariant-loop-number l = l.named.items ++ filter (λ n. names_calendar n (data_of l.event)) (drop l.number-index l.numbers) ≡ filter (λ n. names_calendar n (data_of l.event)) l.numbers

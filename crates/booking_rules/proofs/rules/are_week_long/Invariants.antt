@@ -1,6 +1,0 @@
-use Rattle.std.proofs.Common.{◌≡◌, drop}
-use Rattle.model_series.specs.Lengths.{are_week_long}
-use Rattle.booking_rules.proofs.rules.are_week_long.Given as goal
-
-abbrev pub invariant-loop-exception : goal.invariant-loop-exception
-invariant-loop-exception l = are_week_long (drop l.exception-index l.exceptions) ≡ are_week_long l.exceptions

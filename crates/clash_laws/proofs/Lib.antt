@@ -1,6 +1,0 @@
--- The lemmas, by subject.
-pub mod Earlier
-pub mod Seconds
-pub mod Others
-pub mod Resources
-pub mod Outcomes

@@ -1,4 +1,0 @@
-//! When a booking is refused as a clash, as laws over the definitions.
-#![tactic(auto)]
-
-pub mod laws;

@@ -1,5 +1,0 @@
-use Rattle.model_batch.proofs.Chains.{summary, turns_counted}
-use Rattle.desk_laws.proofs.laws.chains_stand_in_histories.Goals as goal
-
-pub returns : goal.returns
-returns c = λ s t ms chain. (summary s t ms chain, turns_counted s t ms chain)

@@ -1,3 +1,0 @@
-pub mod Determined
-pub mod Histories
-pub mod InTurn

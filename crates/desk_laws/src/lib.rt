@@ -1,4 +1,0 @@
-//! What follows where all entries on the accounts of a desk are its own.
-#![tactic(auto)]
-
-pub mod laws;

@@ -1,0 +1,6 @@
+pub mod ChainLemmas
+pub mod WorkerLemmas
+pub mod CrewLemmas
+pub mod ListenerLemmas
+pub mod HandLemmas
+pub mod PassLemmas

@@ -1,0 +1,150 @@
+-- A worker's connections, one after the other.
+use Rattle.std.proofs.Common.{◌≡◌, ℕ, ℤ, ◌+◌, ◌*◌, ◌<◌, ◌≤◌, List, [], ◌∷◌, ◌++◌, Bool, Option, Some, None, length, map, option_map, refl, sym, ap, ◌∙◌, subst, arith, append_assoc, append-nil}
+use Rattle.std.proofs.lemmas.List.{length-append, map-append}
+use mathlib.Core.Logic.{inl, inr}
+use Rattle.conn_serve.proofs.Completeness.{How, spent_turns}
+use Rattle.io_edge.specs.Outside.{Rose, SinkShown, SourceShown}
+use Rattle.listen_edge.specs.Listening.{Connection, Connections, ListenerShown, Returned, handing_out, taking_back}
+use Rattle.listen_edge.specs.declared.job.WorkerEnd.{WorkerEnd}
+use Rattle.listen_edge.specs.declared.job.WorkerEnd.TheVariants.{AcceptFault}
+use Rattle.spec_batch.proofs.Chains.{accounts_stay, turns_counted}
+use Rattle.spec_batch.specs.Batch.{NextMeans}
+use Rattle.spec_batch.specs.Chain.{Shown, Stops}
+use Rattle.spec_batch.specs.declared.desk.DeskError.{DeskError}
+use Rattle.spec_calls.specs.declared.call.Call.{Call}
+use Rattle.spec_batch.specs.declared.desk.DeskError.TheVariants as reason
+use Rattle.spec_connection.specs.Exchanges.{Begun, Exchange, all_made, called, uncalled}
+use Rattle.spec_connection.specs.Serving.{Rests, Serves, Setting}
+use Rattle.spec_connection.specs.declared.served.ConnEnd.{ConnEnd}
+use Rattle.spec_connection.specs.declared.served.ConnEnd.TheVariants as end
+use Rattle.spec_connection.specs.declared.served.Served.{Served}
+use Rattle.spec_connection.specs.declared.served.TheConstants.{MOST_MESSAGES}
+use Rattle.spec_history.specs.MostTurns.{most_turns}
+use Rattle.spec_site.specs.Configuration.{Site, user_at}
+use Rattle.spec_time.specs.Moments.{clamped}
+use Rattle.listen_workers.specs.Working.{WorkerHow, MOST_CALLS, ServesEach, Tools, Visit, Works, setting_of, with_visits}
+
+-- ---- what one connection makes of the desk
+
+-- the desk has as many accounts as before, and at most one call more was made that wasn't answered
+pub record IsLeft (u v : Shown) : Type 0 where
+  pub accounts : v.accounts ≡ u.accounts
+  pub turns : v.turns ≤ u.turns + 1
+
+left_same : {u v : Shown} → v ≡ u → IsLeft u v
+left_same same = record { accounts = ap (λ (d : Shown). d.accounts) same; turns = (let e = ap (λ (d : Shown). d.turns) same in omega (arith, e)) }
+
+left_stop : (these : ℕ → Call → Type 0) (moment : ℤ) (e : DeskError) (u v : Shown) → Stops these moment e u v → IsLeft u v
+left_stop these moment e u v (inl p) = left_same p.1
+left_stop these moment reason.NoMemory u v (inr p) = record { accounts = p.3.1.beside.accounts; turns = (let e = p.3.1.beside.turns in omega (arith, e)) }
+left_stop these moment reason.PassSpent u v (inr p) = left_same p.3.1
+
+left_begun : {site : Site} {close : Bool} {t : Exchange} {e : DeskError} {u v : Shown} → Begun site close t e u v → IsLeft u v
+left_begun (uncalled is moments none same) = left_same same
+left_begun {site} {close} {t} {e} {u} {v} (called b) =
+    (let r = b.begins in left_stop (NextMeans (user_at site b.user) r.request (clamped b.moment) r.steps r.rest) (clamped b.moment) e u v r.stops)
+
+module _ {site : Site} {x x' : Setting} {served : Served} (s : Serves site MOST_MESSAGES x x' served) where
+  left_at : (e : ConnEnd) → Rests e s.desk x'.desk → How s e → IsLeft s.desk x'.desk
+  left_at end.Closed r how = left_same r
+  left_at end.CloseAsked r how = left_same r
+  left_at (end.BadHead status) r how = left_same r
+  left_at end.Truncated r how = left_same r
+  left_at end.Quota r how = left_same r
+  left_at end.ReadFault r how = left_same r
+  left_at end.WriteFault r how = left_same r
+  left_at end.PassSpent r how = left_begun how.0.begun
+  left_at end.NoMemory r (inl unanswered, open_) = left_begun unanswered.begun
+  left_at end.NoMemory r (inr idle, open_) = left_same idle.2
+
+  left : IsLeft s.desk x'.desk
+  left = left_at served.end s.rests s.how
+
+  pub same_accounts : x'.desk.accounts ≡ x.desk.accounts
+  same_accounts = left.accounts ∙ accounts_stay x.desk s.desk (all_made (s.exchanges ++ s.unwritten)) s.told.chain
+
+  pub few_calls : x'.desk.turns ≤ x.desk.turns + MOST_CALLS
+  few_calls =
+      let few = s.told.few in
+      let made = turns_counted x.desk s.desk (all_made (s.exchanges ++ s.unwritten)) s.told.chain in
+      let all = length-append s.exchanges s.unwritten in
+      let count = s.count in
+      let last = left.turns in
+      let room : served.requests + length s.unwritten ≤ 10000 = s.room in
+      omega arith
+
+  pub spent_end : served.end ≡ end.PassSpent → x'.desk.turns ≡ most_turns
+  spent_end is = (let how : How s end.PassSpent = subst (How s) is s.how in spent_turns how.0.begun)
+
+-- ---- connections, one after the other
+
+each_more : (site : Site) (t s u : Tools) (vs : List Visit) (v : Visit) → ServesEach site t s vs
+    → Serves site MOST_MESSAGES (setting_of s v.handed.input v.handed.output) (setting_of u v.back.input v.back.output) v.back.served → ServesEach site t u (vs ++ v ∷ [])
+each_more site t s u [] v before serves =
+    (u, subst (λ (y : Tools). Serves site MOST_MESSAGES (setting_of y v.handed.input v.handed.output) (setting_of u v.back.input v.back.output) v.back.served) before serves, refl)
+each_more site t s u (w ∷ vs) v before serves = (before.0, before.1, each_more site before.0 s u vs v before.2 serves)
+
+pub each_accounts : (site : Site) (t u : Tools) (vs : List Visit) → ServesEach site t u vs → u.desk.accounts ≡ t.desk.accounts
+each_accounts site t u [] e = ap (λ (y : Tools). y.desk.accounts) e
+each_accounts site t u (v ∷ vs) e = each_accounts site e.0 u vs e.2 ∙ same_accounts e.1
+
+pub each_turns : (site : Site) (t u : Tools) (vs : List Visit) → ServesEach site t u vs → u.desk.turns ≤ t.desk.turns + MOST_CALLS * length vs
+each_turns site t u [] e = (let same = ap (λ (y : Tools). y.desk.turns) e in omega (arith, same))
+each_turns site t u (v ∷ vs) e = (let rest = each_turns site e.0 u vs e.2 in let one = few_calls e.1 in omega (arith, rest, one))
+
+-- ---- the listener's connections
+
+module _ (i i' : SourceShown) (o o' : SinkShown) (served : Served) where
+  abbrev visit : Visit
+  visit = record { handed = record { input = i; output = o }; back = record { input = i'; output = o'; served = served } }
+
+  told_more : (vs : List Visit) (c : Option Connections) → option_map (taking_back i' o' served) (option_map (handing_out i o) (option_map (with_visits vs) c)) ≡ option_map (with_visits (vs ++ visit ∷ [])) c
+  told_more vs None = refl
+  told_more vs (Some c) = ap Some (λ k. record {
+    handed = (append_assoc c.handed (map (λ (v : Visit). v.handed) vs) (visit.handed ∷ []) ∙ ap (λ (l : List Connection). c.handed ++ l) (sym (map-append (λ (v : Visit). v.handed) vs (visit ∷ [])))) k;
+    back = (append_assoc c.back (map (λ (v : Visit). v.back) vs) (visit.back ∷ []) ∙ ap (λ (l : List Returned). c.back ++ l) (sym (map-append (λ (v : Visit). v.back) vs (visit ∷ [])))) k;
+  })
+
+told_none : (c : Option Connections) → c ≡ option_map (with_visits []) c
+told_none None = refl
+told_none (Some c) = ap Some (λ k. record { handed = sym (append-nil c.handed) k; back = sym (append-nil c.back) k })
+
+-- so many connections were served, and the worker goes on
+pub record Working (site : Site) (l l' : ListenerShown) (t u : Tools) (n : ℕ) : Type 0 where
+  pub visits : List Visit
+  pub count : length visits ≡ n
+  pub told : l'.connections ≡ option_map (with_visits visits) l.connections
+  pub serves : ServesEach site t u visits
+  pub later : l.faults ≤ l'.faults
+
+pub working_start : (site : Site) (l : ListenerShown) (t : Tools) → Working site l l t t 0
+working_start site l t = record { visits = []; count = refl; told = told_none l.connections; serves = refl; later = omega arith }
+
+pub working_on : {site : Site} {l l0 l1 l2 : ListenerShown} {t s u : Tools} {n : ℕ} {i i' : SourceShown} {o o' : SinkShown} {served : Served} → Working site l l0 t s n
+    → l1.connections ≡ option_map (handing_out i o) l0.connections → l0.faults ≤ l1.faults → Serves site MOST_MESSAGES (setting_of s i o) (setting_of u i' o') served
+    → l2.connections ≡ option_map (taking_back i' o' served) l1.connections → l2.faults ≡ l1.faults → Working site l l2 t u (n + 1)
+working_on {site} {l} {l0} {l1} {l2} {t} {s} {u} {n} {i} {i'} {o} {o'} {served} w out later serves back same =
+    let v : Visit = visit i i' o o' served in
+    record {
+      visits = w.visits ++ v ∷ [];
+      count = (let e = length-append w.visits (v ∷ []) in let c = w.count in omega (arith, e, c));
+      told = back ∙ (ap (option_map (taking_back i' o' served)) (out ∙ ap (option_map (handing_out i o)) w.told) ∙ told_more i i' o o' served w.visits l.connections);
+      serves = each_more site t s u w.visits v w.serves serves;
+      later = (let before = w.later in omega (arith, before, later, same));
+    }
+
+pub works_of : {site : Site} {l l' : ListenerShown} {t u : Tools} {n connections : ℕ} {e : WorkerEnd} → Working site l l' t u n → WorkerHow connections l l' u n e
+    → Works site connections l l' t u (record { served = n; end = e })
+works_of w how = record { visits = w.visits; count = w.count; told = w.told; serves = w.serves; later = w.later; how = how }
+
+-- the listener failed
+pub accept_failed : {site : Site} {l l0 l1 : ListenerShown} {t u : Tools} {n connections : ℕ} → Working site l l0 t u n → n < connections → l1.connections ≡ l0.connections → l0.faults ≤ l1.faults → Rose l0.faults l1.faults
+    → Works site connections l l1 t u (record { served = n; end = AcceptFault })
+accept_failed {site} {l} {l0} {l1} w few same later rose = record {
+  visits = w.visits;
+  count = w.count;
+  told = same ∙ w.told;
+  serves = w.serves;
+  later = (let before = w.later in omega (arith, before, later));
+  how = (few, (let before = w.later in omega (arith, before, rose)));
+}

@@ -1,0 +1,5 @@
+pub mod Chained
+pub mod Working
+pub mod Crew
+pub mod Listeners
+pub mod Passes

@@ -1,5 +1,0 @@
-use Rattle.model_recurrence.proofs.RuleLemmas.{rule_back}
-use Rattle.model_recurrence.proofs.laws.rules_are_their_parts.Goals as goal
-
-pub returns : goal.returns
-returns c = rule_back

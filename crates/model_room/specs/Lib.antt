@@ -1,2 +1,0 @@
-pub mod Bookings
-pub mod Clashes

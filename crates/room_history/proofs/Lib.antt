@@ -1,4 +1,0 @@
-pub mod Tables
-pub mod Placed
-pub mod Folded
-pub mod Doubles

@@ -1,3 +1,0 @@
-pub mod HistoryBookings
-pub mod Rising
-pub mod Free

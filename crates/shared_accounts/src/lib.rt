@@ -1,4 +1,0 @@
-//! The accounts of a site that workers share.
-#![tactic(auto)]
-
-pub mod accounts;

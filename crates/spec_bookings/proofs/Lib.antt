@@ -1,0 +1,5 @@
+pub mod Tables
+pub mod Placed
+pub mod Folded
+pub mod Doubles
+pub mod Numbered

@@ -1,0 +1,140 @@
+//! Calls of the methods of an account, and their replies.
+
+use spec_history::entry::Kind;
+use spec_json::lists::{Pairs, Texts};
+use spec_json::num::Num;
+use spec_json::text::Text;
+use spec_json::tree::{Tree, TreeObject};
+
+/// A method call on one account.
+#[derive(Drop)]
+pub struct Call {
+    /// The created ids of the request so far (RFC 8620 section 3.3). Of two pairs with one key the later counts.
+    pub created: Pairs,
+    /// What is asked.
+    pub asks: Asks,
+}
+
+/// What a method call asks of an account: its arguments, with the defaults of those that are absent.
+#[derive(Drop)]
+pub enum Asks {
+    /// Asks for objects (RFC 8620 section 5.1).
+    Get {
+        /// The kind of the objects.
+        kind: Kind,
+        /// The ids asked for, or `None` for all.
+        ids: Option<Texts>,
+        /// The names of the properties asked for, or `None` for all.
+        properties: Option<Texts>,
+    },
+    /// Asks what changed since a state (RFC 8620 section 5.2).
+    Changes {
+        /// The kind of the objects.
+        kind: Kind,
+        /// The state that the client knows.
+        since: Text,
+        /// The most ids that the reply may have, or `None` for no limit.
+        max: Option<Num>,
+    },
+    /// Creates, updates and destroys objects (RFC 8620 section 5.3).
+    Set {
+        /// The kind of the objects.
+        kind: Kind,
+        /// The state in which alone the call is to be carried out.
+        if_in_state: Option<Text>,
+        /// Creation ids, each with the object to be created.
+        create: Option<TreeObject>,
+        /// Ids, each with the patch of its object.
+        update: Option<TreeObject>,
+        /// The ids of the objects to be destroyed.
+        destroy: Option<Texts>,
+        /// The argument `onDestroyRemoveEvents` of calendars.
+        remove_events: Option<bool>,
+    },
+    /// Asks for the events that a filter holds of, sorted (RFC 8620 section 5.5).
+    Query {
+        filter: Option<Tree>,
+        sort: Option<Tree>,
+        /// The place of the first result, from the end where it is negative.
+        position: Num,
+        /// The id that takes the place of a position.
+        anchor: Option<Text>,
+        anchor_offset: Num,
+        /// The most results, or `None` for no limit of the client.
+        limit: Option<Num>,
+        calculate_total: bool,
+        /// Whether each occurrence is a result of its own.
+        expand: bool,
+        /// The time zone of the filter's times and of floating events.
+        time_zone: Text,
+    },
+    /// Asks how the result of a query changed since a state (RFC 8620 section 5.6).
+    QueryChanges {
+        filter: Option<Tree>,
+        sort: Option<Tree>,
+        /// The state that the client knows.
+        since: Text,
+        /// The most changes that the reply may have, or `None` for no limit.
+        max: Option<Num>,
+        /// The last id that the client knows.
+        up_to: Option<Text>,
+        calculate_total: bool,
+        /// Whether each occurrence is a result of its own.
+        expand: bool,
+        /// The time zone of the filter's times and of floating events.
+        time_zone: Text,
+    },
+    /// Asks when the account's owner is busy (draft JMAP for Calendars).
+    Availability {
+        /// The principal, which is the account.
+        id: Text,
+        /// The start of the window, a UTCDate.
+        utc_start: Text,
+        /// The end of the window, a UTCDate.
+        utc_end: Text,
+        /// The time zone of floating events.
+        time_zone: Text,
+    },
+}
+
+/// Why a method call was refused (RFC 8620 section 3.6.2). The call changed nothing.
+#[derive(Clone, Copy, Debug, PartialEq, Eq, Drop)]
+pub enum MethodError {
+    /// There is no such method, or the request doesn't use its capability.
+    UnknownMethod,
+    /// An argument is missing, has a value of a wrong kind, or is given twice.
+    InvalidArguments,
+    /// A result reference leads to no value (RFC 8620 section 3.7).
+    InvalidResultReference,
+    /// The user has no such account.
+    AccountNotFound,
+    /// The user may only read the account.
+    AccountReadOnly,
+    /// The call asks for more objects than a call may.
+    RequestTooLarge,
+    /// The state isn't the one in which alone the call is to be carried out.
+    StateMismatch,
+    /// The filter has a member or an operator that isn't known.
+    UnsupportedFilter,
+    /// The sort has a property or a collation that isn't known.
+    UnsupportedSort,
+    /// The anchor isn't in the result.
+    AnchorNotFound,
+    /// What changed since the state can't be told.
+    CannotCalculateChanges,
+    /// The changes are more than the client takes.
+    TooManyChanges,
+}
+
+/// What a call is answered.
+#[derive(Drop)]
+pub struct Reply {
+    /// The arguments of the response; `Null` where there is an error.
+    pub arguments: Tree,
+    /// The error, where the call was refused.
+    pub error: Option<MethodError>,
+    /// The creation ids of the objects that were created, each with the new id.
+    pub created: Pairs,
+    /// The number of entries of the account's history before this call's own.
+    pub place: u64,
+}

@@ -1,0 +1,14 @@
+pub mod Comparing
+pub mod Results
+pub mod Windows
+pub mod QueryChanges
+pub mod QueryChangesLead
+pub mod Matching
+pub mod Sorts
+pub mod Items
+pub mod States
+pub mod Criteria
+pub mod Found
+pub mod Expanded
+pub mod Changed
+pub mod Queries

@@ -1,0 +1,42 @@
+-- The occurrences of a series (RFC 8984 section 4.3), and the wall seconds that they cover.
+use Rattle.std.specs.Prelude.{◌≡◌, ◌⊎◌, ℕ, ◌==◌, ℤ, pos, ◌+ℤ◌, ◌≤ℤ◌, ◌<ℤ◌, Bool, true, false, ◌&&◌, List, [], ◌∷◌, slice_get, Some}
+use Rattle.std.specs.List.{list_any}
+use Rattle.std.specs.Ordering.{int_eq}
+use Rattle.spec_series.specs.declared.rule.Rule.{Rule}
+use Rattle.spec_series.specs.declared.exception.Exception.{Exception}
+use Rattle.spec_series.specs.declared.occurrence.Occurrence.{Occurrence}
+use Rattle.spec_series.specs.declared.series.Series.{Series}
+use Rattle.spec_time.specs.Walls.{day_of_wall, second_of_wall}
+use Rattle.spec_series.specs.RuleSets.{is_in_set}
+use Rattle.spec_series.specs.SeriesLimits.{is_named, wall_seconds}
+
+-- a day of some rule's set; without rules, the start's day alone
+abbrev pub is_day : List Rule → ℤ → ℤ → Bool
+is_day [] start n = int_eq n (day_of_wall start)
+is_day (r ∷ rs) start n = list_any (λ rule. is_in_set rule start n) (r ∷ rs)
+
+-- a recurrence id: the wall second of such a day at the start's time of day
+abbrev pub is_rid : Series → ℤ → Bool
+is_rid s w = (second_of_wall w == second_of_wall s.start) && is_day s.rules s.start (day_of_wall w)
+
+-- the occurrence of a recurrence id that no exception names
+pub record IsRegular (s : Series) (o : Occurrence) : Type 0 where
+  pub rid : is_rid s o.rid ≡ true
+  pub free : is_named s.exceptions o.rid ≡ false
+  pub start : o.start ≡ o.rid
+  pub length : o.length ≡ s.length
+  pub occupying : o.occupying ≡ s.occupying
+
+-- the occurrence that an exception gives, whether or not a rule gives its recurrence id
+abbrev pub IsReplacement : Exception → Occurrence → Type 0
+IsReplacement x o = x ≡ record { rid = o.rid; replaced = Some (record { start = o.start; length = o.length; occupying = o.occupying }) }
+
+-- an occurrence of the series
+abbrev pub IsOccurrence : Series → Occurrence → Type 0
+IsOccurrence s o = IsRegular s o ⊎ ((k : ℕ) × ((x : Exception) × ((slice_get s.exceptions k ≡ Some x) × IsReplacement x o)))
+
+-- an occupying occurrence covers the wall second
+pub record Covers (o : Occurrence) (x : ℤ) : Type 0 where
+  pub occupying : o.occupying ≡ true
+  pub begun : o.start ≤ℤ x
+  pub not_over : x <ℤ (o.start +ℤ pos (wall_seconds o.length))

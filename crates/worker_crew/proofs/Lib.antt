@@ -1,3 +1,0 @@
-pub mod CrewLemmas
-pub mod ListenerLemmas
-pub mod HandLemmas

@@ -1,7 +1,0 @@
-use Rattle.std.proofs.Common.{length}
-use Rattle.worker_crew.proofs.CrewLemmas.{Joined}
-use Rattle.worker_crew.proofs.crew.join_all.Given as goal
-
-abbrev pub invariant-loop-job : goal.invariant-loop-job
-invariant-loop-job g l =
-    Joined l.connections (length l.yielded) (g.S.Spawner.faults l.initial.spawner) (g.S.Spawner.faults l.spawner) (g.S.Spawner.served l.initial.spawner) (g.S.Spawner.served l.spawner) l.all
