@@ -15,6 +15,112 @@ pub struct Call {
     pub asks: Asks,
 }
 
+/// The arguments of a call for objects (RFC 8620 section 5.1), with the defaults of those that are absent, as in all that follow.
+#[derive(Drop)]
+pub struct GetArguments {
+    /// The kind of the objects.
+    pub kind: Kind,
+    /// The ids asked for, or `None` for all.
+    pub ids: Option<Texts>,
+    /// The names of the properties asked for, or `None` for all.
+    pub properties: Option<Texts>,
+}
+
+/// The arguments of a call for what changed since a state (RFC 8620 section 5.2).
+#[derive(Drop)]
+pub struct ChangesArguments {
+    /// The kind of the objects.
+    pub kind: Kind,
+    /// The state that the client knows.
+    pub since: Text,
+    /// The most ids that the reply may have, or `None` for no limit.
+    pub max: Option<Num>,
+}
+
+/// The arguments of a set: which objects are created, updated and destroyed (RFC 8620 section 5.3).
+#[derive(Drop)]
+pub struct SetArguments {
+    /// The kind of the objects.
+    pub kind: Kind,
+    /// The state in which alone the call is to be carried out.
+    pub if_in_state: Option<Text>,
+    /// Creation ids, each with the object to be created.
+    pub create: Option<TreeObject>,
+    /// Ids, each with the patch of its object.
+    pub update: Option<TreeObject>,
+    /// The ids of the objects to be destroyed.
+    pub destroy: Option<Texts>,
+    /// The argument `onDestroyRemoveEvents` of calendars.
+    pub remove_events: Option<bool>,
+}
+
+/// Which events a query finds, and in which order (RFC 8620 section 5.5).
+#[derive(Drop)]
+pub struct Criteria {
+    /// The filter, or `None` for all events.
+    pub filter: Option<Tree>,
+    /// The list of comparators, or `None` for the order of creation.
+    pub sort: Option<Tree>,
+    /// The time zone of the filter's times and of floating events.
+    pub time_zone: Text,
+}
+
+/// Which part of a result a query is to tell (RFC 8620 section 5.5).
+#[derive(Drop)]
+pub struct Paging {
+    /// The place of the first result, from the end where it is negative.
+    pub position: Num,
+    /// The id that takes the place of a position.
+    pub anchor: Option<Text>,
+    /// How far behind the anchor the first result stands.
+    pub anchor_offset: Num,
+    /// The most results, or `None` for no limit of the client.
+    pub limit: Option<Num>,
+    /// Whether the length of the whole result is told.
+    pub calculate_total: bool,
+}
+
+/// The arguments of a query of events (RFC 8620 section 5.5).
+#[derive(Drop)]
+pub struct QueryArguments {
+    /// Which events, and in which order.
+    pub criteria: Criteria,
+    /// Whether each occurrence is a result of its own (draft JMAP for Calendars).
+    pub expand: bool,
+    /// Which part of the result.
+    pub paging: Paging,
+}
+
+/// The arguments of a call for what changed of a query's result since a state (RFC 8620 section 5.6).
+#[derive(Drop)]
+pub struct QueryChangesArguments {
+    /// Which events, and in which order.
+    pub criteria: Criteria,
+    /// Whether each occurrence is a result of its own (draft JMAP for Calendars).
+    pub expand: bool,
+    /// The state that the client knows.
+    pub since: Text,
+    /// The most changes that the reply may have, or `None` for no limit.
+    pub max: Option<Num>,
+    /// The last id that the client knows.
+    pub up_to: Option<Text>,
+    /// Whether the length of the whole result is told.
+    pub calculate_total: bool,
+}
+
+/// The arguments of a call for when the account's owner is busy (draft JMAP for Calendars).
+#[derive(Drop)]
+pub struct AvailabilityArguments {
+    /// The principal, which is the account.
+    pub id: Text,
+    /// The start of the window, a UTCDate.
+    pub utc_start: Text,
+    /// The end of the window, a UTCDate.
+    pub utc_end: Text,
+    /// The time zone of floating events.
+    pub time_zone: Text,
+}
+
 /// What a method call asks of an account: its arguments, with the defaults of those that are absent.
 #[derive(Drop)]
 pub enum Asks {
