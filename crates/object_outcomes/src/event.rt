@@ -22,7 +22,7 @@ use crate::setting::{Judged, Setting};
 use crate::uid::supplied_uid;
 use crate::against::stands_against;
 use crate::resources::resources_of;
-use crate::crate::{has_long_override, is_in_other_zone, is_long_booking};
+use crate::booking_rules::{has_long_override, is_in_other_zone, is_long_booking};
 use cal_model::view::AccountView;
 use event_model::names::bad_event_names;
 use spec_history::entry::{Change, Kind};
