@@ -1,13 +1,16 @@
 #!/usr/bin/env python3
 """Says what the documents say of the crates and of the theorem's definitions, from the sources.
 
-  docs/reading.py files   the files that the main theorem rests on, in reading order, with their lines and the types that they need
-  docs/reading.py reach   for each crate of definitions, the crates that a change of it proves again
+  docs/reading.py files   the files that the main theorem rests on, in reading order: how many lines of definition each has, the types that it needs,
+                          and how many of its lines a law restates by facts
+  docs/reading.py reach   for each crate of definitions, how many crates a change of it proves again, and in how many minutes
   docs/reading.py check   compares both with THEOREM.md and ARCHITECTURE.md; ends with 1 where they differ
   docs/reading.py write   puts both into them: numbers, types and order; what a file says is kept, and asked for where a row is new
 
+Lines of definition are those of a file without its imports, its comments and its empty lines.
+
 It reads crates.txt, the sources and bench/gate.txt alone, so it needs no toolchain. bench/gate.txt has a line for each crate that was measured: its
-name, and the seconds of processor that its proofs with its tests and programs took from nothing, and the tries of its wrong bodies, or - where
+name, and the seconds of processor that its proofs with its tests and programs took from nothing, and the tries of its mutants, or - where
 these weren't measured.
 """
 import os
@@ -17,6 +20,26 @@ import sys
 TOP = os.path.dirname(os.path.dirname(os.path.abspath(__file__)))
 # Where the theorem stands: the clause on `serve_connection`, the one on `run`, and the law of what answers say of bookings.
 ROOTS = ["crates/spec_connection/specs/Serving.antt", "crates/jmapd_run/specs/Runs.antt", "crates/account_rooms/specs/Storing.antt"]
+# What a law says by facts, so that nobody has to believe how it is defined: for a file the law, and those definitions; all of the file where none is named.
+RESTATED = {
+    "spec_series/Shared": (
+        "bookings_clash_where_two_would_cover_a_second",
+        "is_second_of span_covers replaced_covers own_second own_covers days_down own_rids replaced_rids days_back covering_rids has_some has_two covers"
+        " covers_twice first_from first_second first_shared_second first_self_shared_second",
+    ),
+    "spec_bookings/Clashes": (
+        "bookings_clash_where_two_would_cover_a_second", "IsClash any_covers is_clash IsClear first_covering clash_at first_clash",
+    ),
+    "spec_bookings/BookedResources": ("bookings_clash_where_two_would_cover_a_second", "clash_in first_clash_in clash_of_event"),
+    "spec_bookings/HistoryBookings": ("bookings_are_of_live_events", "with_booked after_change bookings_from bookings_at"),
+    "spec_recurrence/SeriesOf": ("events_have_one_series", ""),
+    "spec_windows/Meetings": ("meetings_are_found", "has_passing has_meeting"),
+    "spec_availability/BusyInstants": ("events_take_up_their_occurrences", "is_occupied"),
+    "spec_availability/Runs": ("runs_are_of_the_test", ""),
+    "spec_history/Pages": ("pages_are_longest", "greatest page_end"),
+    "property_table/Table": ("failing_names_are_exact", "failing"),
+}
+DEFINES = re.compile(r"^\s*(?:(?:abbrev|unfoldable|opaque) )?pub (?:record |data )?([\w'-]+)(?: |$)")
 CITES = re.compile(r"use Rattle\.(\w+)\.specs\.([\w.]+?)(?:\.\{|\s|$)")
 
 
@@ -80,7 +103,41 @@ def reading_order():
 
     for root in ROOTS:
         visit(root)
-    return [(name, len(read(name).splitlines()), cited(name, crates)[1]) for name in order]
+    return [(name, cited(name, crates)[1]) for name in order]
+
+
+def definitions(name):
+    """How many lines of definition each definition of a file has, in their order; what stands before the first, or heads a module, has no name."""
+    found, current = {}, ""
+    for line in read(name).splitlines():
+        if not line.strip() or line.lstrip().startswith(("--", "use ")):
+            continue
+        if line.lstrip().startswith("module "):
+            current = ""
+        elif DEFINES.match(line) and not re.match(r"\s*pub \w+ :", line):
+            current = DEFINES.match(line)[1]
+        found[current] = found.get(current, 0) + 1
+    return found
+
+
+def restated(name):
+    """The law that restates definitions of a file by facts, with how many of its lines these are."""
+    if short(name) not in RESTATED:
+        return "", 0
+    law, wanted = RESTATED[short(name)]
+    return law, sum(lines for it, lines in definitions(name).items() if not wanted or it in wanted.split())
+
+
+def faults_of_restated():
+    """What RESTATED names that isn't there."""
+    there = {short(name): definitions(name) for name, _ in reading_order()}
+    texts = [read(f"crates/{crate}/src/{name}") for crate in dependencies() for name in os.listdir(os.path.join(TOP, f"crates/{crate}/src")) if name.endswith("laws.rt")]
+    for name, (law, wanted) in RESTATED.items():
+        if name not in there:
+            yield f"docs/reading.py: the theorem doesn't rest on {name}"
+        yield from (f"docs/reading.py: {name} has no definition {it}" for it in wanted.split() if it not in there.get(name, wanted))
+        if not any(re.search(rf"pub fn {law}\b", text) for text in texts):
+            yield f"docs/reading.py: no crate has the law {law}"
 
 
 def reach():
@@ -94,7 +151,7 @@ def reach():
             if name not in above[it]:
                 above[it].add(name)
                 todo += below[it]
-    return [(name, [it for it in below if it in above[name]]) for name in below if name.startswith("model_") or name == "cal_model"]
+    return [(name, [it for it in below if it in above[name]]) for name in below if name.startswith("spec_") or name == "cal_model"]
 
 
 def measured():
@@ -115,32 +172,36 @@ def short(name):
     return name.removeprefix("crates/").replace("/specs/", "/").removesuffix(".antt")
 
 
-def theorem_rows(text):
-    """The rows of THEOREM.md's table by its files: for each the words on it."""
-    return {name: words for name, words in re.findall(r"^\| `(\w+/\w+)` \| \d+ \| (.*?) \| [^|]*\|$", text, re.M)}
+def said_of_files(text):
+    """What THEOREM.md's table says of each file."""
+    rows = (re.match(r"\| `(\w+/\w+)` \| \d+ \| (.*?) \| ", line) for line in text.splitlines())
+    return {row[1]: row[2] for row in rows if row}
 
 
 def theorem_table(text):
     """The table of files, in reading order."""
-    said = theorem_rows(text)
-    return "\n".join(
-        f"| `{short(name)}` | {lines} | {said.get(short(name), 'TO BE SAID')} | {', '.join(os.path.basename(it) for it in types)} |" for name, lines, types in reading_order()
-    )
+    said, rows = said_of_files(text), []
+    for name, types in reading_order():
+        law, lines = restated(name)
+        cells = (
+            f"`{short(name)}`", str(sum(definitions(name).values())), said.get(short(name), "TO BE SAID"),
+            ", ".join(sorted({os.path.basename(it) for it in types})), f"{lines}: `{law}`" if law else "",
+        )
+        rows.append("| " + " | ".join(cells) + " |")
+    return "\n".join(rows)
 
 
 def reach_table():
     """The table of what a change of a definition proves again."""
-    rows = []
-    for name, crates in reach():
-        rows.append(f"| `{name}` | {len(crates)} | {minutes([name, *crates])} | {', '.join(crates)} |")
-    return "\n".join(rows)
+    return "\n".join(f"| `{name}` | {len(crates)} | {minutes([name, *crates])} |" for name, crates in reach())
 
 
 def with_tables(theorem, architecture):
-    """Both documents with the tables of the sources."""
+    """Both documents with the tables and the sums of the sources."""
     theorem = re.sub(r"(?:^\| `\w+/\w+` \| \d+ \|.*\n)+", lambda _: theorem_table(theorem) + "\n", theorem, count=1, flags=re.M)
-    total = sum(lines for _, lines, _ in reading_order())
-    theorem = re.sub(r"They have [\d,]+ lines\.", f"They have {total:,} lines.", theorem)
+    names = [name for name, _ in reading_order()]
+    lines, believed = sum(sum(definitions(name).values()) for name in names), sum(restated(name)[1] for name in names)
+    theorem = re.sub(r"[\d,]+ files with [\d,]+ lines of definition; [\d,]+ of them", f"{len(names)} files with {lines:,} lines of definition; {believed:,} of them", theorem)
     head, mark, rest = architecture.partition("### What a change of a definition proves again")
     rest = re.sub(r"(?:^\| `\w+` \| \d+ \|.*\n)+", lambda _: reach_table() + "\n", rest, count=1, flags=re.M)
     return theorem, head + mark + rest
@@ -155,6 +216,7 @@ def main(what):
     elif what == "check":
         told = zip(("THEOREM.md", "ARCHITECTURE.md"), documents, with_tables(*documents))
         wrong = [f"docs/{name} doesn't have the tables of the sources: docs/reading.py write" for name, old, new in told if old != new or "TO BE SAID" in old]
+        wrong += faults_of_restated()
         print("\n".join(wrong) or "the tables are those of the sources")
         sys.exit(1 if wrong else 0)
     elif what == "write":

@@ -83,7 +83,7 @@ def main():
     finally:
         server.terminate()
         server.wait()
-    print(f"large requests: {counts.answered} answered, {counts.ended} ended for want of memory; of {asked} small ones {missed} not answered")
+    print(f"large requests: {counts.answered} answered, {counts.ended} ended out of memory; of {asked} small ones {missed} not answered")
     if not is_alive or missed or not counts.ended:
         sys.exit("examples/short_of_memory.py: not so" if is_alive else "examples/short_of_memory.py: the server ended")
 

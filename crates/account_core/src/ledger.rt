@@ -89,7 +89,7 @@ impl Ledger {
         StoredEvents::new(&self.store, &self.zones, &self.series)
     }
 
-    /// Takes memory for the entries that the staged changes become. After want of memory nothing is staged.
+    /// Takes memory for the entries that the staged changes become. After running out of memory nothing is staged.
     pub fn reserve(&mut self) -> Result<(), AllocError>
         ensures spare { OnOk result (length (staged self.new) ≤ spare self.new.store) }
         ensures ok { OnOk result (staged self.new ≡ staged self.old) }

@@ -19,7 +19,7 @@ use set_methods::planned::PlanError;
 use set_methods::request::SetRequest;
 use std::alloc::AllocError;
 
-/// Answers a set of objects of a kind, and adds its entries. After want of memory the entries are as before.
+/// Answers a set of objects of a kind, and adds its entries. After running out of memory the entries are as before.
 ///
 /// The changes are planned and memory is reserved before an entry is added, and nothing can fail then.
 pub fn set(

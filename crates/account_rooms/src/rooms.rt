@@ -93,7 +93,7 @@ impl Rooms {
         }
     }
 
-    /// Lets the rooms follow a change. After want of memory some of its bookings may be there and others not; those that are gone
+    /// Lets the rooms follow a change. After running out of memory some of its bookings may be there and others not; those that are gone
     /// back to stay.
     pub fn follow(&mut self, zones: &Zones, change: &Change) -> Result<(), AllocError>
         requires { MayChange zones.now self.old.rooms change.now.kind change.now.object }

@@ -51,7 +51,7 @@ impl Slot {
         self.live = true;
     }
 
-    // After want of memory the event isn't booked.
+    // After running out of memory the event isn't booked.
     fn book(&mut self, number: u64, event: &Tree, series: &Series) -> Result<(), AllocError>
         requires { IsWeekLong series.now }
         ensures ok { OnOk result (self.new ≡ booked number (data_of event.now) series.now self.old) }
@@ -101,7 +101,7 @@ pub fn undo_all(slots: &mut Vec<Slot>)
     }
 }
 
-/// Books the series of an event in the rooms of its calendars. After want of memory some of them may have it.
+/// Books the series of an event in the rooms of its calendars. After running out of memory some of them may have it.
 pub fn book_in_all(
     slots: &mut Vec<Slot>,
     number: u64,

@@ -88,7 +88,7 @@ impl Busy {
 
     /// Adds what the occurrences of a series take up of the window, in a zone of this rule.
     ///
-    /// An instant of the window is busy afterwards where it was before, and where an occurrence takes it up. For want of memory
+    /// An instant of the window is busy afterwards where it was before, and where an occurrence takes it up. Out of memory
     /// some of the occurrences may be left out.
     pub fn add(&mut self, alloc: Global, series: &Series, rule: &TimeZone) -> Result<(), AllocError>
         ensures window { self.new.window ≡ self.old.window }

@@ -18,7 +18,7 @@ use std::alloc::{AllocError, Global};
 /// (RFC 8620 section 3).
 ///
 /// A front is added for each call that the desk answered, in order. `Refused` comes before any call. At `PassSpent` and
-/// at want of memory the calls that were answered stay in the accounts' histories, and their fronts are in the list.
+/// on running out of memory the calls that were answered stay in the accounts' histories, and their fronts are in the list.
 pub fn run_batch<D: Desk>(
     alloc: Global,
     request: Tree,

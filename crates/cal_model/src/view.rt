@@ -79,7 +79,7 @@ pub trait AccountView {
 
     /// Stages a change behind those that are staged. `size` is the bytes of its object's compact text, 0 for a removal.
     ///
-    /// After want of memory nothing is staged.
+    /// After running out of memory nothing is staged.
     fn stage(&mut self, change: Change, size: usize) -> Result<(), AllocError>
         requires fit { IsFit (base self.old).zones (history self.old ++ staged self.old) change }
         requires size { size ≡ size_of_object change.object }

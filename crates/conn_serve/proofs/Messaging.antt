@@ -96,7 +96,7 @@ module _ (site : Site) (close : Bool) (message : Message) (user : ℕ) (told : �
     of_message r = subst (λ (y : (User × ℤ) × List ℕ). IsOutcome y.0.0 y.0.1 (asked_in y.1) f0 f1 d0 d1 r) (λ i. ((user_is i, clamps i), body i))
 
   module _ {c0 c1 : Option (ℕ → ℤ)} {f0 f1 : List Front} {d0 d1 : Shown} (ticks : Ticks c0 c1 told) {u : User} {w : ℤ} {bytes : List ℕ} (user_is : u ≡ user_at site user) (clamps : w ≡ clamped told) (body : bytes ≡ message.body) where
-    -- the desk made no more calls, or memory was wanted
+    -- the desk made no more calls, or memory ran out
     pub stopped : (e : DeskError) → IsOutcome u w (asked_in bytes) f0 f1 d0 d1 (Err e) → AnswersMessage site close message c0 c1 f0 f1 d0 d1 (Err e)
     stopped e given =
         let r = of_message user_is clamps body (Err e) given in

@@ -36,7 +36,7 @@ module _ (site : Site) (most : ℕ) (x x' : Setting) (served : Served) where
     pub told : Told x.clock x'.clock [] served.fronts.items x.desk x'.desk exchanges
     pub written : Grows x.sink.holds x'.sink.holds (all_bytes exchanges ++ text)
 
-  -- the connection ended as its bytes do, or for want of memory
+  -- the connection ended as its bytes do, or out of memory
   abbrev pub EndsWithBytes : ConnEnd → Type 0
   EndsWithBytes end.Closed = AllAnswered [] undecided [] × IsAtEnd x'.source.left
   EndsWithBytes end.Truncated = (behind : List ℕ) × (0 < length behind) × AllAnswered behind undecided [] × IsAtEnd x'.source.left
@@ -56,7 +56,7 @@ abbrev pub ReadFaultsComeLast : Type 0
 ReadFaultsComeLast = (site : Site) (most : ℕ) (x x' : Setting) (served : Served) → (s : Serves site most x x' served) → served.end ≡ end.ReadFault
     → (ms : List Message) (left : List ℕ) (ending : Ending) → Holds most s.taken ms left ending → ending ≡ undecided
 
--- A connection whose source had these bytes answered these messages and ended so. Neither source nor sink failed, the desk may make more calls, and it didn't end for want of memory.
+-- A connection whose source had these bytes answered these messages and ended so. Neither source nor sink failed, the desk may make more calls, and it didn't run out of memory.
 pub record IsFaultless (most : ℕ) (bytes : List ℕ) (ms : List Message) (e : ConnEnd) : Type 0 where
   pub site : Site
   pub before : Setting

@@ -1,7 +1,7 @@
 //! What follows of a connection that was served. Laws; they do nothing.
 ghost use Rattle.conn_serve.specs.Complete.{FaultlessConnectionsAreAnswered, FaultlessConnectionsAreDetermined, ReadFaultsComeLast};
 
-/// Where the counts of faults of source and sink did not rise and the desk may make more calls, a connection ended for want of memory, or all
+/// Where the counts of faults of source and sink did not rise and the desk may make more calls, a connection ran out of memory, or all
 /// its messages were answered, with nothing else written, and it ended as its bytes do.
 pub fn faultless_connections_are_answered()
     ensures { FaultlessConnectionsAreAnswered }

@@ -308,7 +308,7 @@ pub exceptions_are_distinct : (zones : List ZoneText) (d : Data) (xs : List Exce
     → exceptions_in zones d ≡ Some xs → are_distinct xs ≡ true
 exceptions_are_distinct zones d xs rise h = (exceptions_are_of_series zones d xs rise h).distinct
 
--- Where an event may have its overrides none is refused, so they aren't read only for want of memory.
+-- Where an event may have its overrides none is refused, so they aren't read only when out of memory.
 
 none_refused : (zones : List ZoneText) (alone ps : List Pair) (xs : List Exception) → all_some (exception_in zones alone) ps ≡ Some xs → first_refused zones alone ps ≡ None
 none_refused zones alone [] xs h = refl

@@ -40,7 +40,7 @@ impl SeriesLog {
         }
     }
 
-    /// Reads the series of the event that a change puts, behind those that are there. After want of memory these are as before.
+    /// Reads the series of the event that a change puts, behind those that are there. After running out of memory these are as before.
     pub fn read(&mut self, zones: &Zones, change: &Change) -> Result<(), AllocError>
         ensures ok { OnOk result (self.new ≡ self.old ++ series_put zones.now change.now ∷ []) }
         ensures err { OnErr result (self.new ≡ self.old) }

@@ -33,7 +33,7 @@ pub struct Head {
 pub enum HeadError {
     /// It is refused with this status.
     Refused(u16),
-    /// Memory was wanted.
+    /// Out of memory.
     NoMemory,
 }
 

@@ -39,7 +39,7 @@ pub enum Stop {
     Ended,
     /// The source failed.
     Failed,
-    /// Memory was wanted.
+    /// Out of memory.
     NoMemory,
 }
 

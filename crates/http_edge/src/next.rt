@@ -25,7 +25,7 @@ pub enum Next {
     BadHead(u16),
     /// The source failed.
     ReadFault,
-    /// Memory was wanted.
+    /// Out of memory.
     NoMemory,
 }
 
@@ -33,7 +33,7 @@ pub enum Next {
 ///
 /// `kept` has the bytes behind the message then, or all of them where there is none. The source is asked only while the bytes begin neither
 /// with a whole message nor with a head that is refused. Takes memory for the message and for the bytes that were taken and not used; nothing
-/// that was taken is lost for want of it.
+/// that was taken is lost where it runs out.
 pub fn next_message<S: Source>(alloc: Global, source: &mut S, kept: &mut Kept) -> Next
     ensures { GivesNext (S.shown source.old) (S.shown source.new) kept.old kept.new result }
 {

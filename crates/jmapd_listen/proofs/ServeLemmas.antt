@@ -10,7 +10,7 @@ use Rattle.listen_workers.specs.Listeners.{AskedFor}
 
 -- each worker has a listener
 module _ (l : Listen) (h h' : HostShown) (asked : AskedFor h h' l.port l.workers) where
-  -- memory was wanted before a worker was started
+  -- memory ran out before a worker was started
   pub wanting : (s s' : SpawnerShown) → s' ≡ s → ServesSite l h h' s s' NoMemory
   wanting s s' same = ((l.workers, omega arith, asked), same)
 

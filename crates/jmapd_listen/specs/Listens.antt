@@ -22,7 +22,7 @@ pub record SpawnerShown : Type 0 where
   pub faults : ℕ
   pub served : ℕ
 
--- what comes of the words and a site: the workers served all their connections, and the spawner counted them; or a listener wasn't made, or one failed; or memory was wanted
+-- what comes of the words and a site: the workers served all their connections, and the spawner counted them; or a listener wasn't made, or one failed; or memory ran out
 -- before a worker was started
 abbrev pub ServesSite : Listen → HostShown → HostShown → SpawnerShown → SpawnerShown → Status → Type 0
 ServesSite l h h' s s' Done = AskedFor h h' l.port l.workers × (s'.faults ≡ counted s.faults 0) × (s'.served ≡ counted s.served (l.workers * l.connections))

@@ -27,7 +27,7 @@ use listen_workers::listeners::open_listeners;
 ///
 /// The words are looked at first (`Usage` where they aren't those of `listen`), then the configuration, which is loaded once at most (`OpenFault`, `Config`). Then all
 /// listeners are made, those of worker 0 first: the first that the host fails to make ends it, before a worker is started (`OpenFault`). A worker that can't accept ends alone, and `OpenFault`
-/// is told when all have ended. Takes memory for what workers share before the first is started; a connection that wants memory ends alone.
+/// is told when all have ended. Takes memory for what workers share before the first is started; a connection that runs out of memory ends alone.
 ///
 /// It waits for connections, and for turns on accounts: nothing promises that it returns.
 pub fn listen<

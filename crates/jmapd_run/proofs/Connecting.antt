@@ -26,7 +26,7 @@ module _ {site : Site} {x x' : Setting} {served : Served} (s : Serves site MOST_
       let room : served.requests + length s.unwritten ≤ 10000 = s.room in
       omega arith
 
-  -- the desk answered all that it was asked, or memory was wanted
+  -- the desk answered all that it was asked, or memory ran out
   rested : {status : Status} (e : ConnEnd) → Rests e s.desk x'.desk → status_of e ≡ Some status → (e ≡ end.NoMemory) ⊎ (x'.desk ≡ s.desk)
   rested end.Closed r is = inr r
   rested end.CloseAsked r is = inr r

@@ -81,6 +81,6 @@ module _ (x x' : Surroundings) where
   RunsFrom (workload_by number size) status = RunsWorkload number size status
   RunsFrom _ _ = ⊥
 
-  -- The words and the opener come to a start, and from there the run goes on; or memory was wanted before anything else was touched.
+  -- The words and the opener come to a start, and from there the run goes on; or memory ran out before anything else was touched.
   abbrev pub Runs : OpenerShown → OpenerShown → List (List ℕ) → Status → Type 0
   Runs o o' words status = ((start : Start) × IsStart o o' words start × RunsFrom start status) ⊎ ((status ≡ NoMemory) × (x' ≡ x))

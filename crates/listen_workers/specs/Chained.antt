@@ -7,7 +7,7 @@ use Rattle.spec_batch.specs.Chain.{Chain, Made, front_of}
 use Rattle.spec_connection.specs.declared.served.ConnEnd.TheVariants as end
 use Rattle.spec_site.specs.Configuration.{Site}
 
--- none of these connections ended for want of memory or of calls: the desk answered all that it was asked on them
+-- none of these connections ran out of memory or of calls: the desk answered all that it was asked on them
 abbrev pub NoneIsCutShort : List Visit → Type 0
 NoneIsCutShort visits = All (λ v. (v.back.served.end ≢ end.NoMemory) × (v.back.served.end ≢ end.PassSpent)) visits
 

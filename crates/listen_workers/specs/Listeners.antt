@@ -14,7 +14,7 @@ workers_of port (suc n) = workers_of port n ++ (port, n) ∷ []
 abbrev pub AskedFor : HostShown → HostShown → ℕ → ℕ → Type 0
 AskedFor h h' port n = h'.asked ≡ option_map (λ pairs. pairs ++ workers_of port n) h.asked
 
--- each worker has a listener; or the host failed to make one, and wasn't asked for another; or memory was wanted
+-- each worker has a listener; or the host failed to make one, and wasn't asked for another; or memory ran out
 abbrev pub OpensHow : {L : Type 0} → ℕ → ℕ → HostShown → HostShown → Result L HostError → Type 0
 OpensHow port workers h h' (Ok listeners) = AskedFor h h' port workers
 OpensHow port workers h h' (Err Failed) = ((n : ℕ) × (n < workers) × AskedFor h h' port (n + 1)) × Rose h.faults h'.faults

@@ -13,7 +13,7 @@ use std::alloc::Global;
 
 /// Accepts so many connections of a listener, one after the other, serves each for the users of a site, and hands it back.
 ///
-/// It ends before all are served where the listener fails, and where the desk made as many calls as it may. A connection that ends for want of memory, for a
+/// It ends before all are served where the listener fails, and where the desk made as many calls as it may. A connection that ends out of memory, by a
 /// fault of its source or sink, or for what its peer sends, ends nothing but itself. It takes no memory of its own. It may wait, as the listener does and the desk.
 pub fn worker<L: Listener, D: Desk, C: Clock>(
     alloc: Global,

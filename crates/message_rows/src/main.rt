@@ -43,8 +43,8 @@ fn not_read(alloc: Global, findings: &mut Findings) -> Result<(), AllocError> {
     Ok(())
 }
 
-// A call that wanted memory is made again, so that a table whose answers all came shows that nothing was lost. Ample memory was wanted
-// then, which is an error.
+// A call that ran out of memory is made again, so that a table whose answers all came shows that nothing was lost. Ample
+// memory ran out then, which is an error.
 fn main(rt: HostRuntime) -> io::Result<()> {
     let alloc = rt.alloc();
     let mut tally = RowTally::new();

@@ -20,11 +20,11 @@ struct Outcome {
     given: Vec<Given>,
     /// How many calls ended by a fault of the source.
     faults: u32,
-    /// How many calls wanted memory.
+    /// How many calls ran out of memory.
     wants: u32,
 }
 
-/// What calls give until one gives no message. A call after a fault, or after want of memory, is to give what that one couldn't.
+/// What calls give until one gives no message. A call after a fault, or after running out of memory, is to give what that one couldn't.
 fn outcome_of<S: Source>(alloc: Global, source: &mut S) -> Result<Outcome, AllocError> {
     let mut kept = Kept::new(alloc);
     let mut outcome = Outcome {

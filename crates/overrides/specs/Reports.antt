@@ -14,7 +14,7 @@ IsPatched (Some t) r = r ≡ Ok (data_of t)
 IsPatched None (Ok d) = ⊥
 IsPatched None (Err key) = Unit {0}
 
--- the overrides aren't an object of at most 128 members, or the first that is refused; want of memory says nothing
+-- the overrides aren't an object of at most 128 members, or the first that is refused; out of memory says nothing
 abbrev pub Reports : OverrideError → List ZoneText → Data → Type 0
 Reports BadOverrides zones d = overrides_in d ≡ None
 Reports (BadOverride key) zones d = refused_in zones d ≡ Some key

@@ -4,7 +4,7 @@ use Rattle.spec_json.specs.Data.{Data}
 use Rattle.patch_object.specs.declared.patch.PatchError.{PatchError}
 use Rattle.patch_object.specs.declared.patch.PatchError.TheVariants.{InvalidPatch, NoMemory}
 
--- an invalid patch names the first key that fails; want of memory says nothing
+-- an invalid patch names the first key that fails; out of memory says nothing
 abbrev pub Reports : PatchError → Result Data (List ℕ) → Type 0
 Reports (InvalidPatch key) r = r ≡ Err key
 Reports NoMemory r = Unit {0}

@@ -22,7 +22,7 @@ pub enum PatchError {
         /// The first such key, in byte order.
         key: Text,
     },
-    /// Memory was wanted.
+    /// Out of memory.
     NoMemory,
 }
 

@@ -33,7 +33,7 @@ impl Model for Pointer {
 pub enum PointerError {
     /// A `~` is followed by neither `0` nor `1`.
     BadEscape,
-    /// Memory was wanted.
+    /// Out of memory.
     NoMemory,
 }
 

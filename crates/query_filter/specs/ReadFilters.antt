@@ -5,7 +5,7 @@ use Rattle.spec_json.specs.Data.{Data}
 use Rattle.query_filter.specs.declared.filter.FilterError.{FilterError}
 use Rattle.query_filter.specs.declared.filter.FilterError.TheVariants.{Bad, Unsupported, NoMemory}
 
--- the filter itself, bad ones and then unsupported ones apart; want of memory says nothing
+-- the filter itself, bad ones and then unsupported ones apart; out of memory says nothing
 abbrev pub IsRead : Data → Result Data FilterError → Type 0
 IsRead d (Ok filter) = (is_bad_filter d ≡ false) × (is_unsupported_filter d ≡ false) × (filter ≡ d)
 IsRead d (Err Bad) = is_bad_filter d ≡ true

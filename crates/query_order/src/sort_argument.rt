@@ -20,7 +20,7 @@ pub enum SortError {
     BadSort,
     /// All are comparators, and one has a property or a collation that isn't known (`unsupportedSort`).
     UnsupportedSort,
-    /// Memory was wanted.
+    /// Out of memory.
     NoMemory,
 }
 

@@ -73,7 +73,7 @@ impl Room {
         check(&self.booked, except, series)
     }
 
-    /// Makes a series ready, so that its booking takes no memory. After want of memory none is ready.
+    /// Makes a series ready, so that its booking takes no memory. After running out of memory none is ready.
     /// No occurrence of the series lasts longer than 7 days.
     pub fn reserve(&mut self, series: &Series) -> Result<(), AllocError>
         requires week { IsWeekLong series.now }

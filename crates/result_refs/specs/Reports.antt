@@ -1,4 +1,4 @@
--- What an error says of the arguments. Want of memory says nothing.
+-- What an error says of the arguments. Out of memory says nothing.
 use Rattle.std.specs.Prelude.{◌≡◌, Option, None}
 use Rattle.spec_batch.specs.References.{Resolution, both_forms, bad_reference}
 use Rattle.result_refs.specs.declared.arguments.ReferenceError.{ReferenceError}

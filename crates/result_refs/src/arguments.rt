@@ -22,7 +22,7 @@ pub enum ReferenceError {
     BothForms,
     /// A reference has no value.
     BadReference,
-    /// Memory was wanted.
+    /// Out of memory.
     NoMemory,
 }
 

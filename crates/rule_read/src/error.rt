@@ -9,7 +9,7 @@ use std::alloc::AllocError;
 pub enum RulesError {
     /// They aren't rules of this project's profile.
     BadRules,
-    /// Memory was wanted.
+    /// Out of memory.
     NoMemory,
 }
 

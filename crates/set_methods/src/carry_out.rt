@@ -26,7 +26,7 @@ use std::alloc::{AllocError, Global};
 
 /// Carries out a set that isn't refused: creates, then updates, then destroys (RFC 8620 section 5.3).
 ///
-/// After want of memory some changes may be staged.
+/// After running out of memory some changes may be staged.
 pub(crate) fn carry_out<V: AccountView>(
     alloc: Global,
     view: &mut V,

@@ -142,7 +142,7 @@ module _ (user : User) (moment : ℤ) (d : Data) (fronts fronts' : List Front) (
       (steps : List Step) × (rest : List Invocation) × (u : Shown) × (begun : IsBegun user moment d fronts fronts' s u steps rest)
       × Stops (NextMeans user begun.request moment steps rest) moment e u t
 
-  -- What answering d does. All invocations are answered, or none since the whole is refused, or the first ones since the desk makes no more calls or memory is wanted.
+  -- What answering d does. All invocations are answered, or none since the whole is refused, or the first ones since the desk makes no more calls or memory runs out.
   abbrev pub IsBatch : Result Tree BatchError → Type 0
   IsBatch (Ok tree) = (steps : List Step) × (begun : IsBegun user moment d fronts fronts' s t steps []) × (data_of tree ≡ response_object begun.request steps)
   IsBatch (Err (Refused e)) = (asked_by d ≡ refused e) × IsUntouched

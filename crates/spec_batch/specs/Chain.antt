@@ -88,7 +88,7 @@ abbrev pub Chain : Shown → Shown → List Made → Type 0
 Chain s t [] = t ≡ s
 Chain s t (m ∷ ms) = (u : Shown) × IsStep s u m × Chain u t ms
 
--- Why a desk answered no more in a state, and what it left: memory was wanted and the desk wasn't asked; or it was asked for one of these calls, at this moment, and
+-- Why a desk answered no more in a state, and what it left: memory ran out and the desk wasn't asked; or it was asked for one of these calls, at this moment, and
 -- didn't answer it for this reason.
 abbrev pub Stops : (ℕ → Call → Type 0) → ℤ → DeskError → Shown → Shown → Type 0
 Stops these moment e s t = ((e ≡ NoMemory) × (t ≡ s)) ⊎ ((account : ℕ) × (call : Call) × these account call × Called s t account call moment (Err e))

@@ -19,7 +19,7 @@ pub struct Front {
 pub enum DeskError {
     /// The desk made as many calls as it may.
     PassSpent,
-    /// Memory was wanted.
+    /// Out of memory.
     NoMemory,
 }
 
@@ -36,7 +36,7 @@ pub trait Desk {
 
     /// Answers a call on an account, at a moment.
     ///
-    /// PassSpent comes exactly where 2^40 calls were made, and changes nothing. After want of memory nothing of this call
+    /// PassSpent comes exactly where 2^40 calls were made, and changes nothing. After running out of memory nothing of this call
     /// was added; entries of others may have come.
     fn call(&mut self, account: u32, call: &Call, moment: Moment) -> Result<Reply, DeskError>
         requires { account < (shown self.old).accounts }

@@ -99,6 +99,6 @@ pub enum BatchError {
     Refused(RequestError),
     /// The desk made as many calls as it may.
     PassSpent,
-    /// Memory was wanted.
+    /// Out of memory.
     NoMemory,
 }

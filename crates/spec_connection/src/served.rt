@@ -26,7 +26,7 @@ pub enum ConnEnd {
     WriteFault,
     /// The desk made as many calls as it may.
     PassSpent,
-    /// Memory was wanted.
+    /// Out of memory.
     NoMemory,
 }
 

@@ -32,7 +32,7 @@ pub trait Book: Drop + Send + 'static {
     /// Answers a call and adds its entries. `author` is the number of the pass that calls, `turn` the number of
     /// this call among those of its author.
     ///
-    /// After want of memory the entries are as before.
+    /// After running out of memory the entries are as before.
     fn act(
         &mut self,
         author: u32,

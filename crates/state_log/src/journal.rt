@@ -29,7 +29,7 @@ pub struct Journal {
 pub enum ChangesError {
     /// The state was never reached, or lies too far back (RFC 8620 section 5.2, `cannotCalculateChanges`).
     NotRetained,
-    /// Memory was wanted.
+    /// Out of memory.
     NoMemory,
 }
 
