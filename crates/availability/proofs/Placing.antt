@@ -3,6 +3,7 @@ use Rattle.std.proofs.Common.{not, set, ◌≡◌, ℕ, zero, suc, ◌+◌, ◌<
 use Rattle.std.specs.Prelude.{remove}
 use Rattle.std.proofs.lemmas.List.{drop_all, drop_more, take_more, set_split}
 use Rattle.std.proofs.lemmas.Bool.{not-false, not-true}
+use Rattle.std.proofs.lemmas.List.Edits.{length-remove}
 use Rattle.availability.specs.Merging.{hull, is_reached, touches_first, merged, with_period}
 use Rattle.spec_windows.specs.declared.period.Period.{Period}
 use Rattle.rule_expand.proofs.Places.{late_is}
@@ -92,14 +93,9 @@ pub more_at : (ps next : List Period) (i : ℕ) (s x y : Period) (old : List Per
     → take i next ++ merged y (drop (i + 1) next) ≡ old
 more_at ps next i s x y old n e f h o = rw n (ap (λ z. take i (remove ps (i + 1)) ++ merged z (drop (i + 1) (remove ps (i + 1)))) (f ∙ ap (λ z. hull z s) e) ∙ merge_more ps i s x old h o)
 
-removed_length : (ps : List Period) (k : ℕ) → k < length ps → length (remove ps k) + 1 ≡ length ps
-removed_length [] k h = absurd (omega arith)
-removed_length (p ∷ ps) zero h = omega arith
-removed_length (p ∷ ps) (suc k) h = omega (arith, removed_length ps k (omega arith))
-
 pub within_more : (ps next : List Period) (i : ℕ) (s : Period) → next ≡ remove ps (i + 1) → touches_first s (drop (i + 1) ps) ≡ true → (i < length next) × (length next < length ps)
 within_more ps next i s n h =
     let lt = touched_within ps (i + 1) s h in
-    let e = removed_length ps (i + 1) lt in
+    let e = length-remove ps (i + 1) lt in
     let m = ap length n in
     (omega (arith, lt, e, m), omega (arith, lt, e, m))

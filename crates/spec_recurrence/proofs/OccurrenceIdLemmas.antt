@@ -5,6 +5,7 @@ use Rattle.std.proofs.lemmas.Bool.Decides.{nat_tests}
 use Rattle.std.proofs.lemmas.Str.Ascii.{IsAscii-cons, IsAscii-nil}
 use Rattle.std.specs.Str.{IsAscii}
 use Rattle.std.proofs.lemmas.List.{length-append}
+use Rattle.std.proofs.Math.Seq.{take-append_seam}
 use Rattle.spec_history.specs.ObjectId.{id_text, object_number}
 use Rattle.spec_history.specs.declared.entry.Kind.TheVariants.{Event}
 use Rattle.spec_recurrence.specs.OccurrenceIds.{IsIdReadBack, compact_in, compact_text, event_part, is_no_separator, occurrence_id_in, separated, time_part}
@@ -110,11 +111,6 @@ compact_length w h = ap length (compact_is w h)
 
 -- The id and the time behind it.
 
-take_front : (xs ys : List ℕ) → take (length xs) (xs ++ ys) ≡ xs
-take_front [] [] = refl
-take_front [] (y ∷ ys) = refl
-take_front (x ∷ xs) ys = ap (λ zs. x ∷ zs) (take_front xs ys)
-
 drop_behind : (xs : List ℕ) (y : ℕ) (ys : List ℕ) → drop (suc (length xs)) (xs ++ y ∷ ys) ≡ ys
 drop_behind [] y ys = refl
 drop_behind (x ∷ xs) y ys = drop_behind xs y ys
@@ -148,5 +144,5 @@ id_back n w above small years =
     let long = compact_length w years in
     id_by_parts n w s (long_enough xs ys long)
     (mark_is _ (ap (slice_index s) (front_length xs ys long) ∙ byte_between xs 95 ys))
-    (ap (λ k. object_number Event (take k s)) (front_length xs ys long) ∙ ap (object_number Event) (take_front xs (95 ∷ ys)) ∙ event_number n above small)
+    (ap (λ k. object_number Event (take k s)) (front_length xs ys long) ∙ ap (object_number Event) (take-append_seam xs (95 ∷ ys)) ∙ event_number n above small)
     (ap (λ k. compact_in (drop k s)) (past_length xs ys long) ∙ ap compact_in (drop_behind xs 95 ys) ∙ compact_back w years)
