@@ -65,7 +65,7 @@ not_in n ms h r =
     ap (λ ns. has_name ns n) (sym (back ms)) ∙ has_keys (as_keys ms) n
     ∙ ap is_some (lookup_below n (as_keys ms) (sym (below_is n ms) ∙ h) (sym (rise_is ms) ∙ r))
 
-has_head : (n : List ℕ) (ms : List (List ℕ)) → has_name (n ∷ ms) n ≡ true
+pub has_head : (n : List ℕ) (ms : List (List ℕ)) → has_name (n ∷ ms) n ≡ true
 has_head n ms = rw (same_key n) refl
 
 -- how two names lie to each other

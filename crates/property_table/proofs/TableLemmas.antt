@@ -69,11 +69,11 @@ abbrev fails_value : Test → Option Data → Bool
 fails_value test None = false
 fails_value test (Some d) = not (is_null d) && not (test (Some d))
 
-abbrev value_given : Option Data → Option Data
+abbrev pub value_given : Option Data → Option Data
 value_given None = None
 value_given (Some d) = if not (is_null d) then Some d else None
 
-given_is : (k : List ℕ) (ps : List Pair) → keys_rise ps ≡ true → lookup k (given ps) ≡ value_given (lookup k ps)
+pub given_is : (k : List ℕ) (ps : List Pair) → keys_rise ps ≡ true → lookup k (given ps) ≡ value_given (lookup k ps)
 given_is k ps r = lookup_filter (λ p. not (is_null p.1)) k ps r ∙ at (lookup k ps)
   where
     at : (found : Option Data) → value_kept (λ p. not (is_null p.1)) k found ≡ value_given found
@@ -185,7 +185,7 @@ unlike_at k name false e h = e
 pub unlike : {name k : List ℕ} → (name ≡ k → ⊥) → bytes_eq k name ≡ false
 unlike {name} {k} h = unlike_at k name (bytes_eq k name) refl h
 
-passes_by : (there test : Bool) → there ≡ true → (there && not test) ≡ false → test ≡ true
+pub passes_by : (there test : Bool) → there ≡ true → (there && not test) ≡ false → test ≡ true
 passes_by true true t h = refl
 passes_by true false t h = cc
 passes_by false test t h = cc
