@@ -1,6 +1,7 @@
 -- Each step keeps what the rule says of tickets and of passes.
 use Rattle.std.proofs.Common.{◌≡◌, ◌≢◌, ℕ, ◌+◌, ◌<◌, ◌≤◌, List, [], ◌∷◌, ◌++◌, length, set, sym, refl, ap, ◌∙◌, IsTrue, Bool, cond, arith, length-set, length-append}
 use Rattle.std.proofs.lemmas.Bool.{false≢true}
+use Rattle.std.proofs.lemmas.List.Sums.{sum_by_push}
 use mathlib.Core.Logic.{dite}
 use native.Mathlib.Decide.{ℕ_discrete}
 use lib.ListN.{get_elem?}
@@ -11,7 +12,7 @@ use Rattle.account_lock.specs.LockSteps.{with_ticket, out_of_line, having_split,
 use Rattle.account_lock.specs.declared.lock.Phase.{Phase}
 use Rattle.account_lock.specs.declared.lock.Phase.TheVariants.{Idle, Waits, Turn, Read, Done}
 use Rattle.account_lock.specs.TicketRule.{At, TicketsHold, PassesHold}
-use Rattle.account_lock.proofs.ViewLemmas.{sum_by-set_view, sum_by-last_view, sum_by-most, each_set, each_last, at_inside, same_at}
+use Rattle.account_lock.proofs.ViewLemmas.{sum_by-set_view, sum_by-most, each_set, each_last, at_inside, same_at}
 
 abbrev places : Bool → ℕ
 places b = cond b 1 0
@@ -157,8 +158,8 @@ tickets_split t n vs v l at =
     let ws : List PassView = set vs 0 w in
     let each = λ (P : ℕ → PassView → Type 0) (others : (i : ℕ) (u : PassView) → i ≢ 0 → At vs i u → P i u) (here : P 0 w) (last : P (length ws) y). each_last P ws y (each_set P vs 0 w others here) last in
     record {
-      issued = (let sums = sum_by-set_view (λ v. v.turns) vs 0 v w at in let old = l.issued in let last = sum_by-last_view (λ v. v.turns) ws y in omega arith);
-      waiting = (let sums = sum_by-set_view (λ v. places (in_line v.phase)) vs 0 v w at in let old = l.waiting in let last = sum_by-last_view (λ v. places (in_line v.phase)) ws y in omega arith);
+      issued = (let sums = sum_by-set_view (λ v. v.turns) vs 0 v w at in let old = l.issued in let last = sum_by_push (λ v. v.turns) ws y in omega arith);
+      waiting = (let sums = sum_by-set_view (λ v. places (in_line v.phase)) vs 0 v w at in let old = l.waiting in let last = sum_by_push (λ v. places (in_line v.phase)) ws y in omega arith);
       in_range = each (λ i u. IsTrue (in_line u.phase) → (n ≤ u.ticket) × (u.ticket < t)) (λ i u _ at b. l.in_range i u at b) (λ b. l.in_range 0 v at b) (λ b. absurd (false≢true b));
       apart = λ i j a b ati atj ba bb e. each (λ i u. IsTrue (in_line u.phase) → u.ticket ≡ b.ticket → i ≡ j)
           (λ i u _ at' bu e. each (λ j x. IsTrue (in_line x.phase) → u.ticket ≡ x.ticket → i ≡ j)

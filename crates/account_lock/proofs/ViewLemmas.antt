@@ -1,7 +1,7 @@
 -- Views of passes where one is changed, or one comes last.
 use Rattle.std.proofs.Common.{◌≡◌, ◌≢◌, ℕ, zero, suc, ◌+◌, ◌*◌, ◌<◌, ◌≤◌, List, [], ◌∷◌, ◌++◌, length, set, sym, refl, ap, ◌∙◌, subst, ⊎_elim, arith, Some, slice_get}
 use Rattle.std.specs.Prelude.{sum_by}
-use Rattle.std.proofs.lemmas.List.Sums.{sum_by-cons, sum_by-append}
+use Rattle.std.proofs.lemmas.List.Sums.{sum_by-cons}
 use mathlib.Core.Option.{some-injective, some-ne-none}
 use lib.ListN.{get_elem?}
 use Rattle.atomic_table.proofs.Lists.{at_set}
@@ -20,9 +20,6 @@ sum_by-set_view f (x ∷ xs) (suc i) v w at =
     let new = sum_by-cons f x (set xs i w) in
     let old = sum_by-cons f x xs in
     omega arith
-
-pub sum_by-last_view : (f : PassView → ℕ) (vs : List PassView) (v : PassView) → sum_by f (vs ++ v ∷ []) ≡ sum_by f vs + f v
-sum_by-last_view f vs v = let one = sum_by-cons f v [] in let all = sum_by-append f vs (v ∷ []) in omega arith
 
 pub sum_by-most : (f : PassView → ℕ) (m : ℕ) (vs : List PassView) → ((i : ℕ) (v : PassView) → At vs i v → f v ≤ m) → sum_by f vs ≤ length vs * m
 sum_by-most f m [] each = omega arith

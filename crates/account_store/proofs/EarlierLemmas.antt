@@ -1,7 +1,6 @@
 -- The numbers that the first changes of a kind name.
-use Rattle.std.proofs.Common.{◌≡◌, ℕ, ◌==◌, ◌&&◌, Bool, true, false, if◌then◌else◌, List, [], ◌∷◌, ◌++◌, Option, None, drop, filter, is_some, take, refl, sym, ap, ◌∙◌, append-nil, arith}
+use Rattle.std.proofs.Common.{◌≡◌, ℕ, ◌==◌, ◌&&◌, Bool, true, false, if◌then◌else◌, List, [], ◌∷◌, ◌++◌, Option, None, drop, filter, is_some, take, refl, sym, ap, ◌∙◌, append-nil}
 use Rattle.std.proofs.lemmas.Bool.{or_parts}
-use Rattle.std.proofs.lemmas.Grind.{common_steps}
 use Rattle.std.proofs.lemmas.List.{take-append-drop}
 use Rattle.std.proofs.lemmas.List.Elements.{filter-append}
 use Rattle.spec_history.specs.History.{ids_at, ids_from, is_kind, live_object, names, object_from, with_id}
@@ -11,6 +10,7 @@ use Rattle.spec_history.specs.declared.entry.Kind.{Kind}
 use Rattle.spec_json.specs.declared.tree.Tree.{Tree}
 use Rattle.state_log.proofs.SizeLemmas.{is_in-with_id}
 use Rattle.version_table.specs.Histories.{of_kind}
+use Rattle.spec_json.proofs.Booleans.{eqb_sym}
 
 -- ---- the numbers of some changes, by kind and in two parts
 
@@ -52,14 +52,11 @@ module _ (p : ℕ → Bool) where
 
 -- ---- numbers that no change names
 
-same_id : (a b : ℕ) → (a == b) ≡ (b == a)
-same_id a b = grind (arith, common_steps)
-
 unnamed_step : (c : Change) (ids : List ℕ) (id : ℕ) (before : Option Tree) → (is_in ids id ≡ false → is_some before ≡ false) → (b : Bool)
     → is_in (if b then with_id ids c.id else ids) id ≡ false → is_some (if b && (id == c.id) then c.object else before) ≡ false
 unnamed_step c ids id before h true absent =
     let parts = or_parts (is_in ids id) (c.id == id) (sym (is_in-with_id ids c.id id) ∙ absent) in
-    ap (λ d. is_some (if d then c.object else before)) (same_id id c.id ∙ parts.1) ∙ h parts.0
+    ap (λ d. is_some (if d then c.object else before)) (eqb_sym id c.id ∙ parts.1) ∙ h parts.0
 unnamed_step c ids id before h false absent = h absent
 
 unnamed : (cs : List Change) (kind : Kind) (ids : List ℕ) (id : ℕ) (before : Option Tree) → (is_in ids id ≡ false → is_some before ≡ false) → is_in (ids_from ids cs kind) id ≡ false → is_some (object_from before cs kind id) ≡ false

@@ -69,7 +69,7 @@ of_kind_more : (cs : List Change) (c : Change) (kind : Kind) (b : Bool) → is_k
 of_kind_more cs c kind true e = filter-append (λ x. is_kind kind x.kind) cs (c ∷ []) ∙ ap (λ b. of_kind kind cs ++ (if b then c ∷ [] else [])) e
 of_kind_more cs c kind false e = filter-append (λ x. is_kind kind x.kind) cs (c ∷ []) ∙ ap (λ b. of_kind kind cs ++ (if b then c ∷ [] else [])) e ∙ append-nil (of_kind kind cs)
 
-same_kind : (a b : Kind) → is_kind a b ≡ true → a ≡ b
+pub same_kind : (a b : Kind) → is_kind a b ≡ true → a ≡ b
 same_kind Calendar Calendar h = refl
 same_kind Event Event h = refl
 same_kind Calendar Event h = absurd (false≢true h)

@@ -1,11 +1,12 @@
 -- Runs are determined by the instants that they cover.
 use Rattle.std.proofs.Common.{◌≡◌, inl, inr, true, refl, sym, ◌∙◌, subst, arith, ℤ, ◌≤ℤ◌, ◌<ℤ◌, List, [], ◌∷◌}
 use Rattle.std.proofs.lemmas.Int.{by_lt_z}
+use Rattle.std.proofs.lemmas.Bool.{or_left, or_right, or_cases}
 use Rattle.jiff_core.proofs.SignedLemmas.{signed_arith}
 use Rattle.availability.proofs.Runs.{covers_is, is_covers, run_of}
 use Rattle.spec_windows.specs.declared.period.Period.{Period}
 use Rattle.spec_windows.specs.BusyPeriods.{are_runs, lies_in, is_busy}
-use Rattle.rule_expand.proofs.Sets.{or_cases, or_left, or_right, same_truth}
+use Rattle.spec_json.proofs.Booleans.{same_truth}
 
 busy_late : (low high u : ℤ) (ps : List Period) → are_runs low high ps ≡ true → is_busy ps u ≡ true → low <ℤ u
 busy_late low high u [] r h = cc

@@ -1,19 +1,14 @@
 -- The place of one more period, and the merging from there on.
-use Rattle.std.proofs.Common.{not, set, ◌≡◌, ℕ, zero, suc, ◌+◌, ◌<◌, ◌≤◌, Bool, true, false, refl, sym, ap, ◌∙◌, arith, int_lt, List, [], ◌∷◌, ◌++◌, length, drop, take, get_or, add-one, append_assoc}
+use Rattle.std.proofs.Common.{not, set, ◌≡◌, ℕ, zero, suc, ◌+◌, ◌<◌, ◌≤◌, true, false, refl, sym, ap, ◌∙◌, arith, int_lt, List, [], ◌∷◌, ◌++◌, length, drop, take, get_or, add-one, append_assoc}
 use Rattle.std.specs.Prelude.{remove}
 use Rattle.std.proofs.lemmas.List.{drop_all, drop_more, take_more, set_split}
+use Rattle.std.proofs.lemmas.Bool.{not-false, not-true}
+use Rattle.std.proofs.lemmas.List.Edits.{length-remove}
 use Rattle.availability.specs.Merging.{hull, is_reached, touches_first, merged, with_period}
 use Rattle.spec_windows.specs.declared.period.Period.{Period}
 use Rattle.rule_expand.proofs.Places.{late_is}
-use Rattle.availability.proofs.Runs.{int_lt_not, merged_last, merged_more, merged_stop, period_here, period_last, period_pass}
-
-not_is : (b : Bool) → not b ≡ true → b ≡ false
-not_is true h = sym h
-not_is false h = refl
-
-not_false : (b : Bool) → not b ≡ false → b ≡ true
-not_false true h = refl
-not_false false h = sym h
+use Rattle.availability.proofs.Runs.{merged_last, merged_more, merged_stop, period_here, period_last, period_pass}
+use Rattle.civil_days.proofs.Orders.{int_lt_not}
 
 -- one more period that ends before the span
 pub place_more : (ps : List Period) (i : ℕ) (s d : Period) → i < length ps → int_lt (get_or ps i d).to s.from ≡ true → take i ps ++ with_period s (drop i ps) ≡ with_period s ps
@@ -42,11 +37,11 @@ touched_end ps i s le = rw (drop_all i ps le) refl
 -- a period that isn't touched comes after
 stop_at : (s : Period) (ps : List Period) → touches_first s ps ≡ false → merged s ps ≡ s ∷ ps
 stop_at s [] h = merged_last s
-stop_at s (p ∷ ps) h = merged_stop s p ps (late_is s.to p.from (not_false (int_lt s.to p.from) h))
+stop_at s (p ∷ ps) h = merged_stop s p ps (late_is s.to p.from (not-false (int_lt s.to p.from) h))
 
 placed_at : (s : Period) (ps : List Period) → is_reached s ps ≡ true → with_period s ps ≡ merged s ps
 placed_at s [] h = period_last s ∙ sym (merged_last s)
-placed_at s (p ∷ ps) h = period_here s p ps (int_lt_not p.to s.from (not_is (int_lt p.to s.from) h))
+placed_at s (p ∷ ps) h = period_here s p ps (int_lt_not p.to s.from (not-true (int_lt p.to s.from) h))
 
 pub inserts : (ps : List Period) (i : ℕ) (s : Period) → take i ps ++ with_period s (drop i ps) ≡ with_period s ps → is_reached s (drop i ps) ≡ true → touches_first s (drop i ps) ≡ false → take i ps ++ s ∷ drop i ps ≡ with_period s ps
 inserts ps i s old r t = ap (λ x. take i ps ++ x) (sym (placed_at s (drop i ps) r ∙ stop_at s (drop i ps) t)) ∙ old
@@ -54,20 +49,17 @@ inserts ps i s old r t = ap (λ x. take i ps ++ x) (sym (placed_at s (drop i ps)
 pub merges : (ps : List Period) (i : ℕ) (s : Period) → take i ps ++ with_period s (drop i ps) ≡ with_period s ps → is_reached s (drop i ps) ≡ true → take i ps ++ merged s (drop i ps) ≡ with_period s ps
 merges ps i s old r = ap (λ x. take i ps ++ x) (sym (placed_at s (drop i ps) r)) ∙ old
 
-touched_within : (ps : List Period) (i : ℕ) (s : Period) → touches_first s (drop i ps) ≡ true → i < length ps
+pub touched_within : (ps : List Period) (i : ℕ) (s : Period) → touches_first s (drop i ps) ≡ true → i < length ps
 touched_within [] zero s h = cc
 touched_within [] (suc i) s h = cc
 touched_within (p ∷ ps) zero s h = omega arith
 touched_within (p ∷ ps) (suc i) s h = omega (arith, touched_within ps i s h)
 
-pub touched_is_within : (ps : List Period) (i : ℕ) (s : Period) → touches_first s (drop i ps) ≡ true → i < length ps
-touched_is_within ps i s h = touched_within ps i s h
-
 merges_head : (ps : List Period) (i : ℕ) (s d : Period) → touches_first s (drop i ps) ≡ true → merged s (drop i ps) ≡ merged (hull (get_or ps i d) s) (drop (i + 1) ps)
 merges_head ps i s d h =
     let lt = touched_within ps i s h in
     let e = sym (touched_here ps i s d lt) ∙ h in
-    ap (merged s) (drop_more ps i d lt) ∙ merged_more s (get_or ps i d) (drop (i + 1) ps) (int_lt_not s.to (get_or ps i d).from (not_is (int_lt s.to (get_or ps i d).from) e))
+    ap (merged s) (drop_more ps i d lt) ∙ merged_more s (get_or ps i d) (drop (i + 1) ps) (int_lt_not s.to (get_or ps i d).from (not-true (int_lt s.to (get_or ps i d).from) e))
 
 -- the loop that merges
 pub merge_begun : (ps : List Period) (i : ℕ) (s d : Period) → touches_first s (drop i ps) ≡ true → take i ps ++ merged (hull (get_or ps i d) s) (drop (i + 1) ps) ≡ take i ps ++ merged s (drop i ps)
@@ -101,14 +93,9 @@ pub more_at : (ps next : List Period) (i : ℕ) (s x y : Period) (old : List Per
     → take i next ++ merged y (drop (i + 1) next) ≡ old
 more_at ps next i s x y old n e f h o = rw n (ap (λ z. take i (remove ps (i + 1)) ++ merged z (drop (i + 1) (remove ps (i + 1)))) (f ∙ ap (λ z. hull z s) e) ∙ merge_more ps i s x old h o)
 
-removed_length : (ps : List Period) (k : ℕ) → k < length ps → length (remove ps k) + 1 ≡ length ps
-removed_length [] k h = absurd (omega arith)
-removed_length (p ∷ ps) zero h = omega arith
-removed_length (p ∷ ps) (suc k) h = omega (arith, removed_length ps k (omega arith))
-
 pub within_more : (ps next : List Period) (i : ℕ) (s : Period) → next ≡ remove ps (i + 1) → touches_first s (drop (i + 1) ps) ≡ true → (i < length next) × (length next < length ps)
 within_more ps next i s n h =
     let lt = touched_within ps (i + 1) s h in
-    let e = removed_length ps (i + 1) lt in
+    let e = length-remove ps (i + 1) lt in
     let m = ap length n in
     (omega (arith, lt, e, m), omega (arith, lt, e, m))

@@ -1,19 +1,20 @@
 -- Runs of busy instants, and one more period among them.
-use Rattle.std.proofs.Common.{◌&&◌, ◌||◌, ◌≡◌, inl, inr, Bool, true, false, refl, sym, ap, ◌∙◌, arith, ℤ, pos, ◌≤ℤ◌, ◌<ℤ◌, ◌-ℤ◌, int_lt, int_le, List, [], ◌∷◌}
+use Rattle.std.proofs.Common.{◌&&◌, ◌||◌, ◌≡◌, inl, inr, Bool, true, false, refl, ap, ◌∙◌, arith, ℤ, pos, ◌≤ℤ◌, ◌<ℤ◌, ◌-ℤ◌, int_lt, int_le, List, [], ◌∷◌}
 use Rattle.std.specs.Prelude.{Result, Ok, Err, OnOk, OnErr}
 use Rattle.std.proofs.lemmas.Int.{by_lt_z, ints, clamps}
+use Rattle.std.proofs.lemmas.Bool.{or_left, or_right, and_from, or_cases, false_from_ne_true, and_parts}
+use Rattle.std.proofs.Math.Bool.{or_assoc, or_comm}
 use Rattle.jiff_core.proofs.SignedLemmas.{signed_arith}
 use Rattle.availability.specs.Merging.{common, hull, merged, with_period}
 use Rattle.spec_windows.specs.declared.period.Period.{Period}
 use Rattle.spec_windows.specs.BusyPeriods.{are_runs, lies_in, is_busy}
-use Rattle.rule_expand.proofs.Places.{and_both, is_late, late_is}
-use Rattle.rule_expand.proofs.Sets.{both_and, int_le_is, is_int_le, not_true, or_cases, or_left, or_right, same_truth}
+use Rattle.rule_expand.proofs.Places.{is_late, late_is}
+use Rattle.civil_days.proofs.Orders.{int_le_is, is_int_le}
+use Rattle.spec_json.proofs.Booleans.{same_truth}
+use Rattle.spec_json.proofs.Booleans.{or_nothing, or_swap}
 
 pub not_int_lt : (a b : ℤ) → b ≤ℤ a → int_lt a b ≡ false
 not_int_lt a b h = grind (arith, signed_arith)
-
-pub int_lt_not : (a b : ℤ) → int_lt a b ≡ false → b ≤ℤ a
-int_lt_not a b h = grind (arith, signed_arith)
 
 pub period_pass : (s p : Period) (ps : List Period) → p.to <ℤ s.from → with_period s (p ∷ ps) ≡ p ∷ with_period s ps
 unfolding with_period
@@ -49,15 +50,15 @@ pub record IsRun (low high : ℤ) (p : Period) (ps : List Period) : Type 0 where
 pub run_of : (low high : ℤ) (p : Period) (ps : List Period) → are_runs low high (p ∷ ps) ≡ true → IsRun low high p ps
 unfolding are_runs
 run_of low high p ps h =
-    let a = and_both (int_lt low p.from) _ h in
-    let b = and_both (int_lt p.from p.to) _ a.1 in
-    let d = and_both (int_le p.to high) _ b.1 in
+    let a = and_parts (int_lt low p.from) _ h in
+    let b = and_parts (int_lt p.from p.to) _ a.1 in
+    let d = and_parts (int_le p.to high) _ b.1 in
     record { after = late_is low p.from a.0; full = late_is p.from p.to b.0; within = int_le_is p.to high d.0; rest = d.1 }
 
 of_run : (low high : ℤ) (p : Period) (ps : List Period) → IsRun low high p ps → are_runs low high (p ∷ ps) ≡ true
 unfolding are_runs
 of_run low high p ps r =
-    both_and (int_lt low p.from) _ (is_late low p.from r.after) (both_and (int_lt p.from p.to) _ (is_late p.from p.to r.full) (both_and (int_le p.to high) _ (is_int_le p.to high r.within) r.rest))
+    and_from (int_lt low p.from) _ (is_late low p.from r.after) (and_from (int_lt p.from p.to) _ (is_late p.from p.to r.full) (and_from (int_le p.to high) _ (is_int_le p.to high r.within) r.rest))
 
 pub no_runs : (low high : ℤ) → are_runs low high [] ≡ true
 unfolding are_runs
@@ -88,21 +89,11 @@ runs_with low high s (p ∷ ps) a b d h =
     (λ past. rw (period_pass s p ps past) (of_run low high p (with_period s ps) (record { after = r.after; full = r.full; within = r.within; rest = runs_with p.to high s ps past b d r.rest })))
     (λ near. rw (period_here s p ps near) (merged_runs low low high s (p ∷ ps) a b d (omega (arith, signed_arith)) h))
 
-or_swap : (a b d : Bool) → (a || (b || d)) ≡ (b || (a || d))
-or_swap true true d = refl
-or_swap true false d = refl
-or_swap false true d = refl
-or_swap false false d = refl
-
-pub or_join : (a b d : Bool) → ((a || b) || d) ≡ (a || (b || d))
-or_join true b d = refl
-or_join false b d = refl
-
 pub covers_is : (u : ℤ) (p : Period) → lies_in u p ≡ true → (p.from ≤ℤ u) × (u <ℤ p.to)
-covers_is u p h = let x = and_both (int_le p.from u) _ h in (int_le_is p.from u x.0, late_is u p.to x.1)
+covers_is u p h = let x = and_parts (int_le p.from u) _ h in (int_le_is p.from u x.0, late_is u p.to x.1)
 
 pub is_covers : (u : ℤ) (p : Period) → p.from ≤ℤ u → u <ℤ p.to → lies_in u p ≡ true
-is_covers u p h k = both_and (int_le p.from u) _ (is_int_le p.from u h) (is_late u p.to k)
+is_covers u p h k = and_from (int_le p.from u) _ (is_int_le p.from u h) (is_late u p.to k)
 
 lies_in_hull : (u : ℤ) (p s : Period) → p.from <ℤ p.to → s.from <ℤ s.to → s.from ≤ℤ p.to → p.from ≤ℤ s.to → lies_in u (hull p s) ≡ (lies_in u s || lies_in u p)
 lies_in_hull u p s a b d e = same_truth (lies_in u (hull p s)) (lies_in u s || lies_in u p)
@@ -126,7 +117,7 @@ merged_busy low high u s (p ∷ ps) b le h =
     (λ touch. ap (λ x. is_busy x u) (merged_more s p ps touch)
     ∙ merged_busy p.to high u (hull p s) ps (omega (arith, ints, clamps, b, r.full)) (omega (arith, ints, clamps, r.full)) r.rest
     ∙ ap (λ x. x || is_busy ps u) (lies_in_hull u p s r.full b (omega (arith, signed_arith, le, r.after, r.full)) touch)
-    ∙ or_join (lies_in u s) (lies_in u p) (is_busy ps u))
+    ∙ or_assoc (lies_in u s) (lies_in u p) (is_busy ps u))
 
 pub busy_with : (low high u : ℤ) (s : Period) (ps : List Period) → s.from <ℤ s.to → are_runs low high ps ≡ true → is_busy (with_period s ps) u ≡ (lies_in u s || is_busy ps u)
 busy_with low high u s [] b h = ap (λ x. is_busy x u) (period_last s)
@@ -139,10 +130,10 @@ busy_with low high u s (p ∷ ps) b h =
     (λ touch. ap (λ x. is_busy x u) (merged_more s p ps touch)
     ∙ merged_busy p.to high u (hull p s) ps (omega (arith, ints, clamps, b, r.full)) (omega (arith, ints, clamps, r.full)) r.rest
     ∙ ap (λ x. x || is_busy ps u) (lies_in_hull u p s r.full b near touch)
-    ∙ or_join (lies_in u s) (lies_in u p) (is_busy ps u)))
+    ∙ or_assoc (lies_in u s) (lies_in u p) (is_busy ps u)))
 
 int_lt_both : (a b : Bool) → (a ≡ true → b ≡ true → ⊥) → (a && b) ≡ false
-int_lt_both true b h = not_true b (h refl)
+int_lt_both true b h = false_from_ne_true b (h refl)
 int_lt_both false b h = refl
 
 -- the part of a period in the window
@@ -156,26 +147,16 @@ common_empty u p w e = int_lt_both (lies_in u w) (lies_in u p) (λ h k.
 common_covers : (u : ℤ) (p w : Period) → lies_in u (common p w) ≡ (lies_in u w && lies_in u p)
 common_covers u p w = same_truth (lies_in u (common p w)) (lies_in u w && lies_in u p)
     (λ h. let x = covers_is u (common p w) h in
-    both_and (lies_in u w) (lies_in u p)
+    and_from (lies_in u w) (lies_in u p)
     (is_covers u w (omega (arith, ints, clamps, x.0)) (omega (arith, ints, clamps, x.1)))
     (is_covers u p (omega (arith, ints, clamps, x.0)) (omega (arith, ints, clamps, x.1))))
-    (λ h. let z = and_both (lies_in u w) (lies_in u p) h in
+    (λ h. let z = and_parts (lies_in u w) (lies_in u p) h in
     let x = covers_is u w z.0 in
     let y = covers_is u p z.1 in
     is_covers u (common p w) (omega (arith, ints, clamps, x.0, y.0)) (omega (arith, ints, clamps, x.1, y.1)))
 
-or_none : (a b : Bool) → b ≡ false → a ≡ (a || b)
-or_none true b h = refl
-or_none false b h = sym h
-
-or_turned : (a b : Bool) → (a || b) ≡ (b || a)
-or_turned true true = refl
-or_turned true false = refl
-or_turned false true = refl
-or_turned false false = refl
-
 pub marks_nothing : (p w : Period) (ps : List Period) → int_le (common p w).to (common p w).from ≡ true → (u : ℤ) → is_busy ps u ≡ (is_busy ps u || (lies_in u w && lies_in u p))
-marks_nothing p w ps e = λ u. or_none (is_busy ps u) (lies_in u w && lies_in u p) (common_empty u p w e)
+marks_nothing p w ps e = λ u. or_nothing (is_busy ps u) (lies_in u w && lies_in u p) (common_empty u p w e)
 
 pub int_le_not : (a b : ℤ) → int_le a b ≡ false → b <ℤ a
 int_le_not a b h = grind (arith, signed_arith)
@@ -187,7 +168,7 @@ pub marks_busy : (p w : Period) (ps : List Period) → int_le (common p w).to (c
     → (u : ℤ) → is_busy (with_period (common p w) ps) u ≡ (is_busy ps u || (lies_in u w && lies_in u p))
 marks_busy p w ps e h = λ u.
     busy_with (w.from -ℤ pos 1) w.to u (common p w) ps (int_le_not (common p w).to (common p w).from e) h
-    ∙ or_turned (lies_in u (common p w)) (is_busy ps u)
+    ∙ or_comm (lies_in u (common p w)) (is_busy ps u)
     ∙ ap (λ b. is_busy ps u || b) (common_covers u p w)
 
 pub runs_either : {E : Type 0} (r : Result (Unit {0}) E) (low high : ℤ) (s : Period) (old next : List Period) → OnOk r (next ≡ with_period s old) → OnErr r (next ≡ old)

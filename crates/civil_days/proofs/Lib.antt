@@ -4,3 +4,5 @@ pub mod YearLemmas
 pub mod MonthLemmas
 pub mod DateLemmas
 pub mod JiffLemmas
+pub mod Orders
+pub mod WallLemmas

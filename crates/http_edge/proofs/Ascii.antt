@@ -1,5 +1,5 @@
 -- Which bytes are ASCII.
-use Rattle.std.proofs.Common.{◌≡◌, ℕ, ◌<◌, List, [], ◌∷◌, length, Bool, true, false, refl, arith}
+use Rattle.std.proofs.Common.{◌≡◌, ℕ, ◌<◌, List, [], ◌∷◌, length, true, arith}
 use Rattle.std.specs.Prelude.{◌&&◌, nat_lt, nat_le}
 use Rattle.std.specs.Char.{is_ascii_graphic}
 use Rattle.std.specs.List.{list_all, All}
@@ -7,12 +7,9 @@ use Rattle.std.specs.Str.{IsAscii}
 use Rattle.std.proofs.lemmas.Bool.Decides.{nat_tests}
 use Rattle.std.proofs.lemmas.List.Elements.{All-tail}
 use Rattle.std.proofs.lemmas.Str.Ascii.{IsAscii-cons, IsAscii-nil}
+use Rattle.std.proofs.lemmas.Bool.{and_parts}
 use Rattle.httparse.specs.Grammar.{is_token_byte}
 use Rattle.spec_core.specs.Names.{is_token}
-
-both : (p q : Bool) → (p && q) ≡ true → (p ≡ true) × (q ≡ true)
-both true q e = (refl, e)
-both false q e = let bad : ⊥ = cc in absurd bad
 
 graphic_ascii : (b : ℕ) → is_ascii_graphic b ≡ true → b < 128
 graphic_ascii b h = grind (arith, nat_tests)
@@ -20,14 +17,14 @@ graphic_ascii b h = grind (arith, nat_tests)
 all_graphic_ascii : (text : List ℕ) → list_all is_ascii_graphic text ≡ true → IsAscii text
 all_graphic_ascii [] h = IsAscii-nil
 all_graphic_ascii (b ∷ text) h =
-    let e = both (is_ascii_graphic b) (list_all is_ascii_graphic text) h in
+    let e = and_parts (is_ascii_graphic b) (list_all is_ascii_graphic text) h in
     IsAscii-cons b text (graphic_ascii b e.0) (all_graphic_ascii text e.1)
 
 -- a bearer token
 pub token_ascii : (text : List ℕ) → is_token text ≡ true → IsAscii text
 token_ascii text h =
-    let some = both (nat_lt 0 (length text)) (nat_le (length text) 255 && list_all is_ascii_graphic text) h in
-    let short = both (nat_le (length text) 255) (list_all is_ascii_graphic text) some.1 in
+    let some = and_parts (nat_lt 0 (length text)) (nat_le (length text) 255 && list_all is_ascii_graphic text) h in
+    let short = and_parts (nat_le (length text) 255) (list_all is_ascii_graphic text) some.1 in
     all_graphic_ascii text short.1
 
 token_byte_ascii : (b : ℕ) → is_token_byte b ≡ true → b < 128

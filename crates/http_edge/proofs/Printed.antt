@@ -1,11 +1,12 @@
 -- A head that is printed, and what follows it, are a message.
 use Rattle.std.proofs.Common.{◌≡◌, ℕ, suc, ◌+◌, ◌-◌, ◌<◌, ◌≤◌, List, [], ◌∷◌, ◌++◌, length, take, drop, cond, Bool, true, false, Some, None, refl, sym, ap, ap₂, ◌∙◌, subst, append_assoc, append-nil, arith, length-append, All}
-use Rattle.std.specs.Prelude.{◌==◌, ◌||◌, ⊤}
+use Rattle.std.specs.Prelude.{◌==◌, ⊤}
 use Rattle.std.specs.List.{flat_map}
 use Rattle.std.proofs.Math.Seq.{take-append_seam, drop-append_seam, take-append-add}
 use Rattle.std.proofs.lemmas.Bool.Decides.{nat_tests}
 use Rattle.std.proofs.lemmas.List.Elements.{All-tail}
 use Rattle.std.proofs.lemmas.List.Sums.{sum_by-append, sum_by-cons}
+use Rattle.std.proofs.lemmas.Bool.{or_parts}
 use Rattle.httparse.specs.Grammar.{RequestHead, IsRequestHead, print_request, print_blank, print_version, LineEnd, lf, crlf, print_end, Field, IsField, print_field, print_section, is_token_byte, is_uri_byte, is_value_byte, AllPass}
 use Rattle.httparse.proofs.GrammarLemmas.{print_request-append, cons-append}
 use Rattle.httparse.proofs.PieceLemmas.{token_is_no_newline}
@@ -26,12 +27,8 @@ no_feed-append : (a b : List ℕ) → NoFeed a → NoFeed b → NoFeed (a ++ b)
 no_feed-append [] b h k = k
 no_feed-append (x ∷ a) b h k = (h.0, no_feed-append a b h.1 k)
 
-either : (p q : Bool) → (p || q) ≡ false → (p ≡ false) × (q ≡ false)
-either true q e = let bad : ⊥ = cc in absurd bad
-either false q e = (refl, e)
-
 token_byte : (b : ℕ) → is_token_byte b ≡ true → ((b == 13) ≡ false) × ((b == 10) ≡ false)
-token_byte b h = either (b == 13) (b == 10) (token_is_no_newline b h)
+token_byte b h = or_parts (b == 13) (b == 10) (token_is_no_newline b h)
 
 uri_byte : (b : ℕ) → is_uri_byte b ≡ true → (b == 10) ≡ false
 uri_byte b h = grind (arith, nat_tests)

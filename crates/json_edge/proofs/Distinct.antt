@@ -1,7 +1,6 @@
 -- The members that were kept so far, and those still to come.
 use Rattle.std.proofs.Common.{◌≡◌, ℕ, zero, suc, List, [], ◌∷◌, ◌++◌, Option, Some, None, option_map, true, false, length, get_or, map, refl, sym, ap, append_assoc, arith}
-use Rattle.std.proofs.lemmas.Bool.{and_from}
-use Rattle.spec_json.proofs.KeyOrder.{both}
+use Rattle.std.proofs.lemmas.Bool.{and_from, and_parts}
 use Rattle.spec_json.specs.Data.{Data, Pair}
 use Rattle.spec_json.specs.ObjectKeys.{is_above, keys_rise}
 use Rattle.spec_json.specs.TreeData.{pair_of}
@@ -39,4 +38,4 @@ not_all last k es h = rw h refl
 pub rises_on : (ps : List Pair) (p : Pair) → keys_rise ps ≡ true → is_next (last_key ps) p.0 ≡ true → keys_rise (ps ++ p ∷ []) ≡ true
 rises_on [] p h n = refl
 rises_on (q ∷ []) p h n = rw n refl
-rises_on (q ∷ r ∷ ps) p h n = let rest = both (is_above q.0 (r ∷ ps)) (keys_rise (r ∷ ps)) h in and_from _ _ rest.0 (rises_on (r ∷ ps) p rest.1 n)
+rises_on (q ∷ r ∷ ps) p h n = let rest = and_parts (is_above q.0 (r ∷ ps)) (keys_rise (r ∷ ps)) h in and_from _ _ rest.0 (rises_on (r ∷ ps) p rest.1 n)

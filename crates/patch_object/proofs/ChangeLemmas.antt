@@ -1,13 +1,12 @@
 -- Changes that go through the same member are made in it at once.
 use Rattle.std.proofs.Common.{◌≡◌, zero, suc, ◌+◌, ◌<◌, ◌≤◌, ℕ, List, [], ◌∷◌, ◌++◌, Bool, true, false, Some, None, get_or, drop, take, length, map, add-one, arith, sym, ap, refl, ◌∙◌, subst}
-use Rattle.std.proofs.lemmas.Bool.{and_from}
-use Rattle.std.proofs.lemmas.List.{drop-drop, map-append, take-append-drop}
+use Rattle.std.proofs.lemmas.Bool.{and_from, and_parts}
+use Rattle.std.proofs.lemmas.List.{drop-drop, map-append, take-append-drop, drop_all}
 use Rattle.std.proofs.lemmas.Slice.Eq.{bytes_eq-Decides}
 use Rattle.std.specs.Cmp.Lexicographic.{slice_cmp}
 use Rattle.std.specs.Ordering.{nat_cmp, is_lt}
 use Rattle.std.specs.Str.{bytes_eq}
 use Rattle.spec_json.proofs.EditLemmas.{below_unlike, equal_not_below, with_pair-without}
-use Rattle.spec_json.proofs.KeyOrder.{both}
 use Rattle.spec_json.specs.Data as own
 use Rattle.spec_json.specs.Data.{Data, Pair, lookup, members_of, object, pairs_back, pairs_of}
 use Rattle.spec_json.specs.Edit.{with_pair, without}
@@ -17,9 +16,7 @@ use Rattle.spec_json.specs.TreeData.{data_of}
 use Rattle.patch_object.proofs.Paths.{without-absent}
 use Rattle.patch_object.specs.Edits.{Change, all_through, all_through_first, behind_first, change_from, goes_through, is_group, longest, placed_each}
 use Rattle.patch_object.specs.declared.place.Edit.{Edit}
-
-same_key : (k : List ℕ) → bytes_eq k k ≡ true
-same_key k = (bytes_eq-Decides k k).1 refl
+use Rattle.spec_json.proofs.KeyOrder.{same_key}
 
 lookup_step : (k : List ℕ) (v : Data) (p : Pair) (ps : List Pair) → lookup k (with_pair k v ps) ≡ Some v → (below same : Bool) → is_lt (slice_cmp nat_cmp p.0 k) ≡ below → bytes_eq p.0 k ≡ same → lookup k (with_pair k v (p ∷ ps)) ≡ Some v
 lookup_step k v p ps h true same b s = rw (b, below_unlike p.0 k b) h
@@ -62,9 +59,9 @@ through_absent k (p ∷ (q ∷ ps)) v ms t h = rw ((bytes_eq-Decides p k).0 t, h
 
 -- changes through a member that is there
 all_found : (k : List ℕ) (e : Change) (es : List Change) (d : Data) (ms : List Pair) → all_through k (e ∷ es) ≡ true → lookup k ms ≡ Some d → placed_each (e ∷ es) ms ≡ with_pair k (on_members (placed_each (map behind_first (e ∷ es))) d) ms
-all_found k e [] d ms t h = through_found k e.0 e.1 d ms (both (goes_through k e.0) true t).0 h
+all_found k e [] d ms t h = through_found k e.0 e.1 d ms (and_parts (goes_through k e.0) true t).0 h
 all_found k e (f ∷ fs) d ms t h =
-    let through = both (goes_through k e.0) (all_through k (f ∷ fs)) t in
+    let through = and_parts (goes_through k e.0) (all_through k (f ∷ fs)) t in
     let first : Data = on_members (λ ns. placed_in (drop 1 e.0) e.1 ns) d in
     ap (λ ns. placed_each (f ∷ fs) ns) (through_found k e.0 e.1 d ms through.0 h)
     ∙ all_found k f fs first (with_pair k first ms) through.1 (lookup_with k first ms)
@@ -75,7 +72,7 @@ all_found k e (f ∷ fs) d ms t h =
 all_absent : (k : List ℕ) (es : List Change) (ms : List Pair) → all_through k es ≡ true → lookup k ms ≡ None → placed_each es ms ≡ ms
 all_absent k [] ms t h = refl
 all_absent k (e ∷ es) ms t h =
-    let through = both (goes_through k e.0) (all_through k es) t in
+    let through = and_parts (goes_through k e.0) (all_through k es) t in
     rw (through_absent k e.0 e.1 ms through.0 h) (all_absent k es ms through.1 h)
 
 -- changes made in two goes
@@ -84,12 +81,6 @@ placed_on [] fs ms = refl
 placed_on (e ∷ es) fs ms = placed_on es fs (placed_in e.0 e.1 ms)
 
 -- ---- groups of edits, by what the path of the first is
-
-none_left : (ps : List (List ℕ)) (i : ℕ) → length ps ≤ i → drop i ps ≡ []
-none_left [] zero h = refl
-none_left [] (suc i) h = refl
-none_left (p ∷ ps) zero h = absurd (omega arith)
-none_left (p ∷ ps) (suc i) h = none_left ps i (omega arith)
 
 last_left : (ps : List (List ℕ)) (i : ℕ) (k d : List ℕ) → i + 1 ≡ length ps → k ≡ get_or ps i d → drop i ps ≡ k ∷ []
 last_left [] i k d h e = absurd (omega (arith, h))
@@ -116,8 +107,8 @@ behind_all (g ∷ gs) i = let first : behind_first (change_from i g) ≡ change_
 
 pub group_ended : (gs : List Edit) (i : ℕ) (e : Edit) (ms : List Pair) → is_group (map (change_from i) gs) ≡ true → length (get_or gs 0 e).pointer ≤ i → ms ≡ placed_each (map (change_from i) gs) ms
 group_ended [] i e ms g h = cc
-group_ended (f ∷ []) i e ms g h = rw (none_left f.pointer i h) refl
-group_ended (f ∷ (f' ∷ fs)) i e ms g h = let none : all_through_first [] (map (change_from i) (f ∷ (f' ∷ fs))) ≡ true = subst (λ ps. all_through_first ps (map (change_from i) (f ∷ (f' ∷ fs))) ≡ true) (none_left f.pointer i h) g in cc
+group_ended (f ∷ []) i e ms g h = rw (drop_all i f.pointer h) refl
+group_ended (f ∷ (f' ∷ fs)) i e ms g h = let none : all_through_first [] (map (change_from i) (f ∷ (f' ∷ fs))) ≡ true = subst (λ ps. all_through_first ps (map (change_from i) (f ∷ (f' ∷ fs))) ≡ true) (drop_all i f.pointer h) g in cc
 
 pub group_leaf : (gs : List Edit) (i : ℕ) (e : Edit) (k d : List ℕ) (ms : List Pair) → is_group (map (change_from i) gs) ≡ true → i + 1 ≡ length (get_or gs 0 e).pointer → k ≡ get_or (get_or gs 0 e).pointer i d
     → put_or_removed k (data_of (get_or gs 0 e).value.now) ms ≡ placed_each (map (change_from i) gs) ms
@@ -125,7 +116,7 @@ group_leaf [] i e k d ms g h at = cc
 group_leaf (f ∷ []) i e k d ms g h at = rw (last_left f.pointer i k d h at) refl
 group_leaf (f ∷ (f' ∷ fs)) i e k d ms g h at =
     let through : all_through k (map (change_from i) (f ∷ (f' ∷ fs))) ≡ true = subst (λ ps. all_through_first ps (map (change_from i) (f ∷ (f' ∷ fs))) ≡ true) (last_left f.pointer i k d h at) g in
-    let first : goes_through k (drop i f.pointer) ≡ true = (both (goes_through k (drop i f.pointer)) (all_through k (map (change_from i) (f' ∷ fs))) through).0 in
+    let first : goes_through k (drop i f.pointer) ≡ true = (and_parts (goes_through k (drop i f.pointer)) (all_through k (map (change_from i) (f' ∷ fs))) through).0 in
     let none : goes_through k (k ∷ []) ≡ true = subst (λ ps. goes_through k ps ≡ true) (last_left f.pointer i k d h at) first in
     cc
 
@@ -169,7 +160,7 @@ pub through_more : (es : List Edit) (n i : ℕ) (k : List ℕ) (e : Edit) → n 
 through_more [] n i k e h a t = absurd (omega arith)
 through_more (f ∷ fs) zero i k e h a t = and_from _ _ t refl
 through_more (f ∷ fs) (suc n) i k e h a t =
-    let through = both (goes_through k (drop i f.pointer)) (all_through k (map (change_from i) (take n fs))) a in
+    let through = and_parts (goes_through k (drop i f.pointer)) (all_through k (map (change_from i) (take n fs))) a in
     rw (add-one (suc n)) (and_from _ _ through.0 (rw (add-one n) at (through_more fs n i k e (omega arith) through.1 t)))
 
 -- ---- by which recursions over groups end

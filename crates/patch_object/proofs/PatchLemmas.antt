@@ -3,17 +3,18 @@ use Rattle.std.proofs.Common.{◌≡◌, ℕ, List, [], ◌∷◌, ◌++◌, ◌
 use Rattle.std.proofs.lemmas.List.{map-append}
 use Rattle.std.specs.List.{list_any}
 use Rattle.spec_json.specs.Data as own
-use Rattle.spec_json.specs.Data.{Data, Members, Pair, member, members_of, no_members, object, pairs_of}
+use Rattle.spec_json.specs.Data.{Data, Pair, members_of, object, pairs_of}
 use Rattle.spec_json.specs.Patch.{fails, first_failing, has_parent, is_prefix, on_members, patched, placed_all, placed_in, unless_failing}
 use Rattle.spec_json.specs.Pointer.{parts}
 use Rattle.spec_json.specs.TreeData.{data_of}
 use Rattle.patch_object.proofs.ChangeLemmas.{on_on, placed_on}
-use Rattle.patch_object.proofs.PointerLemmas.{or_swap}
 use Rattle.patch_object.specs.Edits.{change_of, placed_each, pointer_of}
 use Rattle.patch_object.specs.Reports.{Reports, ReportsKey}
 use Rattle.patch_object.specs.declared.patch.PatchError.{PatchError}
 use Rattle.patch_object.specs.declared.patch.PatchError.TheVariants.{InvalidPatch, NoMemory}
 use Rattle.patch_object.specs.declared.place.Edit.{Edit}
+use Rattle.spec_json.proofs.Booleans.{or_swap}
+use Rattle.spec_json.proofs.DataLemmas.{members_forth}
 
 any_more : (f : List (List ℕ) → Bool) (es : List Edit) (e : Edit) → list_any f (map pointer_of (es ++ e ∷ [])) ≡ (f e.pointer || list_any f (map pointer_of es))
 any_more f [] e = refl
@@ -52,10 +53,6 @@ same_on f g (own.whole n) h = refl
 same_on f g (own.text s) h = refl
 same_on f g (own.list ds) h = refl
 same_on f g (object ms) h = ap (λ ps. object (members_of ps)) (h (pairs_of ms))
-
-members_forth : (ms : Members) → members_of (pairs_of ms) ≡ ms
-members_forth no_members = refl
-members_forth (member k d ms) = ap (member k d) (members_forth ms)
 
 -- no changes leave the tree
 pub placed_none : (d : Data) → on_members (placed_each []) d ≡ d

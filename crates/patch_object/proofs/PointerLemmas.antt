@@ -1,6 +1,6 @@
 -- Prefixes of a path, sought among paths in a set.
 use Rattle.std.proofs.Common.{◌≡◌, zero, suc, ◌+◌, ◌<◌, ◌≤◌, ℕ, List, [], ◌∷◌, ◌||◌, Bool, true, false, Ordering, Less, Equal, Greater, length, map, take, string_bytes, arith, sym, ap, refl, ◌∙◌, subst}
-use Rattle.std.proofs.lemmas.Bool.{and_from}
+use Rattle.std.proofs.lemmas.Bool.{and_from, and_parts, or_parts}
 use Rattle.std.proofs.lemmas.Map.Text.{is_eq-slice_cmp}
 use Rattle.std.proofs.lemmas.Slice.Eq.{bytes_eq-Decides}
 use Rattle.std.specs.BTreeMap.{is_at}
@@ -11,9 +11,10 @@ use Rattle.std.specs.List.{list_any}
 use Rattle.std.specs.Ordering.{is_eq, match_ordering, ordering_then}
 use Rattle.std.specs.Str.{bytes_eq}
 use Rattle.std.specs.String.{string_cmp}
-use Rattle.spec_json.proofs.KeyOrder.{both}
+use Rattle.std.proofs.Math.Bool.{or_self_left}
 use Rattle.spec_json.specs.Patch.{is_prefix}
 use Rattle.patch_object.specs.Paths.{String, string_parts}
+use Rattle.spec_json.proofs.Booleans.{or_swap}
 
 equal_then : (o p : Ordering) → is_eq (ordering_then o p) ≡ true → (is_eq o ≡ true) × (is_eq p ≡ true)
 equal_then Less p h = cc
@@ -63,7 +64,7 @@ prefix_is_front : (e : List (List ℕ)) (path : List String) → is_prefix e (ma
 prefix_is_front [] path h = (omega arith, refl)
 prefix_is_front (p ∷ ps) [] h = cc
 prefix_is_front (p ∷ ps) (x ∷ xs) h =
-    let parts = both (bytes_eq p (string_bytes x)) (is_prefix ps (map string_bytes xs)) h in
+    let parts = and_parts (bytes_eq p (string_bytes x)) (is_prefix ps (map string_bytes xs)) h in
     let first = (bytes_eq-Decides p (string_bytes x)).0 parts.0 in
     let rest = prefix_is_front ps xs parts.1 in
     (omega (arith, rest.0), ap (λ q. q ∷ map string_bytes (take (length ps) xs)) (sym first) ∙ ap (λ qs. p ∷ qs) rest.1)
@@ -93,35 +94,22 @@ no_prefix_at path k none true h =
     cc
 no_prefix_at path k none false h = refl
 
-or_false : (a b : Bool) → (a || b) ≡ false → (a ≡ false) × (b ≡ false)
-or_false true b h = cc
-or_false false b h = (refl, h)
-
 -- where none finds one, there is none
 pub no_prefix : (path : List String) (keys : List (Vec String)) → ((n : ℕ) → n < length path + 1 → list_any (front_at path n) keys ≡ false) → list_any (λ e. is_prefix e (map string_bytes path)) (map string_parts keys) ≡ false
 no_prefix path [] none = refl
 no_prefix path (k ∷ ks) none =
-    let here : is_prefix (string_parts k) (map string_bytes path) ≡ false = no_prefix_at path k (λ n h. (or_false (front_at path n k) (list_any (front_at path n) ks) (none n h)).0) (is_prefix (string_parts k) (map string_bytes path)) refl in
-    rw here (no_prefix path ks (λ n h. (or_false (front_at path n k) (list_any (front_at path n) ks) (none n h)).1))
+    let here : is_prefix (string_parts k) (map string_bytes path) ≡ false = no_prefix_at path k (λ n h. (or_parts (front_at path n k) (list_any (front_at path n) ks) (none n h)).0) (is_prefix (string_parts k) (map string_bytes path)) refl in
+    rw here (no_prefix path ks (λ n h. (or_parts (front_at path n k) (list_any (front_at path n) ks) (none n h)).1))
 
 abbrev path_cmp : Vec String → Vec String → Ordering
 path_cmp x y = slice_cmp string_cmp x.items y.items
-
-pub or_swap : (a b c : Bool) → (a || (b || c)) ≡ (b || (a || c))
-or_swap true true c = refl
-or_swap true false c = refl
-or_swap false b c = refl
-
-or_twice : (a c : Bool) → (a || c) ≡ (a || (a || c))
-or_twice true c = refl
-or_twice false c = refl
 
 any_step : (f : List (List ℕ) → Bool) (k x : Vec String) (xs : List (Vec String)) (o : Ordering) → path_cmp k x ≡ o → list_any f (map string_parts (insert_key path_cmp xs k)) ≡ (f (string_parts k) || list_any f (map string_parts xs))
     → list_any f (map string_parts (match_ordering o (k ∷ x ∷ xs) (x ∷ xs) (x ∷ insert_key path_cmp xs k))) ≡ (f (string_parts k) || list_any f (map string_parts (x ∷ xs)))
 any_step f k x xs Less h rest = refl
 any_step f k x xs Equal h rest =
     let same : string_parts k ≡ string_parts x = equal_paths k.items x.items (ap is_eq h) in
-    rw same (or_twice (f (string_parts x)) (list_any f (map string_parts xs)))
+    rw same (sym (or_self_left (f (string_parts x)) (list_any f (map string_parts xs))))
 any_step f k x xs Greater h rest = rw rest (or_swap (f (string_parts x)) (f (string_parts k)) (list_any f (map string_parts xs)))
 
 -- one of the paths passes a test after one is added where it passes, or one of those before does

@@ -6,13 +6,16 @@ use Rattle.std.proofs.lemmas.Slice.Eq.{bytes_eq-Decides}
 use Rattle.std.specs.Cmp.Lexicographic.{slice_cmp}
 use Rattle.std.specs.Ordering.{nat_cmp, is_lt, is_eq, ordering_reverse}
 use Rattle.std.specs.Str.{bytes_eq}
+use Rattle.std.proofs.lemmas.Bool.{and_parts}
+use Rattle.std.proofs.Math.Bool.{and-false, or_assoc}
 use Rattle.spec_json.proofs.EditLemmas.{lookup_below, rises_with}
-use Rattle.spec_json.proofs.KeyOrder.{both}
 use Rattle.spec_json.specs.Data.{Pair, lookup, null}
 use Rattle.spec_json.specs.Edit.{with_pair}
 use Rattle.spec_json.specs.ObjectKeys.{is_above, keys_rise}
 use Rattle.property_table.specs.Names.{put_name, in_byte_order, has_name, is_below_first, names_rise}
 use Rattle.property_table.specs.Table.{keys_of}
+use Rattle.spec_json.proofs.KeyOrder.{same_key}
+use Rattle.spec_json.proofs.Booleans.{or_swap}
 
 abbrev cmp : List ℕ → List ℕ → Ordering
 cmp j k = slice_cmp nat_cmp j k
@@ -62,11 +65,8 @@ not_in n ms h r =
     ap (λ ns. has_name ns n) (sym (back ms)) ∙ has_keys (as_keys ms) n
     ∙ ap is_some (lookup_below n (as_keys ms) (sym (below_is n ms) ∙ h) (sym (rise_is ms) ∙ r))
 
-same_name : (n : List ℕ) → bytes_eq n n ≡ true
-same_name n = (bytes_eq-Decides n n).1 refl
-
-has_head : (n : List ℕ) (ms : List (List ℕ)) → has_name (n ∷ ms) n ≡ true
-has_head n ms = rw (same_name n) refl
+pub has_head : (n : List ℕ) (ms : List (List ℕ)) → has_name (n ∷ ms) n ≡ true
+has_head n ms = rw (same_key n) refl
 
 -- how two names lie to each other
 equal_of : (j k : List ℕ) → cmp j k ≡ Equal → j ≡ k
@@ -88,8 +88,8 @@ unique_by x xs y ys r s h next Greater e =
     absurd (let none : has_name (x ∷ xs) y ≡ false = not_in y (x ∷ xs) (greater_back x y e) r in let some : has_name (y ∷ ys) y ≡ true = has_head y ys in let eq = h y in cc)
 unique_by x xs y ys r s h next Equal e =
     let is : x ≡ y = equal_of x y e in
-    let rise = both (is_below_first x xs) (names_rise xs) r in
-    let sise = both (is_below_first y ys) (names_rise ys) s in
+    let rise = and_parts (is_below_first x xs) (names_rise xs) r in
+    let sise = and_parts (is_below_first y ys) (names_rise ys) s in
     let agree : (n : List ℕ) → has_name (x ∷ xs) n ≡ has_name (x ∷ ys) n = λ n. h n ∙ ap (λ z. has_name (z ∷ ys) n) (sym is) in
     let none : has_name ys x ≡ false = ap (has_name ys) is ∙ not_in y ys sise.0 sise.1 in
     ap (λ z. z ∷ xs) is ∙ ap (λ zs. y ∷ zs) (next ys rise.1 sise.1 (λ n. tails_agree x xs ys (not_in x xs rise.0 rise.1) none agree n (bytes_eq x n) refl))
@@ -108,18 +108,12 @@ twice false false c e = refl
 twice true false c e = cc
 twice false true c e = cc
 
-swap : (a b c : Bool) → (a || (b || c)) ≡ (b || (a || c))
-swap true true c = refl
-swap true false c = refl
-swap false true c = refl
-swap false false c = refl
-
 has_same : (m n k : List ℕ) (ms : List (List ℕ)) → bytes_eq m n ≡ true → has_name (m ∷ ms) k ≡ (bytes_eq n k || has_name (m ∷ ms) k)
 has_same m n k ms e = let is : m ≡ n = (bytes_eq-Decides m n).0 e in twice (bytes_eq m k) (bytes_eq n k) (has_name ms k) (ap (λ z. bytes_eq z k) is)
 
 has_put_at : (n k m : List ℕ) (ms : List (List ℕ)) → has_name (put_name n ms) k ≡ (bytes_eq n k || has_name ms k) → (below same : Bool) → bytes_eq m n ≡ same
     → has_name (if below then m ∷ put_name n ms else if same then m ∷ ms else n ∷ m ∷ ms) k ≡ (bytes_eq n k || has_name (m ∷ ms) k)
-has_put_at n k m ms h true same e = ap (λ b. bytes_eq m k || b) h ∙ swap (bytes_eq m k) (bytes_eq n k) (has_name ms k)
+has_put_at n k m ms h true same e = ap (λ b. bytes_eq m k || b) h ∙ or_swap (bytes_eq m k) (bytes_eq n k) (has_name ms k)
 has_put_at n k m ms h false true e = has_same m n k ms e
 has_put_at n k m ms h false false e = refl
 
@@ -135,23 +129,15 @@ pub has_ordered : (ns : List (List ℕ)) (k : List ℕ) → has_name (in_byte_or
 has_ordered [] k = refl
 has_ordered (n ∷ ns) k = has_put n k (in_byte_order ns) ∙ ap (λ b. bytes_eq n k || b) (has_ordered ns k)
 
-or_three : (a b c : Bool) → (a || (b || c)) ≡ ((a || b) || c)
-or_three true b c = refl
-or_three false b c = refl
-
 pub has_append : (xs ys : List (List ℕ)) (k : List ℕ) → has_name (xs ++ ys) k ≡ (has_name xs k || has_name ys k)
 has_append [] ys k = refl
-has_append (x ∷ xs) ys k = ap (λ b. bytes_eq x k || b) (has_append xs ys k) ∙ or_three (bytes_eq x k) (has_name xs k) (has_name ys k)
-
-and_false : (a : Bool) → (a && false) ≡ false
-and_false true = refl
-and_false false = refl
+has_append (x ∷ xs) ys k = ap (λ b. bytes_eq x k || b) (has_append xs ys k) ∙ sym (or_assoc (bytes_eq x k) (has_name xs k) (has_name ys k))
 
 has_filter_at : (test : List ℕ → Bool) (n k : List ℕ) (ns : List (List ℕ)) → has_name (filter test ns) k ≡ (has_name ns k && test k) → (passes same : Bool) → test n ≡ passes → bytes_eq n k ≡ same
     → has_name (if passes then n ∷ filter test ns else filter test ns) k ≡ ((same || has_name ns k) && test k)
 has_filter_at test n k ns h true true t e = let is : n ≡ k = (bytes_eq-Decides n k).0 e in rw e (sym (sym (ap test is) ∙ t))
 has_filter_at test n k ns h true false t e = rw e h
-has_filter_at test n k ns h false true t e = let is : n ≡ k = (bytes_eq-Decides n k).0 e in let no : test k ≡ false = sym (ap test is) ∙ t in h ∙ rw no (and_false (has_name ns k))
+has_filter_at test n k ns h false true t e = let is : n ≡ k = (bytes_eq-Decides n k).0 e in let no : test k ≡ false = sym (ap test is) ∙ t in h ∙ rw no (and-false (has_name ns k))
 has_filter_at test n k ns h false false t e = h
 
 pub has_filter : (test : List ℕ → Bool) (ns : List (List ℕ)) (k : List ℕ) → has_name (filter test ns) k ≡ (has_name ns k && test k)

@@ -1,17 +1,18 @@
 -- What one pass over an object's members finds is what its table says.
 use Rattle.std.proofs.Common.{◌≡◌, ℕ, List, [], ◌∷◌, ◌++◌, ◌&&◌, ◌||◌, Bool, true, false, not, filter, Option, Some, None, is_some, if◌then◌else◌, refl, sym, ap, ◌∙◌}
-use Rattle.std.proofs.lemmas.Bool.{and_from}
+use Rattle.std.proofs.lemmas.Bool.{and_from, and_parts, or_left}
 use Rattle.std.proofs.lemmas.Slice.Eq.{bytes_eq-Decides}
 use Rattle.std.specs.Str.{bytes_eq}
-use Rattle.spec_json.proofs.EditLemmas.{lookup_below}
-use Rattle.spec_json.proofs.KeyOrder.{both, above_later}
-use Rattle.spec_json.specs.Data.{Data, Pair, object, field, lookup}
+use Rattle.spec_json.proofs.EditLemmas.{lookup_below, equal_above}
+use Rattle.spec_json.proofs.KeyOrder.{above_later}
+use Rattle.spec_json.specs.Data.{Data, Pair, field, lookup}
 use Rattle.spec_json.specs.Parts.{is_null, members_in}
 use Rattle.spec_json.specs.ObjectKeys.{is_above, keys_rise}
 use Rattle.property_table.specs.Names.{has_name, names_rise, put_name}
 use Rattle.property_table.specs.OnePass.{fails_given, failing_keys, with_missing}
 use Rattle.property_table.specs.Table.{NamesAllFailing, Table, Test, failing, fails_at, given, keys_of, names_of, required_names, test_at}
 use Rattle.property_table.proofs.NameLemmas.{has_append, has_filter, has_keys, has_ordered, has_put, rises_ordered, rises_put, unique}
+use Rattle.spec_json.proofs.DataLemmas.{field_is}
 
 pub all_failing : (t : Table) (ps : List Pair) → NamesAllFailing t ps
 all_failing t ps =
@@ -29,7 +30,7 @@ above_kept f k p ps false e h g = rw e g
 above_filter : (f : Pair → Bool) (k : List ℕ) (ps : List Pair) → is_above k ps ≡ true → keys_rise ps ≡ true → is_above k (filter f ps) ≡ true
 above_filter f k [] h rise = refl
 above_filter f k (p ∷ ps) h rise =
-    let parts = both (is_above p.0 ps) (keys_rise ps) rise in
+    let parts = and_parts (is_above p.0 ps) (keys_rise ps) rise in
     above_kept f k p ps (f p) refl h (above_filter f k ps (above_later k p ps h parts.0) parts.1)
 
 rises_kept : (f : Pair → Bool) (p : Pair) (ps : List Pair) (b : Bool) → f p ≡ b → is_above p.0 (filter f ps) ≡ true → keys_rise (filter f ps) ≡ true → keys_rise (filter f (p ∷ ps)) ≡ true
@@ -40,7 +41,7 @@ rises_kept f p ps false e above rest = rw e rest
 pub rises_filter : (f : Pair → Bool) (ps : List Pair) → keys_rise ps ≡ true → keys_rise (filter f ps) ≡ true
 rises_filter f [] rise = refl
 rises_filter f (p ∷ ps) rise =
-    let parts = both (is_above p.0 ps) (keys_rise ps) rise in
+    let parts = and_parts (is_above p.0 ps) (keys_rise ps) rise in
     rises_kept f p ps (f p) refl (above_filter f p.0 ps parts.0 parts.1) (rises_filter f ps parts.1)
 
 -- the value at a key, where its member is kept
@@ -57,25 +58,22 @@ lookup_filter_at f k p ps none h true false e t =
 lookup_filter_at f k p ps none h false true e t = rw e h
 lookup_filter_at f k p ps none h false false e t = h
 
-above_equal : (j k : List ℕ) (ps : List Pair) → bytes_eq j k ≡ true → is_above j ps ≡ true → is_above k ps ≡ true
-above_equal j k ps e h = ap (λ i. is_above i ps) (sym ((bytes_eq-Decides j k).0 e)) ∙ h
-
 pub lookup_filter : (f : Pair → Bool) (k : List ℕ) (ps : List Pair) → keys_rise ps ≡ true → lookup k (filter f ps) ≡ value_kept f k (lookup k ps)
 lookup_filter f k [] r = refl
 lookup_filter f k (p ∷ ps) r =
-    let rise = both (is_above p.0 ps) (keys_rise ps) r in
-    lookup_filter_at f k p ps (λ e. let a = above_equal p.0 k ps e rise.0 in lookup_below k (filter f ps) (above_filter f k ps a rise.1) (rises_filter f ps rise.1)) (lookup_filter f k ps rise.1) (bytes_eq p.0 k) (f p) refl refl
+    let rise = and_parts (is_above p.0 ps) (keys_rise ps) r in
+    lookup_filter_at f k p ps (λ e. let a = equal_above p.0 k ps e rise.0 in lookup_below k (filter f ps) (above_filter f k ps a rise.1) (rises_filter f ps rise.1)) (lookup_filter f k ps rise.1) (bytes_eq p.0 k) (f p) refl refl
 
 -- The two sides of the one pass, at one name.
 abbrev fails_value : Test → Option Data → Bool
 fails_value test None = false
 fails_value test (Some d) = not (is_null d) && not (test (Some d))
 
-abbrev value_given : Option Data → Option Data
+abbrev pub value_given : Option Data → Option Data
 value_given None = None
 value_given (Some d) = if not (is_null d) then Some d else None
 
-given_is : (k : List ℕ) (ps : List Pair) → keys_rise ps ≡ true → lookup k (given ps) ≡ value_given (lookup k ps)
+pub given_is : (k : List ℕ) (ps : List Pair) → keys_rise ps ≡ true → lookup k (given ps) ≡ value_given (lookup k ps)
 given_is k ps r = lookup_filter (λ p. not (is_null p.1)) k ps r ∙ at (lookup k ps)
   where
     at : (found : Option Data) → value_kept (λ p. not (is_null p.1)) k found ≡ value_given found
@@ -128,7 +126,7 @@ rises_missing ps (n ∷ ns) names r =
 rises_keys : (ps : List Pair) → keys_rise ps ≡ true → names_rise (keys_of ps) ≡ true
 rises_keys [] r = refl
 rises_keys (p ∷ []) r = refl
-rises_keys (p ∷ (q ∷ ps)) r = let rise = both (is_above p.0 (q ∷ ps)) (keys_rise (q ∷ ps)) r in and_from _ _ rise.0 (rises_keys (q ∷ ps) rise.1)
+rises_keys (p ∷ (q ∷ ps)) r = let rise = and_parts (is_above p.0 (q ∷ ps)) (keys_rise (q ∷ ps)) r in and_from _ _ rise.0 (rises_keys (q ∷ ps) rise.1)
 
 agree_without : (named fails : Bool) → (((named && fails) && true) || false) ≡ ((named || false) && fails)
 agree_without true true = refl
@@ -166,10 +164,6 @@ one_pass t ps r =
     ∙ ap (λ b. b && fails_at t (given ps) k) (sym (has_append (names_of t.rows) (keys_of (given ps)) k))
     ∙ sym ((all_failing t (given ps)).exact k))
 
-field_is : (k : List ℕ) (d : Data) → field k d ≡ lookup k (members_in d)
-field_is k (object ms) = refl
-field_is k _ = refl
-
 -- an object gives a value at a key where it has one that isn't null
 abbrev pub is_given : Option Data → Bool
 is_given None = false
@@ -191,14 +185,10 @@ unlike_at k name false e h = e
 pub unlike : {name k : List ℕ} → (name ≡ k → ⊥) → bytes_eq k name ≡ false
 unlike {name} {k} h = unlike_at k name (bytes_eq k name) refl h
 
-passes_by : (there test : Bool) → there ≡ true → (there && not test) ≡ false → test ≡ true
+pub passes_by : (there test : Bool) → there ≡ true → (there && not test) ≡ false → test ≡ true
 passes_by true true t h = refl
 passes_by true false t h = cc
 passes_by false test t h = cc
-
-or_left : (a b : Bool) → a ≡ true → (a || b) ≡ true
-or_left true b e = refl
-or_left false b e = cc
 
 -- where nothing fails the value at the name of each row passes
 pub passes : (t : Table) (ps : List Pair) (name : List ℕ) → failing t ps ≡ [] → has_name (names_of t.rows) name ≡ true → test_at t name (lookup name ps) ≡ true

@@ -1,6 +1,6 @@
 -- Results at two histories agree on what no change between them touched.
-use Rattle.std.proofs.Common.{◌≡◌, ℕ, List, [], ◌∷◌, ◌++◌, ◌==◌, Bool, true, false, true≢false, cond, not, ◌&&◌, ◌||◌, Option, Some, None, map, filter, flat_map, refl, sym, ap, ap₂, ◌∙◌, append_assoc, append-nil, eq-eqb, take, drop, take-append-drop}
-use Rattle.std.proofs.lemmas.Bool.{cond_both}
+use Rattle.std.proofs.Common.{◌≡◌, ℕ, List, [], ◌∷◌, ◌++◌, ◌==◌, Bool, true, false, cond, not, ◌&&◌, ◌||◌, Option, Some, None, map, filter, flat_map, refl, sym, ap, ap₂, ◌∙◌, append_assoc, append-nil, eq-eqb, take, drop, take-append-drop}
+use Rattle.std.proofs.lemmas.Bool.{cond_both, or_right, or_parts, not-true}
 use Rattle.std.proofs.lemmas.Cmp.{nat_eq_equiv}
 use Rattle.std.proofs.lemmas.List.Elements.{filter-append}
 use Rattle.std.specs.List.{list_any}
@@ -18,7 +18,7 @@ use Rattle.spec_queries.specs.Matching.{with_number, match_of, matches, touched_
 use Rattle.query_order.proofs.TotalOrders.{by_all_ranks}
 use Rattle.spec_json.proofs.InOrderLemmas.{in_order_filter}
 use Rattle.query_order.proofs.Places.{named_places}
-use Rattle.query_order.proofs.Splicing.{change_leads, or_right}
+use Rattle.query_order.proofs.Splicing.{change_leads}
 
 -- of lists of items to results
 
@@ -50,14 +50,10 @@ ids_after : (h : List Change) (ids : List ℕ) (more : List Change) → ids_from
 ids_after [] ids more = refl
 ids_after (c ∷ h) ids more = ids_after h (cond (is_kind Event c.kind) (with_id ids c.id) ids) more
 
-neither : (a b : Bool) → (a || b) ≡ false → (a ≡ false) × (b ≡ false)
-neither true b h = absurd (true≢false h)
-neither false b h = (refl, h)
-
 -- what a change does to an event that it and the later ones don't name
 not_named : (k : Bool) (c : Change) (cs : List Change) (id : ℕ) → is_in (map (λ c. c.id) (cond k (c ∷ filter (λ c. is_kind Event c.kind) cs) (filter (λ c. is_kind Event c.kind) cs))) id ≡ false
     → ((k && (id == c.id)) ≡ false) × (is_in (touched_by cs) id ≡ false)
-not_named true c cs id h = let p = neither (c.id == id) (is_in (touched_by cs) id) h in (nat_eq_equiv.symm id c.id ∙ p.0, p.1)
+not_named true c cs id h = let p = or_parts (c.id == id) (is_in (touched_by cs) id) h in (nat_eq_equiv.symm id c.id ∙ p.0, p.1)
 not_named false c cs id h = (refl, h)
 
 object_stays : (more : List Change) (before : Option Tree) (id : ℕ) → is_in (touched_by more) id ≡ false → object_from before more Event id ≡ before
@@ -115,10 +111,6 @@ module _ (see : Tree → Option Item) (u : ℕ → Bool) where
     ids_noted [] ids h = refl
     ids_noted (c ∷ cs) ids h = noted_step (is_kind Event c.kind) c cs ids h (λ ids h. ids_noted cs ids h)
 
-passed_over : (b : Bool) → not b ≡ true → b ≡ false
-passed_over true h = absurd (true≢false (sym h))
-passed_over false h = refl
-
 -- later changes touch nothing of the events that they don't name
 pub matches_agree : (see : Tree → Option Item) (h more : List Change) → filter (λ p. not (is_in (touched_by more) p.0)) (matches see (h ++ more)) ≡ filter (λ p. not (is_in (touched_by more) p.0)) (matches see h)
 matches_agree see h more =
@@ -126,7 +118,7 @@ matches_agree see h more =
     let now : ℕ → Option Tree = λ id. live_object (h ++ more) Event id in
     ap (λ ids. filter (λ p. u p.0) (flat_map (λ id. match_of see id (now id)) ids)) (ids_after h [] more)
     ∙ ids_noted see u now more (ids_at h Event) (λ id p. ap not p)
-    ∙ objects_same see u now (λ id. live_object h Event id) (λ id e. object_after None h more id ∙ object_stays more (live_object h Event id) id (passed_over (is_in (touched_by more) id) e)) (ids_at h Event)
+    ∙ objects_same see u now (λ id. live_object h Event id) (λ id e. object_after None h more id ∙ object_stays more (live_object h Event id) id (not-true (is_in (touched_by more) id) e)) (ids_at h Event)
 
 -- the changes of events alone
 

@@ -10,14 +10,10 @@ use Rattle.std.proofs.lemmas.Cmp.{nat_cmp_total, on_total, then_total, tied_itse
 use Rattle.std.proofs.lemmas.List.Sorted.{IsPermutation-refl, IsPermutation-trans, IsPermutation-cons, IsPermutation-middle}
 use Rattle.std.proofs.Common.{lt-ltb}
 use Rattle.spec_json.specs.InOrder.{put_in, in_order}
+use Rattle.spec_json.proofs.KeyOrder.{less_of}
 
 lesser : (a b : ℕ) → a < b → nat_cmp a b ≡ Less
 lesser a b h = ap (λ t. cond t Less (cond (nat_eq a b) Equal Greater)) (lt-ltb a b h)
-
-less_of : (r : Ordering) → is_lt r ≡ true → r ≡ Less
-less_of Less h = refl
-less_of Equal h = absurd (true≢false (sym h))
-less_of Greater h = absurd (true≢false (sym h))
 
 -- where y isn't less than x, x comes first or the numbers decide
 first_or_tied : (r s m : Ordering) → r ≡ ordering_reverse s → is_lt s ≡ false → m ≡ Less → ordering_then r m ≡ Less

@@ -2,6 +2,7 @@
 use Rattle.std.proofs.Common.{◌≡◌, ℕ, ◌+◌, ◌<◌, ◌≤◌, ◌==◌, List, [], ◌∷◌, ◌++◌, Bool, true, false, true≢false, cond, not, ◌&&◌, ◌||◌, length, filter, min, insert, refl, sym, ap, ◌∙◌, arith, append_assoc, append-nil, length-append}
 use Rattle.std.proofs.Common.{eqb-true, eq-eqb}
 use Rattle.std.proofs.lemmas.List.Edits.{insert-append_left, insert_end}
+use Rattle.std.proofs.lemmas.Bool.{or_right}
 use Rattle.spec_queries.specs.declared.delta.Place.{Place}
 use Rattle.spec_history.specs.Pages.{is_in}
 use Rattle.spec_queries.specs.QueryChanges.{indexed, with_places}
@@ -46,10 +47,6 @@ has_filter test (y ∷ ys) id =
     has_cond (test y) y (filter test ys) id
     ∙ ap (λ e. cond (test y) ((y == id) || e) e) (has_filter test ys id)
     ∙ table (y == id) (test y) (test id) (is_in ys id) (λ e. ap test (eqb-true y id e))
-
-pub or_right : (a b : Bool) → b ≡ true → (a || b) ≡ true
-or_right true b h = refl
-or_right false b h = h
 
 -- what is left without those that pass, taken from a longer list, are those that don't pass
 pub left_out : (test : ℕ → Bool) (all ids : List ℕ) → ((id : ℕ) → is_in ids id ≡ true → is_in all id ≡ true) → filter (λ id. not (is_in (filter test all) id)) ids ≡ filter (λ id. not (test id)) ids

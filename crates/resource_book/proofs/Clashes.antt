@@ -2,57 +2,33 @@
 use Rattle.std.proofs.Common.{◌≡◌, ℕ, zero, suc, ℤ, Bool, true, false, ◌&&◌, ◌||◌, List, [], ◌∷◌, ◌++◌, Option, Some, None, IfSome, IfNone, refl, sym, ap, ◌∙◌, arith, ◌⊎◌, inl, inr, option_map, int_lt, ◌≤ℤ◌, ◌<ℤ◌, ◌<◌, ◌^◌, unsigned_abs, slice_get, if◌then◌else◌}
 use Rattle.std.proofs.lemmas.Int.{ints}
 use Rattle.std.proofs.lemmas.Option.{same_Some}
-use Rattle.jiff_core.proofs.SignedLemmas.{signed_arith}
-use Rattle.spec_time.specs.Walls.{day_of_wall, second_of_wall, wall_at}
+use Rattle.std.proofs.lemmas.Bool.{and_from, or_cases, and_parts, or_left, or_right, false_from_ne_true, or_parts}
+use Rattle.std.proofs.Math.Bool.{or-false, or_assoc, or_comm}
+use Rattle.spec_time.specs.Walls.{day_of_wall, second_of_wall}
 use Rattle.spec_series.specs.declared.series.Series.{Series}
 use Rattle.spec_series.specs.Shared.{IsShared, covers, covers_twice}
 use Rattle.rule_expand.specs.Least.{IsLeast, IsLeastOf}
 use Rattle.rule_expand.proofs.Least.{same-least}
-use Rattle.rule_expand.proofs.Places.{and_both}
-use Rattle.rule_expand.proofs.Sets.{both_and, or_cases}
 use Rattle.residue_clash.proofs.Covering.{covers_is, covers_twice_is}
 use Rattle.residue_clash.proofs.FirstSecond.{first_is}
 use Rattle.spec_bookings.specs.declared.booking.Booking.{Booking}
 use Rattle.spec_bookings.specs.Clashes.{IsClash, any_covers, is_clash, IsClear, first_covering, clash_at, second_of, first_clash}
-use Rattle.resource_book.proofs.Orders.{or_false}
 use Rattle.resource_book.specs.declared.check.Meeting.{Meeting}
 use Rattle.resource_book.specs.Meetings.{meets_booking, IsEarliest, IsEarliestOf, earlier_of, clash_of}
+use Rattle.civil_days.proofs.WallLemmas.{wall_parts}
+use Rattle.spec_bookings.proofs.Tables.{by_test}
 
 -- tables
-or_nothing : (a : Bool) → (a || false) ≡ a
-or_nothing true = refl
-or_nothing false = refl
-
-or_left : (a b : Bool) → a ≡ true → (a || b) ≡ true
-or_left a b h = rw h refl
-
-or_right : (a b : Bool) → b ≡ true → (a || b) ≡ true
-or_right true b h = refl
-or_right false b h = h
-
-is_not : (a : Bool) → (a ≡ true → ⊥) → a ≡ false
-is_not true f = absurd (f refl)
-is_not false f = refl
-
 shared_out : (a b s : Bool) → ((a || b) && s) ≡ ((a && s) || (b && s))
 shared_out true b true = refl
 shared_out true true false = refl
 shared_out true false false = refl
 shared_out false b s = refl
 
--- a choice by a test, with what the test answered
-by_test : {X : Type 0} (P : X → Type 0) (b : Bool) (x y : X) → (b ≡ true → P x) → (b ≡ false → P y) → P (if b then x else y)
-by_test P true x y f g = f refl
-by_test P false x y f g = g refl
-
 -- one booking more
 any_push : (bs : List Booking) (b : Booking) (x : ℤ) → any_covers (bs ++ b ∷ []) x ≡ (any_covers bs x || covers b.series x)
-any_push [] b x = or_nothing (covers b.series x)
-any_push (c ∷ cs) b x = ap (λ (t : Bool). covers c.series x || t) (any_push cs b x) ∙ assoc (covers c.series x) (any_covers cs x) (covers b.series x)
-  where
-    assoc : (p q r : Bool) → (p || (q || r)) ≡ ((p || q) || r)
-    assoc true q r = refl
-    assoc false q r = refl
+any_push [] b x = or-false (covers b.series x)
+any_push (c ∷ cs) b x = ap (λ (t : Bool). covers c.series x || t) (any_push cs b x) ∙ sym (or_assoc (covers c.series x) (any_covers cs x) (covers b.series x))
 
 meets_push : (bs : List Booking) (s : Series) (b : Booking) (x : ℤ) → meets_booking (bs ++ b ∷ []) s x ≡ (meets_booking bs s x || (covers b.series x && covers s x))
 meets_push bs s b x = ap (λ (t : Bool). t && covers s x) (any_push bs b x) ∙ shared_out (any_covers bs x) (covers b.series x) (covers s x)
@@ -67,18 +43,18 @@ first_kept (c ∷ cs) b x h =
 first_new : (bs : List Booking) (b : Booking) (x : ℤ) → any_covers bs x ≡ false → covers b.series x ≡ true → first_covering (bs ++ b ∷ []) x ≡ Some b.number
 first_new [] b x h e = rw e refl
 first_new (c ∷ cs) b x h e =
-    let p = or_false (covers c.series x) (any_covers cs x) h in
+    let p = or_parts (covers c.series x) (any_covers cs x) h in
     rw (p.0) (first_new cs b x p.1 e)
 
 first_none : (bs : List Booking) (x : ℤ) → any_covers bs x ≡ false → first_covering bs x ≡ None
 first_none [] x h = refl
 first_none (b ∷ bs) x h =
-    let p = or_false (covers b.series x) (any_covers bs x) h in
+    let p = or_parts (covers b.series x) (any_covers bs x) h in
     rw (p.0) (first_none bs x p.1)
 
 -- none of the bookings covers x, where the series covers it and meets none there
 none_covers : (bs : List Booking) (s : Series) (x : ℤ) → covers s x ≡ true → (meets_booking bs s x ≡ true → ⊥) → any_covers bs x ≡ false
-none_covers bs s x e f = is_not (any_covers bs x) (λ a. f (rw (a, e) refl))
+none_covers bs s x e f = false_from_ne_true (any_covers bs x) (λ a. f (rw (a, e) refl))
 
 -- the earlier of a meeting among some bookings and a second of another test: the first of the two tests together
 module _ (bs cs : List Booking) (p q both : ℤ → Bool) (n : Option ℕ)
@@ -131,25 +107,19 @@ pub one_more : (bs : List Booking) (s : Series) (b : Booking) (best : Option Mee
 one_more bs s b best found h g near =
     earlier_first bs (bs ++ b ∷ []) (meets_booking bs s) (λ x. covers b.series x && covers s x) (meets_booking (bs ++ b ∷ []) s) (Some b.number)
     (meets_push bs s b)
-    (λ x e. first_kept bs b x (and_both (any_covers bs x) (covers s x) e).0)
-    (λ x e f. let c = and_both (covers b.series x) (covers s x) e in sym (first_new bs b x (none_covers bs s x c.1 f) c.0))
+    (λ x e. first_kept bs b x (and_parts (any_covers bs x) (covers s x) e).0)
+    (λ x e f. let c = and_parts (covers b.series x) (covers s x) e in sym (first_new bs b x (none_covers bs s x c.1 f) c.0))
     best found h g near
 
 -- what covers twice covers
 covers_from_twice : (s : Series) (x : ℤ) → covers_twice s x ≡ true → covers s x ≡ true
 covers_from_twice s x h = let m = (covers_twice_is s x).0 h in (covers_is s x).1 (m.0, (m.2, m.5))
 
-or_other : (a b : Bool) → (a || b) ≡ (b || a)
-or_other true true = refl
-or_other true false = refl
-or_other false true = refl
-or_other false false = refl
-
 and_self : (bs : List Booking) (s : Series) (best : Option Meeting) (found : Option ℤ) → IsEarliestOf (meets_booking bs s) bs best
     → IsLeastOf (λ x. covers_twice s x ≡ true) found → IfSome found (λ x. unsigned_abs x < 2 ^ 57) → IsEarliestOf (is_clash bs s) bs (earlier_of best found None)
 and_self bs s best found h g near =
     earlier_first bs bs (meets_booking bs s) (covers_twice s) (is_clash bs s) None
-    (λ x. or_other (covers_twice s x) (meets_booking bs s x))
+    (λ x. or_comm (covers_twice s x) (meets_booking bs s x))
     (λ x e. refl)
     (λ x e f. sym (first_none bs x (none_covers bs s x (covers_from_twice s x e) f)))
     best found h g near
@@ -179,7 +149,7 @@ clash_to bs s x h =
     elim (or_cases (covers_twice s x) (meets_booking bs s x) h) [
       | inl l ↦ inl ((covers_twice_is s x).0 l)
       | inr r ↦
-          let p = and_both (any_covers bs x) (covers s x) r in
+          let p = and_parts (any_covers bs x) (covers s x) r in
           let m = covered_to bs x p.0 in
           inr (m.0, m.1, m.2, shared_to m.1.series s x m.3 p.1)
     ]
@@ -188,12 +158,9 @@ pub to_clash : (bs : List Booking) (s : Series) (x : ℤ) → IsClash bs s x →
 to_clash bs s x (inl h) = or_left (covers_twice s x) (meets_booking bs s x) ((covers_twice_is s x).1 h)
 to_clash bs s x (inr (k, b, e, m)) =
     or_right (covers_twice s x) (meets_booking bs s x)
-    (both_and (any_covers bs x) (covers s x) (to_covered bs x k b e ((covers_is b.series x).1 (m.0, (m.2, m.4)))) ((covers_is s x).1 (m.1, (m.3, m.5))))
+    (and_from (any_covers bs x) (covers s x) (to_covered bs x k b e ((covers_is b.series x).1 (m.0, (m.2, m.4)))) ((covers_is s x).1 (m.1, (m.3, m.5))))
 
 -- the clash of the first meeting
-whole : (x : ℤ) → wall_at (day_of_wall x) (second_of_wall x) ≡ x
-whole x = omega (arith, signed_arith)
-
 least_at : (bs : List Booking) (s : Series) (o : Option Meeting) → IsEarliestOf (is_clash bs s) bs o → IsLeastOf (λ x. is_clash bs s x ≡ true) (option_map (λ m. m.at) o)
 least_at bs s None h = h
 least_at bs s (Some m) h = h.least
@@ -208,10 +175,10 @@ clash_same bs s (Some m) h = ap (λ (n : Option ℕ). Some (record { with = n; d
 
 second_same : (o : Option Meeting) → option_map second_of (option_map clash_of o) ≡ option_map (λ m. m.at) o
 second_same None = refl
-second_same (Some m) = ap Some (whole m.at)
+second_same (Some m) = ap Some (wall_parts m.at)
 
 clear_of : (bs : List Booking) (s : Series) (o : Option Meeting) → IsEarliestOf (is_clash bs s) bs o → IfNone (option_map clash_of o) (IsClear bs s)
-clear_of bs s None h = λ x. is_not (is_clash bs s x) (h x)
+clear_of bs s None h = λ x. false_from_ne_true (is_clash bs s x) (h x)
 clear_of bs s (Some m) h = tt
 
 module _ (bs : List Booking) (s : Series) (best : Option Meeting) (found : Option ℤ) (h : IsEarliestOf (meets_booking bs s) bs best)

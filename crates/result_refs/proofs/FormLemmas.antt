@@ -1,13 +1,13 @@
 -- Keys that rise are looked up in one walk over members whose keys rise.
 use Rattle.std.proofs.Common.{◌≡◌, ℕ, List, [], ◌∷◌, ◌==◌, ◌||◌, Bool, true, false, Option, Some, None, is_some, option_and_then, if◌then◌else◌, refl, subst, Less}
-use Rattle.std.proofs.lemmas.Bool.{eqb-true}
+use Rattle.std.proofs.lemmas.Bool.{eqb-true, and_parts}
 use Rattle.std.proofs.lemmas.Cmp.{nat_list_cmp_total}
 use Rattle.std.specs.Cmp.Lexicographic.{slice_cmp}
 use Rattle.std.specs.List.{list_any}
 use Rattle.std.specs.Ordering.{nat_cmp, is_lt}
 use Rattle.std.specs.Str.{bytes_eq}
-use Rattle.spec_json.proofs.EditLemmas.{below_else, equal_not_below, not_equal}
-use Rattle.spec_json.proofs.KeyOrder.{above_later, both, less_of}
+use Rattle.spec_json.proofs.EditLemmas.{below_else, equal_not_below, lookup_below}
+use Rattle.spec_json.proofs.KeyOrder.{above_later, less_of}
 use Rattle.spec_json.specs.Data.{Pair, lookup}
 use Rattle.spec_json.specs.ObjectKeys.{is_above, keys_rise}
 use Rattle.spec_json.specs.Parts.{behind_hash}
@@ -25,25 +25,19 @@ unlike_below : (j k : List ℕ) → is_below j k ≡ true → (same : Bool) → 
 unlike_below j k h true e = let not_below = equal_not_below j k e in cc
 unlike_below j k h false e = refl
 
-none_above : (k : List ℕ) (ps : List Pair) → is_above k ps ≡ true → keys_rise ps ≡ true → lookup k ps ≡ None
-none_above k [] a r = refl
-none_above k (p ∷ ps) a r =
-    let rise = both (is_above p.0 ps) (keys_rise ps) r in
-    rw (not_equal k p.0 a) (none_above k ps (above_later k p ps a rise.0) rise.1)
-
 -- a key that is there stands first from that key on
 found_step : (k : List ℕ) (p : Pair) (ps : List Pair) → keys_rise (p ∷ ps) ≡ true → begins_with k (from_key k ps) ≡ is_some (lookup k ps) → (below same : Bool) → is_below p.0 k ≡ below → bytes_eq p.0 k ≡ same
     → begins_with k (from_key k (p ∷ ps)) ≡ is_some (lookup k (p ∷ ps))
 found_step k p ps r h true same b s = let unlike : bytes_eq p.0 k ≡ false = unlike_below p.0 k b (bytes_eq p.0 k) refl in rw (b, unlike) h
 found_step k p ps r h false true b s = rw (b, s) refl
 found_step k p ps r h false false b s =
-    let rise = both (is_above p.0 ps) (keys_rise ps) r in
-    let none = none_above k ps (above_later k p ps (below_else p.0 k b s) rise.0) rise.1 in
+    let rise = and_parts (is_above p.0 ps) (keys_rise ps) r in
+    let none = lookup_below k ps (above_later k p ps (below_else p.0 k b s) rise.0) rise.1 in
     rw (b, s, none) refl
 
 found : (k : List ℕ) (ps : List Pair) → keys_rise ps ≡ true → begins_with k (from_key k ps) ≡ is_some (lookup k ps)
 found k [] r = refl
-found k (p ∷ ps) r = found_step k p ps r (found k ps (both (is_above p.0 ps) (keys_rise ps) r).1) (is_below p.0 k) (bytes_eq p.0 k) refl refl
+found k (p ∷ ps) r = found_step k p ps r (found k ps (and_parts (is_above p.0 ps) (keys_rise ps) r).1) (is_below p.0 k) (bytes_eq p.0 k) refl refl
 
 rises_in : (b : Bool) (xs ys : List Pair) → keys_rise xs ≡ true → keys_rise ys ≡ true → keys_rise (if b then xs else ys) ≡ true
 rises_in true xs ys h g = h
@@ -51,7 +45,7 @@ rises_in false xs ys h g = g
 
 from_key_rises : (k : List ℕ) (ps : List Pair) → keys_rise ps ≡ true → keys_rise (from_key k ps) ≡ true
 from_key_rises k [] r = r
-from_key_rises k (p ∷ ps) r = rises_in (is_below p.0 k) (from_key k ps) (p ∷ ps) (from_key_rises k ps (both (is_above p.0 ps) (keys_rise ps) r).1) r
+from_key_rises k (p ∷ ps) r = rises_in (is_below p.0 k) (from_key k ps) (p ∷ ps) (from_key_rises k ps (and_parts (is_above p.0 ps) (keys_rise ps) r).1) r
 
 -- greater keys are looked up from there on
 later_step : (k l : List ℕ) (p : Pair) (ps : List Pair) → is_below k l ≡ true → lookup l (from_key k ps) ≡ lookup l ps → (below : Bool) → is_below p.0 k ≡ below → lookup l (from_key k (p ∷ ps)) ≡ lookup l (p ∷ ps)
@@ -78,7 +72,7 @@ forms_keep_all : (k : List ℕ) (rs ps : List Pair) → is_above (35 ∷ k) rs �
     → list_any (has_both_forms (from_key k ps)) rs ≡ list_any (has_both_forms ps) rs
 forms_keep_all k [] ps a r = refl
 forms_keep_all k (q ∷ rs) ps a r =
-    let rise = both (is_above q.0 rs) (keys_rise rs) r in
+    let rise = and_parts (is_above q.0 rs) (keys_rise rs) r in
     rw (forms_keep k q.0 ps a, forms_keep_all k rs ps (above_later (35 ∷ k) q rs a rise.0) rise.1) refl
 
 -- the members from the key on that stands behind a sign, if one does
@@ -105,9 +99,9 @@ walk_step b bs rs ps a r h rest false e = rw (e, rest ps h) refl
 
 walk_both : (rs ps : List Pair) → keys_rise rs ≡ true → keys_rise ps ≡ true → walk rs ps ≡ list_any (has_both_forms ps) rs
 walk_both [] ps r h = refl
-walk_both (([], d) ∷ rs) ps r h = walk_both rs ps (both (is_above [] rs) (keys_rise rs) r).1 h
+walk_both (([], d) ∷ rs) ps r h = walk_both rs ps (and_parts (is_above [] rs) (keys_rise rs) r).1 h
 walk_both ((b ∷ bs, d) ∷ rs) ps r h =
-    let rise = both (is_above (b ∷ bs) rs) (keys_rise rs) r in
+    let rise = and_parts (is_above (b ∷ bs) rs) (keys_rise rs) r in
     walk_step b bs rs ps rise.0 rise.1 h (λ qs g. walk_both rs qs rise.1 g) (b == 35) refl
 
 pub walk_finds : (ps : List Pair) → keys_rise ps ≡ true → walk ps ps ≡ list_any (λ p. has_both_forms ps p) ps

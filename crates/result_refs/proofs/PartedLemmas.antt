@@ -1,10 +1,10 @@
 -- Arguments, taken apart: their keys rise, and they tell what the arguments come to.
 use Rattle.std.proofs.Common.{◌≡◌, ℕ, List, [], ◌∷◌, ◌==◌, Bool, true, false, Option, Some, None, Result, Ok, Err, IfErr, IsErrAnd, option_map, option_and_then, filter, map, drop, refl, sym, ap, ◌∙◌, subst}
-use Rattle.std.proofs.lemmas.Bool.{and_from, eqb-true}
+use Rattle.std.proofs.lemmas.Bool.{and_from, eqb-true, and_parts}
 use Rattle.std.specs.Cmp.Lexicographic.{slice_cmp}
 use Rattle.std.specs.List.{list_any}
 use Rattle.std.specs.Ordering.{nat_cmp, is_lt}
-use Rattle.spec_json.proofs.KeyOrder.{above_later, both}
+use Rattle.spec_json.proofs.KeyOrder.{above_later}
 use Rattle.spec_json.specs.Data.{Data, Pair}
 use Rattle.spec_json.specs.Edit.{put_all}
 use Rattle.spec_json.specs.ObjectKeys.{is_above, keys_rise}
@@ -24,7 +24,7 @@ above_plain k p ps a h false e = rw e a
 above_all_plain : (k : List ℕ) (ps : List Pair) → is_above k ps ≡ true → keys_rise ps ≡ true → is_above k (plain_in ps) ≡ true
 above_all_plain k [] a r = refl
 above_all_plain k (p ∷ ps) a r =
-    let rise = both (is_above p.0 ps) (keys_rise ps) r in
+    let rise = and_parts (is_above p.0 ps) (keys_rise ps) r in
     above_plain k p ps a (above_all_plain k ps (above_later k p ps a rise.0) rise.1) (is_reference p) refl
 
 plain_rises_step : (p : Pair) (ps : List Pair) → is_above p.0 (plain_in ps) ≡ true → keys_rise (plain_in ps) ≡ true → (reference : Bool) → is_reference p ≡ reference → keys_rise (plain_in (p ∷ ps)) ≡ true
@@ -34,7 +34,7 @@ plain_rises_step p ps a h false e = rw e (and_from _ _ a h)
 pub plain_rises : (ps : List Pair) → keys_rise ps ≡ true → keys_rise (plain_in ps) ≡ true
 plain_rises [] r = refl
 plain_rises (p ∷ ps) r =
-    let rise = both (is_above p.0 ps) (keys_rise ps) r in
+    let rise = and_parts (is_above p.0 ps) (keys_rise ps) r in
     plain_rises_step p ps (above_all_plain p.0 ps rise.0 rise.1) (plain_rises ps rise.1) (is_reference p) refl
 
 -- names behind a `#` are in the order of the keys with it
@@ -48,7 +48,7 @@ above_all_named : (k : List ℕ) (ps : List Pair) → is_above (35 ∷ k) ps ≡
 above_all_named k [] a r = refl
 above_all_named k (([], d) ∷ ps) a r = cc
 above_all_named k ((b ∷ bs, d) ∷ ps) a r =
-    let rise = both (is_above (b ∷ bs) ps) (keys_rise ps) r in
+    let rise = and_parts (is_above (b ∷ bs) ps) (keys_rise ps) r in
     above_named k b bs d ps a (above_all_named k ps (above_later (35 ∷ k) (b ∷ bs, d) ps a rise.0) rise.1) (b == 35) refl
 
 names_rise_step : (b : ℕ) (bs : List ℕ) (d : Data) (ps : List Pair) → is_above (b ∷ bs) ps ≡ true → keys_rise ps ≡ true → keys_rise (references_in ps) ≡ true → (hash : Bool) → (b == 35) ≡ hash → keys_rise (references_in ((b ∷ bs, d) ∷ ps)) ≡ true
@@ -59,9 +59,9 @@ names_rise_step b bs d ps a r h false e = rw e h
 
 pub names_rise : (ps : List Pair) → keys_rise ps ≡ true → keys_rise (references_in ps) ≡ true
 names_rise [] r = refl
-names_rise (([], d) ∷ ps) r = names_rise ps (both (is_above [] ps) (keys_rise ps) r).1
+names_rise (([], d) ∷ ps) r = names_rise ps (and_parts (is_above [] ps) (keys_rise ps) r).1
 names_rise ((b ∷ bs, d) ∷ ps) r =
-    let rise = both (is_above (b ∷ bs) ps) (keys_rise ps) r in names_rise_step b bs d ps rise.0 rise.1 (names_rise ps rise.1) (b == 35) refl
+    let rise = and_parts (is_above (b ∷ bs) ps) (keys_rise ps) r in names_rise_step b bs d ps rise.0 rise.1 (names_rise ps rise.1) (b == 35) refl
 
 -- values stand at the keys of their references
 valued : (k : List ℕ) (v : Option Data) (rest : Option (List Pair)) (vs : List Pair) → option_and_then (λ p. option_map (λ ps. p ∷ ps) rest) (option_map (λ d. (k, d)) v) ≡ Some vs
@@ -77,7 +77,7 @@ values_above k rs (p ∷ ps) vs h a = let v = valued p.0 (value_of_reference rs 
 pub values_rise : (rs : List MethodResponse) (ps vs : List Pair) → all_some (λ p. with_value rs p) ps ≡ Some vs → keys_rise ps ≡ true → keys_rise vs ≡ true
 values_rise rs [] vs h r = let none : [] ≡ vs = cc in subst (λ us. keys_rise us ≡ true) none refl
 values_rise rs (p ∷ ps) vs h r =
-    let rise = both (is_above p.0 ps) (keys_rise ps) r in
+    let rise = and_parts (is_above p.0 ps) (keys_rise ps) r in
     let v = valued p.0 (value_of_reference rs p.1) (all_some (λ q. with_value rs q) ps) vs h in
     subst (λ us. keys_rise us ≡ true) v.2 (and_from _ _ (values_above p.0 rs ps v.1 v.3 rise.0) (values_rise rs ps v.1 v.3 rise.1))
 

@@ -1,8 +1,7 @@
 -- Which days match a rule, from the parts that match.
-use Rattle.std.proofs.Common.{◌&&◌, ◌≡◌, ℕ, ◌+◌, ◌-◌, ◌<◌, Bool, true, false, refl, sym, ap, ◌∙◌, arith, ℤ, pos, ◌+ℤ◌, ◌-ℤ◌, ◌<ℤ◌, ◌≤ℤ◌, List, [], Option, Some, None, IfSome, length}
+use Rattle.std.proofs.Common.{◌&&◌, ◌≡◌, ℕ, ◌+◌, ◌-◌, ◌<◌, Bool, true, false, refl, sym, ap, ◌∙◌, arith, ℤ, pos, ◌+ℤ◌, ◌-ℤ◌, ◌<ℤ◌, ◌≤ℤ◌, List, [], Option, Some, None, IfSome}
 use Rattle.std.specs.Ordering.{int_eq}
-use Rattle.std.proofs.lemmas.Bool.{and_from}
-use Rattle.std.proofs.Common.{◌∷◌}
+use Rattle.std.proofs.lemmas.Bool.{and_from, and_parts}
 use Rattle.spec_series.specs.Places.{count_from}
 use Rattle.spec_series.specs.Periods.{period_first}
 use Rattle.std.proofs.lemmas.Int.{by_lt_z}
@@ -28,7 +27,6 @@ use Rattle.spec_series.specs.RuleSets.{scope_first, scope_last}
 use Rattle.rule_expand.specs.Walk.{nday_at}
 use Rattle.rule_expand.proofs.Next.{period-mono}
 use Rattle.rule_expand.proofs.Periods.{in_period_from, le_last, period_between, period-last}
-use Rattle.rule_expand.proofs.Places.{and_both}
 
 last_false : (a b : Bool) → (a && (b && false)) ≡ false
 last_false true true = refl
@@ -79,7 +77,7 @@ last_after d = le_last Monthly 0 d
 -- a rule without places keeps every matching day
 pub kept_plain : (r : Rule) (n : ℤ) → r.by_set ≡ [] → is_kept r n ≡ true → day_matches r n ≡ true
 unfolding is_kept
-kept_plain r n e h = (and_both (day_matches r n) _ h).0
+kept_plain r n e h = (and_parts (day_matches r n) _ h).0
 
 pub plain_kept : (r : Rule) (n : ℤ) → r.by_set ≡ [] → day_matches r n ≡ true → is_kept r n ≡ true
 unfolding is_kept
@@ -153,7 +151,3 @@ pub some_plain : (r : Rule) (after p d : ℤ) (more : ℕ) → r.by_set ≡ [] �
     → (o : Option ℤ) → IfSome o (IsFirstPlain r after d more) → IfSome o (IsFirstIn r after p)
 some_plain r after p d more e first last None h = tt
 some_plain r after p d more e first last (Some n) h = plain_first r after p d n more e first last h
-
-pub empty_list : {A : Type 0} (xs : List A) → length xs ≡ 0 → xs ≡ []
-empty_list [] h = refl
-empty_list (x ∷ xs) h = absurd (omega arith)

@@ -1,5 +1,6 @@
 -- Days in a row that a rule doesn't keep.
 use Rattle.std.proofs.Common.{◌≡◌, ℕ, ◌+◌, ◌*◌, ◌<◌, ◌≤◌, ◌^◌, refl, sym, ap, ◌∙◌, arith, subst, ℤ, pos, ◌+ℤ◌, ◌-ℤ◌, ◌≤ℤ◌, false, unsigned_abs, negsuc, zero-mul}
+use Rattle.std.proofs.lemmas.Bool.{false_from_ne_true}
 use Rattle.jiff_core.proofs.SignedLemmas.{signed_arith}
 use Rattle.spec_series.specs.declared.rule.Rule.{Rule}
 use Rattle.spec_series.specs.Periods.{period_number, period_last}
@@ -9,7 +10,6 @@ use Rattle.rule_expand.specs.Walk.{first_of, IsFirstPeriod, IsFirstIn, NoneIn}
 use Rattle.rule_expand.proofs.Next.{period-mono}
 use Rattle.rule_expand.proofs.Periods.{period-last}
 use Rattle.rule_expand.proofs.Range.{in_reach}
-use Rattle.rule_expand.proofs.Sets.{not_true}
 
 pub size_38 : (z : ℤ) → unsigned_abs z < 2 ^ 38 → IsNear 274877906944 z
 size_38 (pos n) h = (omega (arith, signed_arith), omega (arith, signed_arith))
@@ -37,7 +37,7 @@ pub unkept_before : (r : Rule) (n next : ℤ) → IsFirstIn r (n -ℤ pos 1) (pe
 unkept_before r n next first k small i lt =
     let m = n +ℤ pos i in
     let own = between r n m next (omega (arith, signed_arith)) (omega (arith, signed_arith, small, lt)) first.own in
-    not_true (is_kept r m) (λ h.
+    false_from_ne_true (is_kept r m) (λ h.
     let le = first.least m own (omega (arith, signed_arith)) h in
     omega (arith, signed_arith, le, small, lt))
 
@@ -47,4 +47,4 @@ unkept_rest r n after none last i lt =
     let m = n +ℤ pos i in
     let same = ap (period_number r) (sym last) ∙ period-last r.frequency r.week_start n in
     let own = between r n m (n +ℤ pos after) (omega (arith, signed_arith)) (omega (arith, signed_arith, lt)) same in
-    not_true (is_kept r m) (λ h. none m own (omega (arith, signed_arith)) h)
+    false_from_ne_true (is_kept r m) (λ h. none m own (omega (arith, signed_arith)) h)

@@ -1,2 +1,2 @@
 mod DepthLemmas
-mod TimeLemmas
+pub mod TimeLemmas

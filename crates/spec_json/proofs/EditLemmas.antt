@@ -1,13 +1,13 @@
 -- Objects with a member put in or taken out: their keys stay in order, other keys keep their values, and what was taken out may be put in again.
 use Rattle.std.proofs.Common.{◌≡◌, ℕ, List, [], ◌∷◌, Bool, true, false, None, if◌then◌else◌, refl, sym, ap, ◌∙◌, Ordering, Less, Equal, Greater}
-use Rattle.std.proofs.lemmas.Bool.{and_from}
+use Rattle.std.proofs.lemmas.Bool.{and_from, and_parts}
 use Rattle.std.proofs.lemmas.Cmp.{nat_list_cmp_total}
 use Rattle.std.proofs.lemmas.Map.Text.{is_eq-slice_cmp}
 use Rattle.std.proofs.lemmas.Slice.Eq.{bytes_eq-Decides}
 use Rattle.std.specs.Cmp.Lexicographic.{slice_cmp}
 use Rattle.std.specs.Ordering.{nat_cmp, is_lt, is_eq, ordering_reverse}
 use Rattle.std.specs.Str.{bytes_eq}
-use Rattle.spec_json.proofs.KeyOrder.{above_later, both}
+use Rattle.spec_json.proofs.KeyOrder.{above_later}
 use Rattle.spec_json.specs.Data.{Data, Pair, lookup}
 use Rattle.spec_json.specs.Edit.{with_pair, without}
 use Rattle.spec_json.specs.ObjectKeys.{is_above, keys_rise}
@@ -53,7 +53,7 @@ below_unlike j k h = sym (is_eq-slice_cmp j k) ∙ less_not_equal (key_cmp j k) 
 pub equal_not_below : (j k : List ℕ) → bytes_eq j k ≡ true → is_lt (key_cmp j k) ≡ false
 equal_not_below j k e = equal_not_less (key_cmp j k) (is_eq-slice_cmp j k ∙ e)
 
-equal_above : (j k : List ℕ) (ps : List Pair) → bytes_eq j k ≡ true → is_above j ps ≡ true → is_above k ps ≡ true
+pub equal_above : (j k : List ℕ) (ps : List Pair) → bytes_eq j k ≡ true → is_above j ps ≡ true → is_above k ps ≡ true
 equal_above j k ps e h = ap (λ i. is_above i ps) (sym ((bytes_eq-Decides j k).0 e)) ∙ h
 
 -- what holds in each case holds of a choice among two, or three
@@ -75,7 +75,7 @@ above_with j k v (p ∷ ps) h a = of_three (is_above j) (is_lt (key_cmp p.0 k)) 
 pub rises_with : (k : List ℕ) (v : Data) (ps : List Pair) → keys_rise ps ≡ true → keys_rise (with_pair k v ps) ≡ true
 rises_with k v [] h = refl
 rises_with k v (p ∷ ps) h =
-    let rise = both (is_above p.0 ps) (keys_rise ps) h in
+    let rise = and_parts (is_above p.0 ps) (keys_rise ps) h in
     of_three keys_rise (is_lt (key_cmp p.0 k)) (bytes_eq p.0 k) (p ∷ with_pair k v ps) ((k, v) ∷ ps) ((k, v) ∷ p ∷ ps)
     (λ b. and_from _ _ (above_with p.0 k v ps b rise.0) (rises_with k v ps rise.1))
     (λ _ s. and_from _ _ (equal_above p.0 k ps s rise.0) rise.1)
@@ -83,26 +83,26 @@ rises_with k v (p ∷ ps) h =
 
 above_without : (j k : List ℕ) (ps : List Pair) → keys_rise ps ≡ true → is_above j ps ≡ true → is_above j (without k ps) ≡ true
 above_without j k [] r h = refl
-above_without j k (p ∷ ps) r h = of_two (is_above j) (bytes_eq p.0 k) ps (p ∷ without k ps) (above_later j p ps h (both (is_above p.0 ps) (keys_rise ps) r).0) h
+above_without j k (p ∷ ps) r h = of_two (is_above j) (bytes_eq p.0 k) ps (p ∷ without k ps) (above_later j p ps h (and_parts (is_above p.0 ps) (keys_rise ps) r).0) h
 
 -- and so does one that is taken out
 pub rises_without : (k : List ℕ) (ps : List Pair) → keys_rise ps ≡ true → keys_rise (without k ps) ≡ true
 rises_without k [] h = refl
 rises_without k (p ∷ ps) h =
-    let rise = both (is_above p.0 ps) (keys_rise ps) h in
+    let rise = and_parts (is_above p.0 ps) (keys_rise ps) h in
     of_two keys_rise (bytes_eq p.0 k) ps (p ∷ without k ps) rise.1 (and_from _ _ (above_without p.0 k ps rise.1 rise.0) (rises_without k ps rise.1))
 
 -- a key below the first of some members is none of theirs, and goes first
 pub without_below : (k : List ℕ) (ps : List Pair) → is_above k ps ≡ true → keys_rise ps ≡ true → without k ps ≡ ps
 without_below k [] h r = refl
 without_below k (p ∷ ps) h r =
-    let rise = both (is_above p.0 ps) (keys_rise ps) r in
+    let rise = and_parts (is_above p.0 ps) (keys_rise ps) r in
     rw (not_equal k p.0 h) (ap (λ qs. p ∷ qs) (without_below k ps (above_later k p ps h rise.0) rise.1))
 
 pub lookup_below : (k : List ℕ) (ps : List Pair) → is_above k ps ≡ true → keys_rise ps ≡ true → lookup k ps ≡ None
 lookup_below k [] h r = refl
 lookup_below k (p ∷ ps) h r =
-    let rise = both (is_above p.0 ps) (keys_rise ps) r in
+    let rise = and_parts (is_above p.0 ps) (keys_rise ps) r in
     rw (not_equal k p.0 h) (lookup_below k ps (above_later k p ps h rise.0) rise.1)
 
 pub with_below : (k : List ℕ) (v : Data) (ps : List Pair) → is_above k ps ≡ true → with_pair k v ps ≡ (k, v) ∷ ps
@@ -112,18 +112,18 @@ with_below k v (p ∷ ps) h = rw ((not_above k p.0 h).0, not_equal k p.0 h) refl
 again_step : (k : List ℕ) (v : Data) (p : Pair) (ps : List Pair) → keys_rise (p ∷ ps) ≡ true → with_pair k v (without k ps) ≡ with_pair k v ps → (below same : Bool) → is_lt (key_cmp p.0 k) ≡ below → bytes_eq p.0 k ≡ same
     → with_pair k v (without k (p ∷ ps)) ≡ with_pair k v (p ∷ ps)
 again_step k v p ps r h below true b s =
-    let above : is_above k ps ≡ true = equal_above p.0 k ps s (both (is_above p.0 ps) (keys_rise ps) r).0 in
+    let above : is_above k ps ≡ true = equal_above p.0 k ps s (and_parts (is_above p.0 ps) (keys_rise ps) r).0 in
     rw (s, equal_not_below p.0 k s, with_below k v ps above) refl
 again_step k v p ps r h true false b s = rw (s, b) (ap (λ qs. p ∷ qs) h)
 again_step k v p ps r h false false b s =
-    let rise = both (is_above p.0 ps) (keys_rise ps) r in
+    let rise = and_parts (is_above p.0 ps) (keys_rise ps) r in
     let above : is_above k ps ≡ true = above_later k p ps (below_else p.0 k b s) rise.0 in
     rw (s, b, without_below k ps above rise.1, s) refl
 
 -- a member may be taken out before it is put in again
 pub with_pair-without : (k : List ℕ) (v : Data) (ps : List Pair) → keys_rise ps ≡ true → with_pair k v (without k ps) ≡ with_pair k v ps
 with_pair-without k v [] r = refl
-with_pair-without k v (p ∷ ps) r = again_step k v p ps r (with_pair-without k v ps (both (is_above p.0 ps) (keys_rise ps) r).1) (is_lt (key_cmp p.0 k)) (bytes_eq p.0 k) refl refl
+with_pair-without k v (p ∷ ps) r = again_step k v p ps r (with_pair-without k v ps (and_parts (is_above p.0 ps) (keys_rise ps) r).1) (is_lt (key_cmp p.0 k)) (bytes_eq p.0 k) refl refl
 
 other_key : (j k : List ℕ) (p : Pair) (ps : List Pair) → bytes_eq j k ≡ false → lookup k (without j ps) ≡ lookup k ps → (same : Bool) → bytes_eq p.0 j ≡ same → lookup k (without j (p ∷ ps)) ≡ lookup k (p ∷ ps)
 other_key j k p ps h e true s =

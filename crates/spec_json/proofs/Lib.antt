@@ -1,3 +1,7 @@
+pub mod Booleans
+pub mod Options
+pub mod ListTests
+pub mod DataLemmas
 pub mod Appending
 pub mod Crossing
 pub mod KeyOrder

@@ -4,6 +4,8 @@ use Rattle.std.specs.Prelude.{filter}
 use Rattle.std.proofs.lemmas.Bool.Decides.{nat_tests}
 use Rattle.std.proofs.lemmas.Str.Ascii.{IsAscii-cons, IsAscii-nil}
 use Rattle.std.specs.Str.{IsAscii}
+use Rattle.std.proofs.lemmas.List.{length-append}
+use Rattle.std.proofs.Math.Seq.{take-append_seam}
 use Rattle.spec_history.specs.ObjectId.{id_text, object_number}
 use Rattle.spec_history.specs.declared.entry.Kind.TheVariants.{Event}
 use Rattle.spec_recurrence.specs.OccurrenceIds.{IsIdReadBack, compact_in, compact_text, event_part, is_no_separator, occurrence_id_in, separated, time_part}
@@ -13,7 +15,8 @@ use Rattle.spec_time.specs.LocalTimes.{local_in, local_text}
 use Rattle.spec_time.specs.Walls.{day_of_wall, is_in_years, second_of_wall}
 use Rattle.time_text.proofs.DateLemmas.{day_in_month, four_digit_year, month_in_year}
 use Rattle.time_text.proofs.NumberLemmas.{decimal_back}
-use Rattle.time_text.proofs.WrittenLemmas.{read_back, second_bound, small_year}
+use Rattle.time_text.proofs.WrittenLemmas.{read_back, small_year}
+use Rattle.civil_days.proofs.WallLemmas.{second_small}
 
 -- The time without its separators.
 
@@ -58,7 +61,7 @@ by_fields : (w : ℤ) → is_in_years w ≡ true → (P : ℕ → ℕ → ℕ �
 by_fields w h P holds =
     let day = day_of_wall w in let s = second_of_wall w in let y = unsigned_abs (year_of day) in
     let years = four_digit_year w h in
-    let hs = second_bound w in
+    let hs = second_small w in
     let ha : y / 100 < 100 = small_year (year_of day) years.0 years.1 in
     let hb : y % 100 < 100 = omega arith in
     let hm : month_of day < 100 = let b = month_in_year day in omega arith in
@@ -108,11 +111,6 @@ compact_length w h = ap length (compact_is w h)
 
 -- The id and the time behind it.
 
-take_front : (xs ys : List ℕ) → take (length xs) (xs ++ ys) ≡ xs
-take_front [] [] = refl
-take_front [] (y ∷ ys) = refl
-take_front (x ∷ xs) ys = ap (λ zs. x ∷ zs) (take_front xs ys)
-
 drop_behind : (xs : List ℕ) (y : ℕ) (ys : List ℕ) → drop (suc (length xs)) (xs ++ y ∷ ys) ≡ ys
 drop_behind [] y ys = refl
 drop_behind (x ∷ xs) y ys = drop_behind xs y ys
@@ -121,18 +119,14 @@ byte_between : (xs : List ℕ) (y : ℕ) (ys : List ℕ) → slice_index (xs ++ 
 byte_between [] y ys = refl
 byte_between (x ∷ xs) y ys = byte_between xs y ys
 
-length_both : (xs ys : List ℕ) → length (xs ++ ys) ≡ length xs + length ys
-length_both [] ys = omega arith
-length_both (x ∷ xs) ys = let h = length_both xs ys in omega arith
-
 long_enough : (xs ys : List ℕ) → length ys ≡ 15 → nat_le 16 (length (xs ++ 95 ∷ ys)) ≡ true
-long_enough xs ys h = let l = length_both xs (95 ∷ ys) in grind (arith, nat_tests)
+long_enough xs ys h = let l = length-append xs (95 ∷ ys) in grind (arith, nat_tests)
 
 front_length : (xs ys : List ℕ) → length ys ≡ 15 → length (xs ++ 95 ∷ ys) - 16 ≡ length xs
-front_length xs ys h = let l = length_both xs (95 ∷ ys) in omega arith
+front_length xs ys h = let l = length-append xs (95 ∷ ys) in omega arith
 
 past_length : (xs ys : List ℕ) → length ys ≡ 15 → length (xs ++ 95 ∷ ys) - 15 ≡ suc (length xs)
-past_length xs ys h = let l = length_both xs (95 ∷ ys) in omega arith
+past_length xs ys h = let l = length-append xs (95 ∷ ys) in omega arith
 
 mark_is : (b : ℕ) → b ≡ 95 → (b == 95) ≡ true
 mark_is b h = rw h refl
@@ -150,5 +144,5 @@ id_back n w above small years =
     let long = compact_length w years in
     id_by_parts n w s (long_enough xs ys long)
     (mark_is _ (ap (slice_index s) (front_length xs ys long) ∙ byte_between xs 95 ys))
-    (ap (λ k. object_number Event (take k s)) (front_length xs ys long) ∙ ap (object_number Event) (take_front xs (95 ∷ ys)) ∙ event_number n above small)
+    (ap (λ k. object_number Event (take k s)) (front_length xs ys long) ∙ ap (object_number Event) (take-append_seam xs (95 ∷ ys)) ∙ event_number n above small)
     (ap (λ k. compact_in (drop k s)) (past_length xs ys long) ∙ ap compact_in (drop_behind xs 95 ys) ∙ compact_back w years)

@@ -1,19 +1,16 @@
 -- One more mention: what is live and touched after it.
-use Rattle.std.proofs.Common.{◌≡◌, ◌≤◌, ◌<◌, ◌+◌, ◌==◌, ℕ, zero, suc, List, [], ◌∷◌, ◌++◌, ◌||◌, Bool, true, false, cond, if◌then◌else◌, length, take, drop, get_or, arith, refl, sym, ap, ◌∙◌, eq-eqb}
+use Rattle.std.proofs.Common.{◌≡◌, ◌≤◌, ◌<◌, ◌+◌, ◌==◌, ℕ, zero, suc, List, [], ◌∷◌, ◌++◌, ◌||◌, Bool, true, false, cond, if◌then◌else◌, length, take, drop, get_or, arith, refl, sym, ap, ◌∙◌, eq-eqb, take-take}
 use Rattle.std.proofs.lemmas.Bool.{or_parts, or_right}
 use Rattle.std.proofs.lemmas.List.{take_more, take-append-drop, drop-append-le, length-take-le}
 use Rattle.std.proofs.lemmas.List.Folds.{list_any-append}
 use Rattle.std.specs.List.{list_any}
+use Rattle.std.proofs.Math.Bool.{or-false}
 use Rattle.spec_history.specs.Pages.{Mention, live_from, is_live, is_touched}
 use Rattle.state_log.specs.Standing.{is_named_after}
 
 -- an id is mentioned
 abbrev pub is_named : List Mention → ℕ → Bool
 is_named ms id = list_any (λ m. m.id == id) ms
-
-pub or_none : (b : Bool) → (b || false) ≡ b
-or_none true = refl
-or_none false = refl
 
 pub live_from-append : (ms ns : List Mention) (before : Bool) (id : ℕ) → live_from before (ms ++ ns) id ≡ live_from (live_from before ms id) ns id
 live_from-append [] ns before id = refl
@@ -32,7 +29,7 @@ is_live_more ms i d id h = rw (take_more ms i d h) (live_from-append (take i ms)
 pub is_touched_more : (ms : List Mention) (k j : ℕ) (d : Mention) (id : ℕ) → k ≤ j → j < length ms → is_touched ms k (j + 1) id ≡ (is_touched ms k j id || ((get_or ms j d).id == id))
 is_touched_more ms k j d id le h =
     let within : k ≤ length (take j ms) = rw (length-take-le j ms (omega arith)) le in
-    rw (take_more ms j d h, drop-append-le k (take j ms) (get_or ms j d ∷ []) within) (list_any-append (λ m. m.id == id) (drop k (take j ms)) (get_or ms j d ∷ []) ∙ ap (λ b. is_touched ms k j id || b) (or_none _))
+    rw (take_more ms j d h, drop-append-le k (take j ms) (get_or ms j d ∷ []) within) (list_any-append (λ m. m.id == id) (drop k (take j ms)) (get_or ms j d ∷ []) ∙ ap (λ b. is_touched ms k j id || b) (or-false _))
 
 drop-take_none : (k : ℕ) (ms : List Mention) → drop k (take k ms) ≡ []
 drop-take_none zero ms = refl
@@ -42,17 +39,11 @@ drop-take_none (suc k) (m ∷ ms) = drop-take_none k ms
 pub is_touched_none : (ms : List Mention) (k id : ℕ) → is_touched ms k k id ≡ false
 is_touched_none ms k id = rw (drop-take_none k ms) refl
 
-take_less : (k j : ℕ) (ms : List Mention) → k ≤ j → take k (take j ms) ≡ take k ms
-take_less zero j ms h = refl
-take_less (suc k) zero ms h = absurd (omega (arith, h))
-take_less (suc k) (suc j) [] h = refl
-take_less (suc k) (suc j) (m ∷ ms) h = ap (λ l. m ∷ l) (take_less k j ms (omega (arith, h)))
-
 -- an id that isn't touched is as live as it was
 pub is_live_untouched : (ms : List Mention) (k j id : ℕ) → k ≤ j → is_touched ms k j id ≡ false → is_live ms j id ≡ is_live ms k id
 is_live_untouched ms k j id le h =
     let whole = take-append-drop k (take j ms) in
-    ap (λ l. live_from false l id) (sym whole) ∙ live_from-append (take k (take j ms)) (drop k (take j ms)) false id ∙ live_from_unnamed (drop k (take j ms)) _ id h ∙ ap (λ l. live_from false l id) (take_less k j ms le)
+    ap (λ l. live_from false l id) (sym whole) ∙ live_from-append (take k (take j ms)) (drop k (take j ms)) false id ∙ live_from_unnamed (drop k (take j ms)) _ id h ∙ ap (λ l. live_from false l id) (take-take k j ms le)
 
 -- the mention at a place names its id
 pub is_named_here : (ms : List Mention) (k j : ℕ) (d : Mention) → k ≤ j → j < length ms → is_named_after ms k (get_or ms j d).id ≡ true

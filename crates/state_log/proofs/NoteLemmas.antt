@@ -8,18 +8,19 @@ use Rattle.std.proofs.lemmas.List.{get_or_append_left, map_push, take_more, take
 use Rattle.std.proofs.lemmas.List.Folds.{list_any-append}
 use Rattle.std.proofs.lemmas.Option.{same_Some, slice_get-get_or, slice_get_within}
 use Rattle.std.proofs.lemmas.Grind.{fold-append}
+use Rattle.std.proofs.Math.Bool.{or-false}
 use Rattle.indexmap.specs.IndexMap.{insert_entry}
 use Rattle.indexmap.specs.IndexSet.{insert_key}
 use Rattle.indexmap.proofs.SetLemmas.{inserted_at, keys_insert_entry}
 use Rattle.spec_history.specs.History.{with_id}
 use Rattle.spec_history.specs.Pages.{Mention, ids_of, is_live, is_touched, live_from}
-use Rattle.state_log.proofs.MentionLemmas.{is_live_untouched, live_from-append, or_none, is_named}
-use Rattle.state_log.proofs.SizeLemmas.{eqb_sym}
+use Rattle.state_log.proofs.MentionLemmas.{is_live_untouched, live_from-append, is_named}
 use Rattle.state_log.proofs.StandingLemmas.{standing_begun}
 use Rattle.state_log.specs.Standing.{begun, is_named_after, only_if, standing}
 use Rattle.state_log.specs.Notes.{AreLive, AreNotes, IsNote, mention_in, said}
 use Rattle.state_log.specs.declared.standing.Standing.{Standing}
 use Rattle.state_log.specs.declared.change_index.Note.{Note}
+use Rattle.spec_json.proofs.Booleans.{eqb_sym}
 
 note_before : {X : Type 0} (vs : List X) (v : X) (k : ℕ) → k < length vs → slice_get (vs ++ v ∷ []) k ≡ slice_get vs k
 note_before vs v k h =
@@ -143,7 +144,7 @@ begun_more ns rest k i n id was now noted is_rest at inside item is more =
     let seen = is_noted (take i rest) id in
     let ms = said ns in
     let grown : is_noted (take (i + 1) rest) id ≡ (seen || (n.id == id)) =
-    ap (λ l. is_noted l id) (take_more rest i n inside ∙ ap (λ x. take i rest ++ x ∷ []) (sym item)) ∙ list_any-append (λ x. x.id == id) (take i rest) (n ∷ []) ∙ ap (λ b. seen || b) (or_none (n.id == id)) in
+    ap (λ l. is_noted l id) (take_more rest i n inside ∙ ap (λ x. take i rest ++ x ∷ []) (sym item)) ∙ list_any-append (λ x. x.id == id) (take i rest) (n ∷ []) ∙ ap (λ b. seen || b) (or-false (n.id == id)) in
     let untouched = λ (e : seen ≡ false). is_touched_noted ns k i id ∙ ap (λ l. is_noted (take i l) id) (sym is_rest) ∙ e in
     let live = λ (same : (n.id == id) ≡ true) (e : seen ≡ false). (noted (k + i) n at).was_live ∙ ap (λ x. is_live ms (k + i) x) (eqb-true n.id id same) ∙ is_live_untouched ms k (k + i) id (omega arith) (untouched e) in
     first_step (n.id == id) seen (standing ms k k id) (begun n.was_live) was now (λ same e. ap begun (live same e) ∙ sym (standing_begun ms k id)) is more

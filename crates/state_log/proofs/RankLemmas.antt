@@ -10,10 +10,10 @@ use Rattle.std.proofs.lemmas.List.Sorted.{list_any-IsPermutation}
 use Rattle.std.proofs.lemmas.Map.Keys.{apart_from_distinct, IsStrictlyIncreasing-dedup}
 use Rattle.std.proofs.lemmas.Option.{slice_get_within, get_or_from_slice_get}
 use Rattle.spec_history.specs.Pages.{ids_of, is_in, is_touched}
-use Rattle.state_log.proofs.SizeLemmas.{eqb_sym}
 use Rattle.state_log.proofs.NoteLemmas.{is_noted, is_touched_noted}
 use Rattle.state_log.specs.Notes.{AreNotes, AreRanks, has_rank, said}
 use Rattle.state_log.specs.declared.change_index.Note.{Note}
+use Rattle.spec_json.proofs.Booleans.{eqb_sym}
 
 -- ---- a list that rises is a filter of all numbers
 

@@ -15,8 +15,9 @@ use Rattle.spec_time.specs.Forms.{fits_mark, fits_marks, pair_at}
 use Rattle.spec_time.specs.LocalTimes.{HasFourDigitYear, is_date, day_in, second_in, spaced_wall, wall_of, year_in}
 use Rattle.spec_time.specs.Walls.{day_of_wall, is_in_years, wall_at}
 use Rattle.std.specs.Char.{is_ascii_digit}
+use Rattle.civil_days.proofs.Orders.{is_int_le}
 
-facts_of : (y m d : ℕ) → is_date y m d ≡ true → IsDate (pos y) m d
+pub facts_of : (y m d : ℕ) → is_date y m d ≡ true → IsDate (pos y) m d
 facts_of y m d h = grind (arith, nat_tests)
 
 pub test_of : (y m d : ℕ) → IsDate (pos y) m d → is_date y m d ≡ true
@@ -62,9 +63,6 @@ years_of_days n = (
     omega (arith, signed_arith, year_of-in_year n, new_year_mono (year_of n +ℤ pos 1) (pos 10000) (omega (arith, signed_arith, h.1)), last_new_year),
   )),
 )
-
-is_int_le : (a b : ℤ) → a ≤ℤ b → int_le a b ≡ true
-is_int_le a b h = grind (arith, signed_arith)
 
 days_of_walls : (w : ℤ) → is_in_years w ≡ true ↔ ((negsuc 719527 ≤ℤ day_of_wall w) × (day_of_wall w ≤ℤ pos 2932896))
 days_of_walls w = (

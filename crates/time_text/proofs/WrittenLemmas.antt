@@ -7,12 +7,13 @@ use Rattle.civil_days.proofs.DateLemmas.{one_date}
 use Rattle.jiff_core.proofs.SignedLemmas.{signed_arith}
 use Rattle.spec_time.specs.Forms.{fits_form, fits_mark, two}
 use Rattle.spec_time.specs.LocalTimes.{HasFourDigitYear, day_in, is_date, local_text, second_in, spaced_wall, utc_text, wall_of}
-use Rattle.spec_time.specs.Walls.{day_of_wall, is_in_years, second_of_wall, wall_at}
+use Rattle.spec_time.specs.Walls.{day_of_wall, is_in_years, second_of_wall}
 use Rattle.time_text.proofs.DateLemmas.{day_in_month, four_digit_year, month_in_year, test_of}
 use Rattle.time_text.specs.ReadBack.{IsReadBack}
+use Rattle.civil_days.proofs.WallLemmas.{wall_parts, second_small}
 
 -- the text of seven numbers of two digits each, with what follows
-abbrev written : ℕ → ℕ → ℕ → ℕ → ℕ → ℕ → ℕ → List ℕ → List ℕ
+abbrev pub written : ℕ → ℕ → ℕ → ℕ → ℕ → ℕ → ℕ → List ℕ → List ℕ
 written a b m d h n s tail = two a ++ two b ++ 45 ∷ two m ++ 45 ∷ two d ++ 84 ∷ two h ++ 58 ∷ two n ++ 58 ∷ two s ++ tail
 
 digit : (n : ℕ) → n < 10 → is_ascii_digit (48 + n) ≡ true
@@ -38,7 +39,7 @@ fits_utc a b m d h n s ha hb hm hd hh hn hs =
     rw (first_digit a ha, last_digit a, first_digit b hb, last_digit b, first_digit m hm, last_digit m, first_digit d hd, last_digit d, first_digit h hh, last_digit h, first_digit n hn, last_digit n, first_digit s hs, last_digit s) refl
 
 -- the wall second of such a text is that of its numbers
-wall_back : (a b m d h n s : ℕ) (tail : List ℕ) → a < 100 → b < 100 → m < 100 → d < 100 → h < 100 → n < 100 → s < 100
+pub wall_back : (a b m d h n s : ℕ) (tail : List ℕ) → a < 100 → b < 100 → m < 100 → d < 100 → h < 100 → n < 100 → s < 100
     → spaced_wall (written a b m d h n s tail) ≡ wall_of (day_in (100 * a + b) m d) (second_in h n s)
 wall_back a b m d h n s tail ha hb hm hd hh hn hs =
     rw (pair_back a ha, pair_back b hb, pair_back m hm, pair_back d hd, pair_back h hh, pair_back n hn, pair_back s hs) refl
@@ -68,12 +69,6 @@ day_back n h =
     let is : is_date (unsigned_abs (year_of n)) (month_of n) (day_of_month n) ≡ true = test_of (unsigned_abs (year_of n)) (month_of n) (day_of_month n) facts in
     rw (is, year) (ap Some date.1)
 
-wall_parts : (w : ℤ) → wall_at (day_of_wall w) (second_of_wall w) ≡ w
-wall_parts w = omega (arith, signed_arith)
-
-pub second_bound : (w : ℤ) → second_of_wall w < 86400
-second_bound w = omega (arith, signed_arith)
-
 pub small_year : (y : ℤ) → pos 0 ≤ℤ y → y ≤ℤ pos 9999 → unsigned_abs y / 100 < 100
 small_year (pos n) least most = omega (arith, signed_arith)
 small_year (negsuc n) least most = absurd (omega (arith, signed_arith))
@@ -83,7 +78,7 @@ wall_of_parts : (w : ℤ) → HasFourDigitYear w
     wall_of (day_in (100 * (y / 100) + y % 100) (month_of day) (day_of_month day)) (second_in (s / 3600) (s / 60 % 60) (s % 60)) ≡ Some w)
 wall_of_parts w h =
     let day = day_of_wall w in let s = second_of_wall w in
-    rw (year_parts (unsigned_abs (year_of day)), day_back day h.0, second_back s (second_bound w)) (ap Some (wall_parts w))
+    rw (year_parts (unsigned_abs (year_of day)), day_back day h.0, second_back s (second_small w)) (ap Some (wall_parts w))
 
 pub from_fits : (fits : Bool) (found : Option ℤ) (w : ℤ) → fits ≡ true → found ≡ Some w → (if fits then found else None) ≡ Some w
 from_fits true found w e f = f
@@ -92,7 +87,7 @@ from_fits false found w e f = cc
 read_back_by : (w : ℤ) → HasFourDigitYear w → IsReadBack w
 read_back_by w h =
     let day = day_of_wall w in let s = second_of_wall w in let y = unsigned_abs (year_of day) in
-    let hs = second_bound w in
+    let hs = second_small w in
     let ha : y / 100 < 100 = small_year (year_of day) h.0 h.1 in
     let hb : y % 100 < 100 = omega arith in
     let hm : month_of day < 100 = let b = month_in_year day in omega arith in

@@ -2,21 +2,19 @@
 use Rattle.std.proofs.Common.{◌≡◌, ◌≤◌, ℕ, zero, suc, ◌+◌, ◌==◌, ◌&&◌, Bool, true, false, if◌then◌else◌, List, [], ◌∷◌, Option, None, filter, fold, is_some, take, refl, sym, ap, ◌∙◌, arith, le-leb}
 use Rattle.std.specs.Prelude.{nat_le}
 use Rattle.std.proofs.lemmas.Bool.{lt-leb}
-use Rattle.std.proofs.lemmas.Grind.{common_steps}
 use Rattle.std.proofs.lemmas.List.Elements.{filter_agree}
+use Rattle.std.proofs.Math.Seq.{take-nil}
 use Rattle.spec_history.specs.History.{ids_at, ids_from, is_kind, live_object, object_from, with_id}
 use Rattle.spec_history.specs.declared.entry.Change.{Change}
 use Rattle.spec_history.specs.declared.entry.Kind.{Kind}
 use Rattle.spec_json.specs.declared.tree.Tree.{Tree}
 use Rattle.version_table.specs.Histories.{of_kind, puts_after, puts_in}
 use Rattle.version_table.specs.Puts.{Put, ids_put, latest_from, live_ids_at, version_at, up_to}
-
-same_id : (a b : ℕ) → (a == b) ≡ (b == a)
-same_id a b = grind (arith, common_steps)
+use Rattle.spec_json.proofs.Booleans.{eqb_sym}
 
 -- what is put for an id that a change names, in the two orders of the test
 either_id : (c : Change) (before : Option Tree) (id : ℕ) → (if c.id == id then c.object else before) ≡ (if id == c.id then c.object else before)
-either_id c before id = ap (λ b. if b then c.object else before) (same_id c.id id)
+either_id c before id = ap (λ b. if b then c.object else before) (eqb_sym c.id id)
 
 newest_step : (c : Change) (cs : List Change) (kind : Kind) (id n : ℕ) (before : Option Tree) (of : Bool)
     → ((m : ℕ) (b : Option Tree) → latest_from b (puts_after m (of_kind kind cs)) id ≡ object_from b cs kind id)
@@ -39,13 +37,9 @@ first_step c cs kind id (suc k) n before true is rest =
     ∙ ap (λ b. object_from (if b && (id == c.id) then c.object else before) (take k (of_kind kind cs)) kind id) (sym is)
 first_step c cs kind id k n before false is rest = rest k n before
 
-take_none : (k : ℕ) → take {A = Change} k [] ≡ []
-take_none zero = refl
-take_none (suc k) = refl
-
 first_are : (cs : List Change) (kind : Kind) (id k n : ℕ) (before : Option Tree)
     → latest_from before (puts_after n (take k (of_kind kind cs))) id ≡ object_from before (take k (of_kind kind cs)) kind id
-first_are [] kind id k n before = ap (λ l. latest_from before (puts_after n l) id) (take_none k) ∙ ap (λ l. object_from before l kind id) (sym (take_none k))
+first_are [] kind id k n before = ap (λ l. latest_from before (puts_after n l) id) (take-nil k) ∙ ap (λ l. object_from before l kind id) (sym (take-nil k))
 first_are (c ∷ cs) kind id k n before = first_step c cs kind id k n before (is_kind kind c.kind) refl (λ i m b. first_are cs kind id i m b)
 
 keep_first : (p : Put Tree) (ps : List (Put Tree)) (k : ℕ) (b : Bool) → nat_le p.state k ≡ b → up_to k (p ∷ ps) ≡ (if b then p ∷ up_to k ps else up_to k ps)

@@ -1,12 +1,13 @@
 -- What one more put says.
-use Rattle.std.proofs.Common.{◌≡◌, ℕ, ◌==◌, ◌&&◌, ◌||◌, Bool, true, false, if◌then◌else◌, List, [], ◌∷◌, ◌++◌, Option, None, refl, sym, ap, ◌∙◌, arith, append-nil, filter, nat_eq}
+use Rattle.std.proofs.Common.{◌≡◌, ℕ, ◌==◌, ◌&&◌, ◌||◌, Bool, true, false, if◌then◌else◌, List, [], ◌∷◌, ◌++◌, Option, None, refl, sym, ap, ◌∙◌, append-nil, filter, nat_eq}
 use Rattle.std.proofs.lemmas.Bool.{and_right}
-use Rattle.std.proofs.lemmas.Grind.{common_steps, fold-append}
+use Rattle.std.proofs.lemmas.Grind.{fold-append}
 use Rattle.std.proofs.Math.Bool.{and-true}
 use Rattle.std.specs.List.{list_any}
 use Rattle.indexmap.specs.IndexSet.{insert_key}
 use Rattle.spec_history.specs.History.{with_id}
 use Rattle.version_table.specs.Puts.{Put, ids_put, latest, latest_from}
+use Rattle.spec_json.proofs.Booleans.{eqb_sym}
 
 module _ {T : Type 0} where
   latest_from-append : (before : Option T) (ps qs : List (Put T)) (id : ℕ) → latest_from before (ps ++ qs) id ≡ latest_from (latest_from before ps id) qs id
@@ -26,12 +27,9 @@ module _ {T : Type 0} where
   filter_all [] = refl
   filter_all (p ∷ ps) = ap (λ l. p ∷ l) (filter_all ps)
 
-same_test : (a b : ℕ) → nat_eq a b ≡ (b == a)
-same_test a b = grind (arith, common_steps)
-
 any_same : (ids : List ℕ) (id : ℕ) → list_any (nat_eq id) ids ≡ list_any (λ n. n == id) ids
 any_same [] id = refl
-any_same (n ∷ ids) id = ap (λ b. b || list_any (nat_eq id) ids) (same_test id n) ∙ ap (λ b. (n == id) || b) (any_same ids id)
+any_same (n ∷ ids) id = ap (λ b. b || list_any (nat_eq id) ids) (eqb_sym id n) ∙ ap (λ b. (n == id) || b) (any_same ids id)
 
 -- a key that is put into a map goes where an id does
 pub with_id_is : (ids : List ℕ) (id : ℕ) → insert_key nat_eq ids id ≡ with_id ids id

@@ -1,18 +1,15 @@
 -- The first zone of a name in a list.
-use Rattle.std.proofs.Common.{◌≡◌, ◌∙◌, ℕ, ◌+◌, ◌≤◌, true, false, List, [], ◌∷◌, length, drop, take, take_all, get_or, slice_get, ◌||◌, Some, None, refl, sym, ap, zero, suc, Bool}
+use Rattle.std.proofs.Common.{◌≡◌, ◌∙◌, ℕ, ◌+◌, ◌≤◌, true, false, List, [], ◌∷◌, length, drop, take, take_all, get_or, slice_get, ◌||◌, Some, None, refl, sym, ap, zero, suc}
 use Rattle.std.specs.List.{list_any}
 use Rattle.std.proofs.lemmas.List.Folds.{list_any_more}
 use Rattle.std.specs.Str.{bytes_eq}
 use Rattle.std.proofs.lemmas.List.{drop_all, drop_more}
 use Rattle.std.proofs.lemmas.Option.{slice_get_within, get_or_from_slice_get}
+use Rattle.std.proofs.lemmas.Bool.{or_right}
 use Rattle.jiff_tz.specs.PosixReader.{read_whole}
 use Rattle.jiff_tz.specs.PosixText.{TzText}
 use Rattle.spec_site.specs.TimeZones.{ZoneText}
 use Rattle.spec_windows.specs.ZoneRules.{listed_rule}
-
-or_right : (a b : Bool) → b ≡ true → (a || b) ≡ true
-or_right true b h = refl
-or_right false b h = h
 
 drop_at : (zs : List ZoneText) (k : ℕ) (z : ZoneText) → slice_get zs k ≡ Some z → drop k zs ≡ z ∷ drop (k + 1) zs
 drop_at zs k z h = drop_more zs k z (slice_get_within zs k z h) ∙ ap (λ x. x ∷ drop (k + 1) zs) (get_or_from_slice_get zs k z z h)

@@ -1,8 +1,9 @@
 -- Where the booking of a number goes.
 use Rattle.std.proofs.Common.{length, refl, arith}
 use Rattle.std.proofs.lemmas.Option.{slice_get_read}
+use Rattle.std.proofs.lemmas.List.{take_all}
 use Rattle.spec_bookings.specs.declared.booking.Booking.{Booking}
-use Rattle.resource_book.proofs.Orders.{with-end, with-at, take_all}
+use Rattle.resource_book.proofs.Orders.{with-end, with-at}
 use Rattle.resource_book.proofs.places.place_for.Goals as goal
 
 pub returns-then-number-booking-clause-at : goal.returns-then-number-booking-clause-at

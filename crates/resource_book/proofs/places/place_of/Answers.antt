@@ -1,8 +1,9 @@
 -- Where the booking of a number stands.
 use Rattle.std.proofs.Common.{length, refl, arith}
 use Rattle.std.proofs.lemmas.Option.{slice_get_read}
+use Rattle.std.proofs.lemmas.List.{take_all}
 use Rattle.spec_bookings.specs.declared.booking.Booking.{Booking}
-use Rattle.resource_book.proofs.Orders.{without-none, without-at, is_booked-at, take_all}
+use Rattle.resource_book.proofs.Orders.{without-none, without-at, is_booked-at}
 use Rattle.resource_book.proofs.places.place_of.Goals as goal
 
 pub returns-then-booking-number-clause-some : goal.returns-then-booking-number-clause-some
