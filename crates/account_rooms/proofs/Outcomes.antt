@@ -1,10 +1,10 @@
 -- What comes of storing an event is a clash exactly where there is one.
-use Rattle.std.proofs.Common.{◌≡◌, ◌∙◌, ℕ, ℤ, Bool, true, false, ◌||◌, List, [], ◌∷◌, Option, Some, None, Result, Ok, Err, codes, is_some, option_and_then, refl, sym, ap, subst, if◌then◌else◌}
+use Rattle.std.proofs.Common.{◌≡◌, ◌∙◌, ℕ, ℤ, Bool, true, false, ◌||◌, List, [], ◌∷◌, Option, Some, None, Result, Ok, Err, codes, is_some, option_and_then, option_map, refl, sym, ap, subst, if◌then◌else◌}
 use Rattle.std.proofs.lemmas.Option.{same_Some}
 use Rattle.cal_model.specs.Calendar.{calendar_in, stored}
 use Rattle.cal_model.specs.CreatedIds.{object_named, resolved_object, resolved_patch}
 use Rattle.cal_model.specs.Occurrences.{occurrence_named}
-use Rattle.cal_model.specs.Operations.{Ground, Operation, destroy, update, after_tests, bad_of_calendar, bad_of_event, calendar_outcome, destroyed_outcome, exceeds_resources, has_other_id, is_in_use, object_outcome, outcome_of, patched_outcome, put, removal, unless_clash, unless_occurrence, updated_outcome, with_own_id, within_quota}
+use Rattle.cal_model.specs.Operations.{Ground, Operation, destroy, update, after_tests, bad_of_calendar, bad_of_event, calendar_outcome, destroyed_outcome, exceeds_resources, has_other_id, is_in_use, object_outcome, outcome_of, patched_outcome, put, removal, if_holds, unless, unless_occurrence, updated_outcome, with_own_id, within_quota}
 use Rattle.cal_model.specs.Quota.{exceeds_quota, size_of_object}
 use Rattle.cal_model.specs.declared.outcome.Outcome.{Outcome}
 use Rattle.cal_model.specs.declared.outcome.Outcome.TheVariants.{Accepted, Refused}
@@ -35,6 +35,10 @@ by_option (Some x) f g = g x refl
 
 -- ---- The last of the refusals.
 
+-- what comes where no earlier refusal holds
+abbrev unless_clash : Option (ℕ × Clash) → Change → Outcome
+unless_clash clash c = unless (option_map (λ q. Clashes q.0 q.1) clash ∷ []) (Accepted c)
+
 unless_earlier : (cs : List Change) (is_full : Bool) (clash : Option (ℕ × Clash)) (c : Change) (names : List (List ℕ)) → names ≡ [] → exceeds_quota cs (size_of_object c.object) ≡ false → is_full ≡ false
     → after_tests cs is_full clash c names ≡ unless_clash clash c
 unless_earlier cs is_full clash c names valid fits room = rw (valid, fits, room) refl
@@ -50,7 +54,7 @@ last_of_all cs is_full clash c [] calendar told h = let rest = by_cases (exceeds
     same (m, clash) e = cc e
 
     by_cases : (e f : Bool) (o : Option (ℕ × Clash)) → exceeds_quota cs (size_of_object c.object) ≡ e → is_full ≡ f → clash ≡ o
-        → (if e || f then Refused OverQuota else unless_clash o c) ≡ Refused (Clashes calendar told)
+        → unless (if_holds (e || f) OverQuota ∷ option_map (λ q. Clashes q.0 q.1) o ∷ []) (Accepted c) ≡ Refused (Clashes calendar told)
         → (exceeds_quota cs (size_of_object c.object) ≡ false) × (is_full ≡ false) × (clash ≡ Some (calendar, told))
     by_cases true f o a b d g = absurd (cc g)
     by_cases false true o a b d g = absurd (cc g)
@@ -150,21 +154,22 @@ module _ (g : Ground) (cs : List Change) where
   destroyed_not kind None (calendar, (clash, h)) = cc h
   destroyed_not kind (Some q) h = by_cases (is_in_use cs kind q.0) h
     where
-      by_cases : (b : Bool) → IsClashed (if b then Refused CalendarHasEvent else within_quota cs false None (removal kind q.0)) → ⊥
+      by_cases : (b : Bool) → IsClashed (unless (if_holds b CalendarHasEvent ∷ []) (within_quota cs false None (removal kind q.0))) → ⊥
       by_cases true (calendar, (clash, e)) = cc e
       by_cases false (calendar, (clash, e)) = let last = last_of_all cs false None (removal kind q.0) [] calendar clash e in cc last.1.1
 
-  unless_of : (o : Option Tree) (is_destroyed : Bool) (x : Outcome) → (IsClashed x → IsOfStoring g cs x) → IsClashed (unless_occurrence g cs o is_destroyed x) → IsOfStoring g cs (unless_occurrence g cs o is_destroyed x)
-  unless_of None is_destroyed x f h = f h
-  unless_of (Some t) true x f (calendar, (clash, h)) = absurd (cc h)
-  unless_of (Some t) false x f (calendar, (clash, h)) = absurd (cc h)
+  unless_of : (is_occurrence is_destroyed : Bool) (x : Outcome) → (IsClashed x → IsOfStoring g cs x) → IsClashed (unless_occurrence g cs is_occurrence is_destroyed x)
+      → IsOfStoring g cs (unless_occurrence g cs is_occurrence is_destroyed x)
+  unless_of false is_destroyed x f h = f h
+  unless_of true true x f (calendar, (clash, h)) = absurd (cc h)
+  unless_of true false x f (calendar, (clash, h)) = absurd (cc h)
 
   operation_of : (kind : Kind) (created : List (List ℕ × List ℕ)) (o : Operation) → IsClashed (outcome_of g cs kind created o) → IsOfStoring g cs (outcome_of g cs kind created o)
   operation_of kind created (update id patch is_destroyed is_repeated) h =
-      unless_of (occurrence_named cs kind id) is_destroyed (updated_outcome g cs kind (resolved_patch created kind patch) is_destroyed is_repeated (object_named cs kind id))
+      unless_of (is_some (occurrence_named cs kind id)) is_destroyed (updated_outcome g cs kind (resolved_patch created kind patch) is_destroyed is_repeated (object_named cs kind id))
       (updated_of kind (resolved_patch created kind patch) is_destroyed is_repeated (object_named cs kind id)) h
   operation_of kind created (destroy id) h =
-      unless_of (occurrence_named cs kind id) false (destroyed_outcome g cs kind (object_named cs kind id)) (λ e. absurd (destroyed_not kind (object_named cs kind id) e)) h
+      unless_of (is_some (occurrence_named cs kind id)) false (destroyed_outcome g cs kind (object_named cs kind id)) (λ e. absurd (destroyed_not kind (object_named cs kind id) e)) h
 
 pub clashes_are_of_storing : ClashesAreOfStoring
 clashes_are_of_storing g cs kind created = (

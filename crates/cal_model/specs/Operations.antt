@@ -1,5 +1,5 @@
 -- What comes of creating, updating or destroying one object (RFC 8620 section 5.3).
-use Rattle.std.specs.Prelude.{ℕ, ℤ, List, [], ◌∷◌, ◌++◌, ◌==◌, ◌&&◌, ◌||◌, Bool, true, false, not, Option, Some, None, Result, Ok, Err, is_some, codes, filter, length, nat_le, if◌then◌else◌}
+use Rattle.std.specs.Prelude.{ℕ, ℤ, List, [], ◌∷◌, ◌++◌, ◌==◌, ◌&&◌, ◌||◌, Bool, false, not, Option, Some, None, Result, Ok, Err, is_some, codes, filter, length, nat_le, option_map, if◌then◌else◌}
 use Rattle.std.specs.Option.{option_map_or}
 use Rattle.std.specs.Str.{bytes_eq}
 use Rattle.cal_model.specs.Calendar.{bad_properties, calendar_in, stored, text_or_null}
@@ -9,6 +9,7 @@ use Rattle.cal_model.specs.Occurrences.{occurrence_named}
 use Rattle.cal_model.specs.Quota.{exceeds_quota, size_of_object}
 use Rattle.cal_model.specs.declared.outcome.Outcome.{Outcome}
 use Rattle.cal_model.specs.declared.outcome.Outcome.TheVariants.{Accepted, Refused}
+use Rattle.cal_model.specs.declared.set_error.SetError.{SetError}
 use Rattle.cal_model.specs.declared.set_error.SetError.TheVariants.{CalendarHasEvent, Clashes, Forbidden, InvalidPatch, InvalidProperties, NotFound, OverQuota, WillDestroy}
 use Rattle.spec_history.specs.Base.{Base}
 use Rattle.spec_history.specs.History.{next_number}
@@ -50,18 +51,27 @@ put kind n ps = record { kind = kind; id = n; object = Some (Object ps) }
 abbrev pub removal : Kind → ℕ → Change
 removal kind n = record { kind = kind; id = n; object = None }
 
-abbrev pub unless_clash : Option (ℕ × Clash) → Change → Outcome
-unless_clash None c = Accepted c
-unless_clash (Some q) c = Refused (Clashes q.0 q.1)
+-- a reason to refuse, where its test holds
+abbrev pub if_holds : Bool → SetError → Option SetError
+if_holds holds e = if holds then Some e else None
 
--- refused where the account would have more than it may, or its resources are full; then where the event would clash in a resource
-abbrev pub within_quota : List Change → Bool → Option (ℕ × Clash) → Change → Outcome
-within_quota cs is_full clash c = if exceeds_quota cs (size_of_object c.object) || is_full then Refused OverQuota else unless_clash clash c
+-- refused for the first of these reasons that holds, or else what comes of it
+abbrev pub unless : List (Option SetError) → Outcome → Outcome
+unless [] o = o
+unless (r ∷ rs) o = option_map_or Refused r (unless rs o)
 
--- a valid object makes its change where the account has room for it and it clashes with nothing; of another all bad properties are told
+-- A change is made unless properties of its object are bad, the account would have more than it may or its resources are full, or the
+-- event would clash in a resource.
 abbrev pub after_tests : List Change → Bool → Option (ℕ × Clash) → Change → List (List ℕ) → Outcome
-after_tests cs is_full clash c [] = within_quota cs is_full clash c
-after_tests cs is_full clash c (name ∷ names) = Refused (InvalidProperties (name ∷ names))
+after_tests cs is_full clash c names = unless (
+    if_holds (not (length names == 0)) (InvalidProperties names)
+    ∷ if_holds (exceeds_quota cs (size_of_object c.object) || is_full) OverQuota
+    ∷ option_map (λ q. Clashes q.0 q.1) clash
+    ∷ []) (Accepted c)
+
+-- the same where no property is bad
+abbrev pub within_quota : List Change → Bool → Option (ℕ × Clash) → Change → Outcome
+within_quota cs is_full clash c = after_tests cs is_full clash c []
 
 -- the object of these members, with the id that the server sets
 abbrev pub with_own_id : Kind → ℕ → List Pair → Data
@@ -142,25 +152,28 @@ module _ (g : Ground) (cs : List Change) where
 
   abbrev pub updated_outcome : Kind → List Pair → Bool → Bool → Option (ℕ × Tree) → Outcome
   updated_outcome kind patch is_destroyed is_repeated None = Refused NotFound
-  updated_outcome kind patch true is_repeated (Some q) = Refused WillDestroy
-  updated_outcome kind patch false true (Some q) = Refused (InvalidPatch [])
-  updated_outcome kind patch false false (Some q) = patched_outcome kind q.0 q.1 (patched (data_of q.1) patch)
+  updated_outcome kind patch is_destroyed is_repeated (Some q) = unless (
+      if_holds is_destroyed WillDestroy
+      ∷ if_holds is_repeated (InvalidPatch [])
+      ∷ []) (patched_outcome kind q.0 q.1 (patched (data_of q.1) patch))
 
   abbrev pub destroyed_outcome : Kind → Option (ℕ × Tree) → Outcome
   destroyed_outcome kind None = Refused NotFound
-  destroyed_outcome kind (Some q) = if is_in_use cs kind q.0 then Refused CalendarHasEvent else within_quota cs false None (removal kind q.0)
+  destroyed_outcome kind (Some q) = unless (if_holds (is_in_use cs kind q.0) CalendarHasEvent ∷ []) (within_quota cs false None (removal kind q.0))
 
   -- an occurrence can't be changed by itself
-  abbrev pub unless_occurrence : Option Tree → Bool → Outcome → Outcome
-  unless_occurrence None is_destroyed o = o
-  unless_occurrence (Some t) is_destroyed o = Refused (if is_destroyed then WillDestroy else Forbidden)
+  abbrev pub unless_occurrence : Bool → Bool → Outcome → Outcome
+  unless_occurrence is_occurrence is_destroyed o = unless (
+      if_holds (is_occurrence && is_destroyed) WillDestroy
+      ∷ if_holds is_occurrence Forbidden
+      ∷ []) o
 
   -- the first reason why an operation is refused after these changes, or else the change that it makes, where the request has
   -- created these ids
   abbrev pub outcome_of : Kind → List (List ℕ × List ℕ) → Operation → Outcome
-  outcome_of kind created (update id patch is_destroyed is_repeated) = unless_occurrence (occurrence_named cs kind id) is_destroyed
+  outcome_of kind created (update id patch is_destroyed is_repeated) = unless_occurrence (is_some (occurrence_named cs kind id)) is_destroyed
       (updated_outcome kind (resolved_patch created kind patch) is_destroyed is_repeated (object_named cs kind id))
-  outcome_of kind created (destroy id) = unless_occurrence (occurrence_named cs kind id) false (destroyed_outcome kind (object_named cs kind id))
+  outcome_of kind created (destroy id) = unless_occurrence (is_some (occurrence_named cs kind id)) false (destroyed_outcome kind (object_named cs kind id))
 
 abbrev pub changes_in : Outcome → List Change
 changes_in (Accepted c) = c ∷ []
