@@ -25,7 +25,7 @@ pub struct RuleTrack<'a> {
 
 impl Track for RuleTrack<'_> {
     ghost use Rattle.std.specs.Prelude.{refl};
-    ghost use Rattle.residue_clash.specs.Again.{kept_again};
+    ghost use Rattle.residue_clash.proofs.Again.{kept_again};
 
     ghost keeps = { λ t n. is_kept t.rule.now n };
 
