@@ -3,7 +3,8 @@ ghost use Rattle.std.specs.Prelude.{◌≡◌, ◌≤◌, ◌<◌, ◌^◌, Some
 ghost use Rattle.spec_json.specs.Parts.{all_some};
 ghost use Rattle.spec_json.specs.TreeData.{data_of};
 ghost use Rattle.spec_series.specs.RuleLimits.{are_by_parts};
-ghost use Rattle.spec_series.specs.RuleObjects.{filled, frequency_in, parts_of, rule_in, rules_in, rules_of, settled_rule, with_lists, with_members};
+ghost use Rattle.spec_series.specs.RuleObjects.{filled, frequency_in, parts_of, rule_in, rules_in, rules_of, settled_rule};
+ghost use Rattle.rule_read.specs.Steps.{with_lists, with_members};
 ghost use Rattle.spec_time.specs.Walls.{day_of_wall, is_in_years};
 ghost use Rattle.rule_read.specs.declared.error.RulesError.TheVariants.{BadRules};
 
@@ -21,7 +22,7 @@ use spec_time::wall::Wall;
 use std::alloc::{AllocError, Global};
 
 /// The most rules of a series.
-const MOST_RULES: usize = 4;
+const MAX_RULES: usize = 4;
 
 /// Reads the rules of a series that starts at a wall second of the years 0 to 9999, with their implied parts filled in.
 ///
@@ -64,7 +65,7 @@ fn few_rules(alloc: Global, items: &[Tree], day: i64) -> Result<Option<Rules>, A
     ensures value { IfOk result (λ o. option_map (λ rules. map parts_of rules) o ≡ rules_of day (map data_of items.now)) }
     ensures few { IfOk result (λ o. IfSome o (λ rules. length rules ≤ 4)) }
 {
-    if items.len() <= MOST_RULES {
+    if items.len() <= MAX_RULES {
         each_rule(alloc, items, day)
     } else {
         Ok(None)
@@ -88,7 +89,7 @@ fn each_rule(alloc: Global, items: &[Tree], day: i64) -> Result<Option<Rules>, A
 }
 
 // The rule that a value is, for a series whose start's day is given.
-#[tactic(auto, unfolding(spec_series::specs::RuleObjects::rule_in))]
+#[tactic(auto, unfolding(spec_series::specs::RuleObjects::rule_in, spec_series::specs::RuleObjects::where_read, crate::specs::Steps::with_members))]
 fn rule(alloc: Global, tree: &Tree, day: i64) -> Result<Option<Rule>, AllocError>
     requires { unsigned_abs day < 2 ^ 42 }
     ensures { IfOk result (λ o. option_map parts_of o ≡ rule_in day (data_of tree.now)) }
@@ -111,7 +112,7 @@ fn frequency_at(value: Option<&Tree>) -> Option<Freq>
     }
 }
 
-#[tactic(auto, unfolding(spec_series::specs::RuleObjects::with_members))]
+#[tactic(auto, unfolding(crate::specs::Steps::with_members, crate::specs::Steps::with_lists, spec_series::specs::RuleObjects::where_read))]
 fn with_members(
     alloc: Global,
     tree: &Tree,
@@ -139,7 +140,7 @@ fn with_members(
     with_lists(alloc, tree, day, frame)
 }
 
-#[tactic(auto, unfolding(spec_series::specs::RuleObjects::with_lists))]
+#[tactic(auto, unfolding(crate::specs::Steps::with_lists, spec_series::specs::RuleObjects::where_read))]
 fn with_lists(
     alloc: Global,
     tree: &Tree,
