@@ -1,8 +1,9 @@
 -- What a reply tells of a page is what the definition says.
-use Rattle.std.proofs.Common.{◌≡◌, ℕ, ℤ, [], List, Bool, true, false, Option, Some, option_map, unsigned_abs, refl}
+use Rattle.std.proofs.Common.{◌≡◌, ℕ, [], List, Bool, true, false, Option, Some, option_map, unsigned_abs, refl}
 use Rattle.account_core.specs.PageObject.{page_object}
 use Rattle.cal_model.specs.Answer.{answered, changes_answer}
 use Rattle.cal_model.specs.Changes.{page_response}
+use Rattle.spec_calls.specs.declared.call.ChangesArguments.{ChangesArguments}
 use Rattle.spec_queries.specs.States.{is_maximum}
 use Rattle.spec_history.specs.History.{changes_of, state_at}
 use Rattle.spec_history.specs.Pages.{is_retained, mentions, page_end}
@@ -22,8 +23,8 @@ not_false true h = refl
 not_false false h = absurd (h refl)
 
 -- the reply that tells the page of a state that is known
-pub changes_told : (account : List ℕ) (h : List Entry) (kind : Kind) (since : List ℕ) (most : Option ℤ) (k : ℕ) (page : Page)
-    → is_maximum most ≡ true → state_in since ≡ Some k → (is_retained (state_at (changes_of h) kind) k ≡ false → ⊥) → IsPage (mentions kind (changes_of h)) k (option_map unsigned_abs most) page
-    → answered h (page_object account kind since (state_at (changes_of h) kind) page) [] ≡ changes_answer account h kind since most
-changes_told account h kind since most k page maximum state retained is =
-    rw (maximum, state, not_false (is_retained (state_at (changes_of h) kind) k) retained, page_told account kind (changes_of h) since k (option_map unsigned_abs most) page is) refl
+pub changes_told : (account : List ℕ) (h : List Entry) (q : ChangesArguments) (k : ℕ) (page : Page)
+    → is_maximum q.max ≡ true → state_in q.since ≡ Some k → (is_retained (state_at (changes_of h) q.kind) k ≡ false → ⊥) → IsPage (mentions q.kind (changes_of h)) k (option_map unsigned_abs q.max) page
+    → answered h (page_object account q.kind q.since (state_at (changes_of h) q.kind) page) [] ≡ changes_answer account h q
+changes_told account h q k page maximum state retained is =
+    rw (maximum, state, not_false (is_retained (state_at (changes_of h) q.kind) k) retained, page_told account q.kind (changes_of h) q.since k (option_map unsigned_abs q.max) page is) refl

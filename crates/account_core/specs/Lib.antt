@@ -3,4 +3,3 @@ pub mod Tally
 pub mod Ledger
 pub mod AskedNames
 pub mod Uses
-pub mod Searches

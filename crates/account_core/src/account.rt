@@ -15,7 +15,6 @@ use spec_json::text::Text;
 use spec_bookings::clash::Clash;
 use spec_series::series::Series;
 use spec_time::moment::Moment;
-use set_methods::request::SetRequest;
 use std::alloc::{AllocError, Global};
 use std::marker::Model;
 use std::sync::Arc;
@@ -136,32 +135,11 @@ fn answer(ledger: &mut Ledger, stamp: &Stamp, call: &Call) -> Result<Reply, Allo
     ensures base { base ledger.new ≡ base ledger.old }
 {
     match &call.asks {
-        Asks::Get {
-            kind,
-            ids,
-            properties,
-        } => get(ledger, *kind, &call.created, ids, properties),
-        Asks::Changes { kind, since, max } => changes(ledger, *kind, since, max),
-        Asks::Set {
-            kind,
-            if_in_state,
-            create,
-            update,
-            destroy,
-            remove_events,
-        } => {
-            let request = SetRequest {
-                kind: *kind,
-                if_in_state,
-                create,
-                update,
-                destroy,
-                remove_events: *remove_events,
-            };
-            set(ledger, stamp, &request, &call.created)
-        }
-        Asks::Query { .. } => query(ledger, &call.asks),
-        Asks::QueryChanges { .. } => query_changes(ledger, &call.asks),
-        Asks::Availability { .. } => availability(ledger, &call.asks),
+        Asks::Get(arguments) => get(ledger, arguments, &call.created),
+        Asks::Changes(arguments) => changes(ledger, arguments),
+        Asks::Set(arguments) => set(ledger, stamp, arguments, &call.created),
+        Asks::Query(arguments) => query(ledger, arguments),
+        Asks::QueryChanges(arguments) => query_changes(ledger, arguments),
+        Asks::Availability(arguments) => availability(ledger, arguments),
     }
 }

@@ -7,7 +7,7 @@ ghost use Rattle.spec_queries.specs.States.{is_maximum};
 
 use crate::ledger::Ledger;
 use crate::reply::{refusal, reply};
-use spec_calls::call::{MethodError, Reply};
+use spec_calls::call::{ChangesArguments, MethodError, Reply};
 use spec_core::numbers::MAX_UNSIGNED_INT;
 use spec_history::entry::Kind;
 use spec_json::lists::Pairs;
@@ -20,23 +20,20 @@ use std::alloc::{AllocError, Global};
 use time_text::{read_state, state_text};
 
 /// Answers what changed of a kind since a state. A maximum that isn't one is told before a state that isn't known.
-pub fn changes(
-    ledger: &Ledger,
-    kind: Kind,
-    since: &Text,
-    most: &Option<Num>,
-) -> Result<Reply, AllocError>
-    ensures { IfOk result (λ r. r ≡ changes_answer (base ledger.now).account_id (ledger_entries ledger.now) kind since.now most.now) }
+pub fn changes(ledger: &Ledger, arguments: &ChangesArguments) -> Result<Reply, AllocError>
+    ensures { IfOk result (λ r. r ≡ changes_answer (base ledger.now).account_id (ledger_entries ledger.now) arguments.now) }
 {
     let alloc = ledger.alloc;
     let store = &ledger.store;
-    if !is_maximum(most) {
+    let kind = arguments.kind;
+    let since = &arguments.since;
+    if !is_maximum(&arguments.max) {
         return Ok(refusal(alloc, store, MethodError::InvalidArguments));
     }
     let Some(state) = read_state(since.as_str().as_bytes()) else {
         return Ok(refusal(alloc, store, MethodError::CannotCalculateChanges));
     };
-    let page = match store.changes(kind, state, limit(most)) {
+    let page = match store.changes(kind, state, limit(&arguments.max)) {
         Ok(page) => page,
         Err(ChangesError::NotRetained) => {
             return Ok(refusal(alloc, store, MethodError::CannotCalculateChanges));

@@ -12,7 +12,7 @@ use crate::ledger::Ledger;
 use crate::properties::are_properties;
 use crate::reply::{refusal, reply};
 use account_store::Store;
-use spec_calls::call::{MethodError, Reply};
+use spec_calls::call::{GetArguments, MethodError, Reply};
 use spec_core::limits::MAX_OBJECTS_IN_GET;
 use spec_history::entry::Kind;
 use spec_json::lists::{Pairs, Texts};
@@ -25,17 +25,17 @@ use time_text::state_text;
 /// Answers a get of objects of a kind. A name that no property of the kind has is told before too many objects.
 pub fn get(
     ledger: &Ledger,
-    kind: Kind,
+    arguments: &GetArguments,
     created: &Pairs,
-    ids: &Option<Texts>,
-    properties: &Option<Texts>,
 ) -> Result<Reply, AllocError>
-    ensures { IfOk result (λ r. r ≡ get_answer (base ledger.now).account_id (ledger_entries ledger.now) kind created.now ids.now properties.now) }
+    ensures { IfOk result (λ r. r ≡ get_answer (base ledger.now).account_id (ledger_entries ledger.now) created.now arguments.now) }
 {
+    let kind = arguments.kind;
+    let properties = &arguments.properties;
     if !are_properties(kind, properties) {
         return Ok(refusal(ledger.alloc, &ledger.store, MethodError::InvalidArguments));
     }
-    match ids {
+    match &arguments.ids {
         Some(ids) => get_ids(ledger, kind, created.pairs(), ids.items(), properties),
         None => get_all(ledger, kind, properties),
     }
@@ -49,7 +49,7 @@ fn get_ids(
     properties: &Option<Texts>,
 ) -> Result<Reply, AllocError>
     requires { are_properties kind properties.now ≡ true }
-    ensures { IfOk result (λ r. r ≡ get_answer (base ledger.now).account_id (ledger_entries ledger.now) kind created.now (Some ids.now) properties.now) }
+    ensures { IfOk result (λ r. r ≡ get_answer (base ledger.now).account_id (ledger_entries ledger.now) created.now (record { kind = kind; ids = Some ids.now; properties = properties.now })) }
 {
     if ids.len() > MAX_OBJECTS_IN_GET {
         return Ok(refusal(ledger.alloc, &ledger.store, MethodError::RequestTooLarge));
@@ -60,7 +60,7 @@ fn get_ids(
 
 fn get_all(ledger: &Ledger, kind: Kind, properties: &Option<Texts>) -> Result<Reply, AllocError>
     requires { are_properties kind properties.now ≡ true }
-    ensures { IfOk result (λ r. r ≡ get_answer (base ledger.now).account_id (ledger_entries ledger.now) kind [] None properties.now) }
+    ensures { IfOk result (λ r. r ≡ get_answer (base ledger.now).account_id (ledger_entries ledger.now) [] (record { kind = kind; ids = None; properties = properties.now })) }
 {
     let objects = ledger.store.live(ledger.alloc, kind)?;
     if objects.len() > MAX_OBJECTS_IN_GET {

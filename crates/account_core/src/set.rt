@@ -10,7 +10,7 @@ ghost use Rattle.set_methods.specs.Requests.{ground_at, objects_in};
 
 use crate::ledger::Ledger;
 use crate::reply::{refusal, reply};
-use spec_calls::call::Reply;
+use spec_calls::call::{Reply, SetArguments};
 use spec_history::stamp::Stamp;
 use spec_json::lists::Pairs;
 use spec_time::moment::Moment;
@@ -25,19 +25,25 @@ use std::alloc::AllocError;
 pub fn set(
     ledger: &mut Ledger,
     stamp: &Stamp,
-    request: &SetRequest<'_>,
+    arguments: &SetArguments,
     created: &Pairs,
 ) -> Result<Reply, AllocError>
     requires { staged ledger.old ≡ [] }
-    ensures reply { IfOk result (λ r. r ≡ set_answer (base ledger.old) (ledger_entries ledger.old) stamp.now.moment request.now.kind created.now
-        (objects_in request.now) request.now.if_in_state.now request.now.remove_events) }
-    ensures grown { OnOk result (ledger_entries ledger.new ≡ ledger_entries ledger.old ++ entries_from stamp.now 0 (set_added (base ledger.old) (ledger_entries ledger.old)
-        stamp.now.moment request.now.kind created.now (objects_in request.now) request.now.if_in_state.now request.now.remove_events)) }
+    ensures reply { IfOk result (λ r. r ≡ set_answer (base ledger.old) (ledger_entries ledger.old) stamp.now.moment created.now arguments.now) }
+    ensures grown { OnOk result (ledger_entries ledger.new ≡ ledger_entries ledger.old ++ entries_from stamp.now 0 (set_added (base ledger.old) (ledger_entries ledger.old) stamp.now.moment created.now arguments.now)) }
     ensures unchanged { OnErr result (ledger_entries ledger.new ≡ ledger_entries ledger.old) }
     ensures staged { staged ledger.new ≡ [] }
     ensures base { base ledger.new ≡ base ledger.old }
 {
-    match prepare(ledger, stamp.moment, request, created) {
+    let request = SetRequest {
+        kind: arguments.kind,
+        if_in_state: &arguments.if_in_state,
+        create: &arguments.create,
+        update: &arguments.update,
+        destroy: &arguments.destroy,
+        remove_events: arguments.remove_events,
+    };
+    match prepare(ledger, stamp.moment, &request, created) {
         Ok(reply) => {
             ledger.commit(stamp);
             Ok(reply)

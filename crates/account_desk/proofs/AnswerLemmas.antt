@@ -5,23 +5,26 @@ use Rattle.cal_model.specs.Answer.{answer, answer_to, added, availability_answer
 use Rattle.cal_model.specs.Changes.{changes_response, changes_refusal}
 use Rattle.cal_model.specs.Gets.{get_response, get_error, ids_not_found, objects_asked, selected}
 use Rattle.cal_model.specs.SetReply.{set_arguments}
-use Rattle.cal_model.specs.Sets.{Objects, new_ids, objects, set_changes, set_refusal}
+use Rattle.cal_model.specs.Sets.{new_ids, objects_of, set_changes, set_refusal}
 use Rattle.spec_availability.specs.Availability.{availability_refusal, availability_response}
 use Rattle.spec_history.specs.Base.{Base}
 use Rattle.spec_history.specs.History.{changes_of}
 use Rattle.spec_calls.specs.declared.call.Asks.{Asks}
 use Rattle.spec_calls.specs.declared.call.Asks.TheVariants.{Availability, Changes, Get, Query, QueryChanges, Set}
+use Rattle.spec_calls.specs.declared.call.AvailabilityArguments.{AvailabilityArguments}
 use Rattle.spec_calls.specs.declared.call.Call.{Call}
+use Rattle.spec_calls.specs.declared.call.ChangesArguments.{ChangesArguments}
+use Rattle.spec_calls.specs.declared.call.GetArguments.{GetArguments}
 use Rattle.spec_calls.specs.declared.call.MethodError.{MethodError}
+use Rattle.spec_calls.specs.declared.call.QueryArguments.{QueryArguments}
+use Rattle.spec_calls.specs.declared.call.QueryChangesArguments.{QueryChangesArguments}
 use Rattle.spec_calls.specs.declared.call.Reply.{Reply}
+use Rattle.spec_calls.specs.declared.call.SetArguments.{SetArguments}
 use Rattle.spec_history.specs.declared.entry.Change.{Change}
 use Rattle.spec_history.specs.declared.entry.Entry.{Entry}
 use Rattle.spec_history.specs.declared.entry.Kind.{Kind}
 use Rattle.spec_history.specs.declared.stamp.Stamp.{Stamp}
 use Rattle.spec_json.specs.declared.tree.Tree.TheVariants.{Null}
-use Rattle.spec_queries.specs.Changed.{Since}
-use Rattle.spec_queries.specs.Criteria.{Criteria}
-use Rattle.spec_queries.specs.Found.{Paging}
 use Rattle.spec_queries.specs.Queries.{query_changes_refusal, query_changes_response, query_refusal, query_response}
 use Rattle.time_text.specs.State.{state_in}
 
@@ -46,73 +49,70 @@ module _ (b : Base) (h h' : List Entry) (same : changes_of h ≡ changes_of h') 
   same_by refusal r r' is = ap (λ (cs : List Change). unless_error h (refusal cs) r) same ∙ same_unless (refusal (changes_of h')) r r' is
 
   module _ (m : ℤ) (created : List (List ℕ × List ℕ)) where
-    same_get : (kind : Kind) (ids properties : Option (List (List ℕ))) → get_answer b.account_id h kind created ids properties ≡ get_answer b.account_id h' kind created ids properties
-    same_get kind ids properties = same_by (λ cs. get_error kind cs ids properties) _ _ (λ i. record {
-      arguments = get_response b.account_id kind (same i) (map (selected properties) (objects_asked (same i) kind created ids)) (ids_not_found (same i) kind created ids);
+    same_get : (q : GetArguments) → get_answer b.account_id h created q ≡ get_answer b.account_id h' created q
+    same_get q = same_by (λ cs. get_error cs q) _ _ (λ i. record {
+      arguments = get_response b.account_id q.kind (same i) (map (selected q.properties) (objects_asked (same i) q.kind created q.ids)) (ids_not_found (same i) q.kind created q.ids);
       error = None;
       created = [];
       place = same_length i;
     })
 
-    same_page : (kind : Kind) (since : List ℕ) (most : Option ℤ) → changes_answer b.account_id h kind since most ≡ changes_answer b.account_id h' kind since most
-    same_page kind since most = same_by (λ cs. changes_refusal kind cs since most) _ _ (λ i. record {
-      arguments = changes_response b.account_id kind (same i) since most (unwrap_or (state_in since) 0);
+    same_page : (q : ChangesArguments) → changes_answer b.account_id h q ≡ changes_answer b.account_id h' q
+    same_page q = same_by (λ cs. changes_refusal cs q) _ _ (λ i. record {
+      arguments = changes_response b.account_id (same i) q (unwrap_or (state_in q.since) 0);
       error = None;
       created = [];
       place = same_length i;
     })
 
-    same_set : (kind : Kind) (s : Objects) (if_in_state : Option (List ℕ)) (remove_events : Option Bool) → set_answer b h m kind created s if_in_state remove_events ≡ set_answer b h' m kind created s if_in_state remove_events
-    same_set kind s if_in_state remove_events = same_by (λ cs. set_refusal kind cs s if_in_state remove_events) _ _ (λ i. record {
-      arguments = set_arguments (ground b h m kind created) kind created (same i) s;
+    same_set : (q : SetArguments) → set_answer b h m created q ≡ set_answer b h' m created q
+    same_set q = same_by (λ cs. set_refusal q.kind cs (objects_of q) q.if_in_state q.remove_events) _ _ (λ i. record {
+      arguments = set_arguments (ground b h m created) q.kind created (same i) (objects_of q);
       error = None;
-      created = new_ids (ground b h m kind created) kind created (same i) s;
+      created = new_ids (ground b h m created) q.kind created (same i) (objects_of q);
       place = same_length i;
     })
 
-    same_query : (c : Criteria) (expand : Bool) (p : Paging) → query_answer b h c expand p ≡ query_answer b h' c expand p
-    same_query c expand p = same_by (λ cs. query_refusal b.zones cs c expand p) _ _ (λ i. record {
-      arguments = query_response b.zones (same i) c expand b.account_id p;
-      error = None;
-      created = [];
-      place = same_length i;
-    })
-
-    same_query_changes : (c : Criteria) (expand : Bool) (s : Since) → query_changes_answer b h c expand s ≡ query_changes_answer b h' c expand s
-    same_query_changes c expand s = same_by (λ cs. query_changes_refusal b.zones cs c expand s) _ _ (λ i. record {
-      arguments = query_changes_response b.zones (same i) c expand b.account_id s;
+    same_query : (q : QueryArguments) → query_answer b h q ≡ query_answer b h' q
+    same_query q = same_by (λ cs. query_refusal b.zones cs q) _ _ (λ i. record {
+      arguments = query_response b.zones (same i) q b.account_id;
       error = None;
       created = [];
       place = same_length i;
     })
 
-    same_availability : (id start end zone : List ℕ) → availability_answer b h id start end zone ≡ availability_answer b h' id start end zone
-    same_availability id start end zone = same_unless (availability_refusal b id start end zone) _ _ (λ i. record {
-      arguments = availability_response b (same i) start end zone;
+    same_query_changes : (q : QueryChangesArguments) → query_changes_answer b h q ≡ query_changes_answer b h' q
+    same_query_changes q = same_by (λ cs. query_changes_refusal b.zones cs q) _ _ (λ i. record {
+      arguments = query_changes_response b.zones (same i) q b.account_id;
+      error = None;
+      created = [];
+      place = same_length i;
+    })
+
+    same_availability : (q : AvailabilityArguments) → availability_answer b h q ≡ availability_answer b h' q
+    same_availability q = same_unless (availability_refusal b q) _ _ (λ i. record {
+      arguments = availability_response b (same i) q;
       error = None;
       created = [];
       place = same_length i;
     })
 
     same_to : (asks : Asks) → answer_to b h m created asks ≡ answer_to b h' m created asks
-    same_to (Get kind ids properties) = same_get kind ids properties
-    same_to (Changes kind since most) = same_page kind since most
-    same_to (Set kind if_in_state create update destroy remove_events) = same_set kind (objects create update destroy) if_in_state remove_events
-    same_to (Query filter sort position anchor anchor_offset limit calculate_total expand time_zone) =
-        same_query (record { filter = filter; sort = sort; time_zone = time_zone }) expand
-        (record { position = position; anchor = anchor; anchor_offset = anchor_offset; limit = limit; calculate_total = calculate_total })
-    same_to (QueryChanges filter sort since most up_to calculate_total expand time_zone) =
-        same_query_changes (record { filter = filter; sort = sort; time_zone = time_zone }) expand (record { state = since; most = most; calculate_total = calculate_total })
-    same_to (Availability id utc_start utc_end time_zone) = same_availability id utc_start utc_end time_zone
+    same_to (Get q) = same_get q
+    same_to (Changes q) = same_page q
+    same_to (Set q) = same_set q
+    same_to (Query q) = same_query q
+    same_to (QueryChanges q) = same_query_changes q
+    same_to (Availability q) = same_availability q
 
     same_changes : (asks : Asks) → changes_by b h m created asks ≡ changes_by b h' m created asks
-    same_changes (Get kind ids properties) = refl
-    same_changes (Changes kind since most) = refl
-    same_changes (Set kind if_in_state create update destroy remove_events) =
-        ap (λ (cs : List Change). unless_refused (set_refusal kind cs (objects create update destroy) if_in_state remove_events) (set_changes (ground b h m kind created) kind created cs (objects create update destroy))) same
-    same_changes (Query filter sort position anchor anchor_offset limit calculate_total expand time_zone) = refl
-    same_changes (QueryChanges filter sort since most up_to calculate_total expand time_zone) = refl
-    same_changes (Availability id utc_start utc_end time_zone) = refl
+    same_changes (Get q) = refl
+    same_changes (Changes q) = refl
+    same_changes (Set q) =
+        ap (λ (cs : List Change). unless_refused (set_refusal q.kind cs (objects_of q) q.if_in_state q.remove_events) (set_changes (ground b h m created) q.kind created cs (objects_of q))) same
+    same_changes (Query q) = refl
+    same_changes (QueryChanges q) = refl
+    same_changes (Availability q) = refl
 
   module _ (c : Call) where
     -- two histories with the same changes have the same answer at one moment

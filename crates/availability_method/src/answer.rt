@@ -7,10 +7,10 @@ ghost use Rattle.spec_history.specs.Base.{Base};
 ghost use Rattle.spec_history.specs.History.{changes_of};
 
 use crate::events::busy_of;
-use crate::request::AvailabilityRequest;
 use crate::response::response;
 use crate::window::read_window;
 use event_store::StoredEvents;
+use spec_calls::call::AvailabilityArguments;
 use spec_json::text::Text;
 use spec_json::tree::Tree;
 use std::alloc::{AllocError, Global};
@@ -23,23 +23,19 @@ pub fn availability(
     alloc: Global,
     account: &Text,
     events: &StoredEvents<'_>,
-    request: &AvailabilityRequest<'_>,
+    arguments: &AvailabilityArguments,
 ) -> Result<Option<Tree>, AllocError>
     ensures { let base : Base = record { account_id = account.now; zones = events.now.zones.now } in
-        let start = request.now.utc_start.now in
-        let end = request.now.utc_end.now in
-        let zone = request.now.time_zone.now in
-        let refusal = availability_refusal base request.now.id.now start end zone in
-        IfOk result (λ r. MatchOption r (refusal ≡ Some InvalidArguments)
-        (λ t. (refusal ≡ None) × (t ≡ availability_response base (changes_of (entries events.now.store.now)) start end zone))) }
+        IfOk result (λ r. MatchOption r (availability_refusal base arguments.now ≡ Some InvalidArguments)
+        (λ t. (availability_refusal base arguments.now ≡ None) × (t ≡ availability_response base (changes_of (entries events.now.store.now)) arguments.now))) }
 {
-    if request.id.as_str() != account.as_str() || !events.zones.has(request.time_zone) {
+    if arguments.id.as_str() != account.as_str() || !events.zones.has(&arguments.time_zone) {
         return Ok(None);
     }
-    let Some(window) = read_window(request.utc_start, request.utc_end) else {
+    let Some(window) = read_window(&arguments.utc_start, &arguments.utc_end) else {
         return Ok(None);
     };
     let live = events.live(alloc)?;
-    let busy = busy_of(alloc, &live, events.zones, request.time_zone, window)?;
+    let busy = busy_of(alloc, &live, events.zones, &arguments.time_zone, window)?;
     Ok(Some(response(alloc, account, busy.periods())?))
 }

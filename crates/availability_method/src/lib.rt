@@ -4,10 +4,8 @@
 mod answer;
 mod events;
 mod laws;
-mod request;
 mod response;
 mod window;
 
 pub use answer::availability;
 pub use laws::{events_take_up_their_occurrences, runs_are_of_the_test};
-pub use request::AvailabilityRequest;

@@ -1,12 +1,15 @@
 //! The calls on accounts that methods make of their arguments.
 ghost use Rattle.std.specs.Prelude.{◌≡◌, ◌≢◌, IfOk, Some, codes, option_map};
-ghost use Rattle.spec_calls.specs.Asking.{argument, availability_asks, changes_asks, get_asks, list_tree, number_argument, object_tree, query_asks, query_changes_asks, set_asks, text_argument, truth_argument, zone_argument};
+ghost use Rattle.spec_calls.specs.Asking.{argument, availability_asks, changes_asks, criteria_given, get_asks, list_tree, number_argument, object_tree, paging_given, query_asks, query_changes_asks, set_asks, text_argument, truth_argument, zone_argument};
 ghost use Rattle.spec_calls.specs.Methods.{call_of, row};
 ghost use Rattle.spec_json.specs.Edit.{ChangesOnlyAt};
 ghost use Rattle.spec_batch.specs.Meaning.{grant_of};
 ghost use Rattle.spec_json.specs.Parts.{as_object, as_text, as_texts};
 
-use spec_calls::call::{Asks, Call};
+use spec_calls::call::{
+    Asks, AvailabilityArguments, Call, ChangesArguments, Criteria, GetArguments, Paging, QueryArguments,
+    QueryChangesArguments, SetArguments,
+};
 use spec_calls::method::Method;
 use spec_core::user::{Grant, Grants};
 use spec_history::entry::Kind;
@@ -83,21 +86,21 @@ fn asks_from(alloc: Global, method: Method, arguments: TreeObject) -> Result<Ask
 fn get_asks(alloc: Global, kind: Kind, mut arguments: TreeObject) -> Result<Asks, AllocError>
     ensures { IfOk result (λ asks. asks ≡ get_asks arguments kind) }
 {
-    Ok(Asks::Get {
+    Ok(Asks::Get(GetArguments {
         kind,
         ids: take_texts(alloc, &mut arguments, "ids")?,
         properties: take_texts(alloc, &mut arguments, "properties")?,
-    })
+    }))
 }
 
 fn changes_asks(kind: Kind, mut arguments: TreeObject) -> Asks
     ensures { result ≡ changes_asks arguments kind }
 {
-    Asks::Changes {
+    Asks::Changes(ChangesArguments {
         kind,
         max: arguments.number_at("maxChanges"),
         since: take_text_or_empty(&mut arguments, "sinceState"),
-    }
+    })
 }
 
 fn set_asks(
@@ -108,56 +111,71 @@ fn set_asks(
 ) -> Result<Asks, AllocError>
     ensures { IfOk result (λ asks. asks ≡ set_asks arguments kind remove_events) }
 {
-    Ok(Asks::Set {
+    Ok(Asks::Set(SetArguments {
         kind,
         if_in_state: take_text(&mut arguments, "ifInState"),
         create: take_object(&mut arguments, "create"),
         update: take_object(&mut arguments, "update"),
         destroy: take_texts(alloc, &mut arguments, "destroy")?,
         remove_events,
-    })
+    }))
 }
 
 fn query_asks(alloc: Global, mut arguments: TreeObject) -> Result<Asks, AllocError>
     ensures { IfOk result (λ asks. asks ≡ query_asks arguments) }
 {
-    Ok(Asks::Query {
-        position: number_or_zero(&arguments, "position"),
-        anchor_offset: number_or_zero(&arguments, "anchorOffset"),
-        limit: arguments.number_at("limit"),
-        calculate_total: is_true_at(&arguments, "calculateTotal"),
+    Ok(Asks::Query(QueryArguments {
         expand: is_true_at(&arguments, "expandRecurrences"),
-        filter: take_filter(&mut arguments),
-        sort: take_sort(&mut arguments),
-        anchor: take_text(&mut arguments, "anchor"),
-        time_zone: take_zone(alloc, &mut arguments)?,
-    })
+        paging: take_paging(&mut arguments),
+        criteria: criteria_from(alloc, arguments)?,
+    }))
 }
 
 fn query_changes_asks(alloc: Global, mut arguments: TreeObject) -> Result<Asks, AllocError>
     ensures { IfOk result (λ asks. asks ≡ query_changes_asks arguments) }
 {
-    Ok(Asks::QueryChanges {
+    Ok(Asks::QueryChanges(QueryChangesArguments {
+        expand: is_true_at(&arguments, "expandRecurrences"),
         max: arguments.number_at("maxChanges"),
         calculate_total: is_true_at(&arguments, "calculateTotal"),
-        expand: is_true_at(&arguments, "expandRecurrences"),
-        filter: take_filter(&mut arguments),
-        sort: take_sort(&mut arguments),
         since: take_text_or_empty(&mut arguments, "sinceQueryState"),
         up_to: take_text(&mut arguments, "upToId"),
-        time_zone: take_zone(alloc, &mut arguments)?,
-    })
+        criteria: criteria_from(alloc, arguments)?,
+    }))
 }
 
 fn availability_asks(alloc: Global, mut arguments: TreeObject) -> Result<Asks, AllocError>
     ensures { IfOk result (λ asks. asks ≡ availability_asks arguments) }
 {
-    Ok(Asks::Availability {
+    Ok(Asks::Availability(AvailabilityArguments {
         id: take_text_or_empty(&mut arguments, "id"),
         utc_start: take_text_or_empty(&mut arguments, "utcStart"),
         utc_end: take_text_or_empty(&mut arguments, "utcEnd"),
         time_zone: take_zone(alloc, &mut arguments)?,
+    }))
+}
+
+fn criteria_from(alloc: Global, mut arguments: TreeObject) -> Result<Criteria, AllocError>
+    ensures { IfOk result (λ criteria. criteria ≡ criteria_given arguments) }
+{
+    Ok(Criteria {
+        filter: take_filter(&mut arguments),
+        sort: take_sort(&mut arguments),
+        time_zone: take_zone(alloc, &mut arguments)?,
     })
+}
+
+fn take_paging(arguments: &mut TreeObject) -> Paging
+    ensures value { result ≡ paging_given arguments.old }
+    ensures others { ChangesOnlyAt (codes "anchor") arguments.old arguments.new }
+{
+    Paging {
+        position: number_or_zero(arguments, "position"),
+        anchor_offset: number_or_zero(arguments, "anchorOffset"),
+        limit: arguments.number_at("limit"),
+        calculate_total: is_true_at(arguments, "calculateTotal"),
+        anchor: take_text(arguments, "anchor"),
+    }
 }
 
 fn number_or_zero(arguments: &TreeObject, key: &str) -> Num

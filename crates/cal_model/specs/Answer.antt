@@ -4,13 +4,19 @@ use Rattle.cal_model.specs.Changes.{changes_response, changes_refusal}
 use Rattle.cal_model.specs.Gets.{get_response, get_error, ids_not_found, objects_asked, selected}
 use Rattle.cal_model.specs.Operations.{Ground}
 use Rattle.cal_model.specs.SetReply.{set_arguments}
-use Rattle.cal_model.specs.Sets.{Objects, new_ids, objects, set_changes, set_refusal}
+use Rattle.cal_model.specs.Sets.{new_ids, objects_of, set_changes, set_refusal}
 use Rattle.spec_availability.specs.Availability.{availability_refusal, availability_response}
 use Rattle.spec_calls.specs.declared.call.Asks.{Asks}
 use Rattle.spec_calls.specs.declared.call.Asks.TheVariants.{Availability, Changes, Get, Query, QueryChanges, Set}
+use Rattle.spec_calls.specs.declared.call.AvailabilityArguments.{AvailabilityArguments}
 use Rattle.spec_calls.specs.declared.call.Call.{Call}
+use Rattle.spec_calls.specs.declared.call.ChangesArguments.{ChangesArguments}
+use Rattle.spec_calls.specs.declared.call.GetArguments.{GetArguments}
 use Rattle.spec_calls.specs.declared.call.MethodError.{MethodError}
+use Rattle.spec_calls.specs.declared.call.QueryArguments.{QueryArguments}
+use Rattle.spec_calls.specs.declared.call.QueryChangesArguments.{QueryChangesArguments}
 use Rattle.spec_calls.specs.declared.call.Reply.{Reply}
+use Rattle.spec_calls.specs.declared.call.SetArguments.{SetArguments}
 use Rattle.spec_history.specs.Base.{Base}
 use Rattle.spec_history.specs.History.{changes_of}
 use Rattle.spec_history.specs.declared.entry.Change.{Change}
@@ -19,9 +25,6 @@ use Rattle.spec_history.specs.declared.entry.Kind.{Kind}
 use Rattle.spec_history.specs.declared.stamp.Stamp.{Stamp}
 use Rattle.spec_json.specs.declared.tree.Tree.{Tree}
 use Rattle.spec_json.specs.declared.tree.Tree.TheVariants.{Null}
-use Rattle.spec_queries.specs.Changed.{Since}
-use Rattle.spec_queries.specs.Criteria.{Criteria}
-use Rattle.spec_queries.specs.Found.{Paging}
 use Rattle.spec_queries.specs.Queries.{query_changes_refusal, query_changes_response, query_refusal, query_response}
 use Rattle.time_text.specs.State.{state_in}
 
@@ -40,57 +43,49 @@ abbrev pub unless_refused : Option MethodError → List Change → List Change
 unless_refused None cs = cs
 unless_refused (Some e) cs = []
 
-abbrev pub get_answer : List ℕ → List Entry → Kind → List (List ℕ × List ℕ) → Option (List (List ℕ)) → Option (List (List ℕ)) → Reply
-get_answer account h kind created ids properties = unless_error h (get_error kind (changes_of h) ids properties) (answered h (get_response account kind (changes_of h)
-    (map (selected properties) (objects_asked (changes_of h) kind created ids)) (ids_not_found (changes_of h) kind created ids)) [])
+abbrev pub get_answer : List ℕ → List Entry → List (List ℕ × List ℕ) → GetArguments → Reply
+get_answer account h created q = unless_error h (get_error (changes_of h) q) (answered h (get_response account q.kind (changes_of h)
+    (map (selected q.properties) (objects_asked (changes_of h) q.kind created q.ids)) (ids_not_found (changes_of h) q.kind created q.ids)) [])
 
-abbrev pub changes_answer : List ℕ → List Entry → Kind → List ℕ → Option ℤ → Reply
-changes_answer account h kind since most = unless_error h (changes_refusal kind (changes_of h) since most)
-    (answered h (changes_response account kind (changes_of h) since most (unwrap_or (state_in since) 0)) [])
+abbrev pub changes_answer : List ℕ → List Entry → ChangesArguments → Reply
+changes_answer account h q = unless_error h (changes_refusal (changes_of h) q) (answered h (changes_response account (changes_of h) q (unwrap_or (state_in q.since) 0)) [])
 
-abbrev pub query_answer : Base → List Entry → Criteria → Bool → Paging → Reply
-query_answer base h criteria expand paging = unless_error h (query_refusal base.zones (changes_of h) criteria expand paging)
-    (answered h (query_response base.zones (changes_of h) criteria expand base.account_id paging) [])
+abbrev pub query_answer : Base → List Entry → QueryArguments → Reply
+query_answer base h q = unless_error h (query_refusal base.zones (changes_of h) q) (answered h (query_response base.zones (changes_of h) q base.account_id) [])
 
-abbrev pub query_changes_answer : Base → List Entry → Criteria → Bool → Since → Reply
-query_changes_answer base h criteria expand since = unless_error h (query_changes_refusal base.zones (changes_of h) criteria expand since)
-    (answered h (query_changes_response base.zones (changes_of h) criteria expand base.account_id since) [])
+abbrev pub query_changes_answer : Base → List Entry → QueryChangesArguments → Reply
+query_changes_answer base h q = unless_error h (query_changes_refusal base.zones (changes_of h) q) (answered h (query_changes_response base.zones (changes_of h) q base.account_id) [])
 
-abbrev pub availability_answer : Base → List Entry → List ℕ → List ℕ → List ℕ → List ℕ → Reply
-availability_answer base h id start end zone = unless_error h (availability_refusal base id start end zone)
-    (answered h (availability_response base (changes_of h) start end zone) [])
+abbrev pub availability_answer : Base → List Entry → AvailabilityArguments → Reply
+availability_answer base h q = unless_error h (availability_refusal base q) (answered h (availability_response base (changes_of h) q) [])
 
-module _ (base : Base) (h : List Entry) (moment : ℤ) (kind : Kind) (created : List (List ℕ × List ℕ)) where
+module _ (base : Base) (h : List Entry) (moment : ℤ) (created : List (List ℕ × List ℕ)) where
   abbrev pub ground : Ground
   ground = record { base = base; moment = moment }
 
-  abbrev pub set_answer : Objects → Option (List ℕ) → Option Bool → Reply
-  set_answer s if_in_state remove_events = unless_error h (set_refusal kind (changes_of h) s if_in_state remove_events)
-      (answered h (set_arguments ground kind created (changes_of h) s) (new_ids ground kind created (changes_of h) s))
+  abbrev pub set_answer : SetArguments → Reply
+  set_answer q = unless_error h (set_refusal q.kind (changes_of h) (objects_of q) q.if_in_state q.remove_events)
+      (answered h (set_arguments ground q.kind created (changes_of h) (objects_of q)) (new_ids ground q.kind created (changes_of h) (objects_of q)))
 
-  abbrev pub set_added : Objects → Option (List ℕ) → Option Bool → List Change
-  set_added s if_in_state remove_events = unless_refused (set_refusal kind (changes_of h) s if_in_state remove_events) (set_changes ground kind created (changes_of h) s)
+  abbrev pub set_added : SetArguments → List Change
+  set_added q = unless_refused (set_refusal q.kind (changes_of h) (objects_of q) q.if_in_state q.remove_events) (set_changes ground q.kind created (changes_of h) (objects_of q))
 
-module _ (base : Base) (h : List Entry) (moment : ℤ) (created : List (List ℕ × List ℕ)) where
   abbrev pub answer_to : Asks → Reply
-  answer_to (Get kind ids properties) = get_answer base.account_id h kind created ids properties
-  answer_to (Changes kind since most) = changes_answer base.account_id h kind since most
-  answer_to (Set kind if_in_state create update destroy remove_events) = set_answer base h moment kind created (objects create update destroy) if_in_state remove_events
-  answer_to (Query filter sort position anchor anchor_offset limit calculate_total expand time_zone) = query_answer base h
-      (record { filter = filter; sort = sort; time_zone = time_zone }) expand
-      (record { position = position; anchor = anchor; anchor_offset = anchor_offset; limit = limit; calculate_total = calculate_total })
-  answer_to (QueryChanges filter sort since most up_to calculate_total expand time_zone) = query_changes_answer base h
-      (record { filter = filter; sort = sort; time_zone = time_zone }) expand (record { state = since; most = most; calculate_total = calculate_total })
-  answer_to (Availability id utc_start utc_end time_zone) = availability_answer base h id utc_start utc_end time_zone
+  answer_to (Get q) = get_answer base.account_id h created q
+  answer_to (Changes q) = changes_answer base.account_id h q
+  answer_to (Set q) = set_answer q
+  answer_to (Query q) = query_answer base h q
+  answer_to (QueryChanges q) = query_changes_answer base h q
+  answer_to (Availability q) = availability_answer base h q
 
   -- the changes that a call makes
   abbrev pub changes_by : Asks → List Change
-  changes_by (Get kind ids properties) = []
-  changes_by (Changes kind since most) = []
-  changes_by (Set kind if_in_state create update destroy remove_events) = set_added base h moment kind created (objects create update destroy) if_in_state remove_events
-  changes_by (Query filter sort position anchor anchor_offset limit calculate_total expand time_zone) = []
-  changes_by (QueryChanges filter sort since most up_to calculate_total expand time_zone) = []
-  changes_by (Availability id utc_start utc_end time_zone) = []
+  changes_by (Get q) = []
+  changes_by (Changes q) = []
+  changes_by (Set q) = set_added q
+  changes_by (Query q) = []
+  changes_by (QueryChanges q) = []
+  changes_by (Availability q) = []
 
 abbrev pub entry_of : Stamp → ℕ → Change → Entry
 entry_of stamp part c = record { author = stamp.author; turn = stamp.turn; part = part; moment = stamp.moment; change = c }

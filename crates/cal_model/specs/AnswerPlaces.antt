@@ -14,12 +14,12 @@ placed_unless h None r is = is
 placed_unless h (Some e) r is = refl
 
 placed : (b : Base) (h : List Entry) (m : ℤ) (created : List (List ℕ × List ℕ)) (a : Asks) → (answer_to b h m created a).place ≡ length h
-placed b h m created (Get kind ids properties) = placed_unless h _ _ refl
-placed b h m created (Changes kind since most) = placed_unless h _ _ refl
-placed b h m created (Set kind if_in_state create update destroy remove_events) = placed_unless h _ _ refl
-placed b h m created (Query filter sort position anchor anchor_offset limit calculate_total expand time_zone) = placed_unless h _ _ refl
-placed b h m created (QueryChanges filter sort since most up_to calculate_total expand time_zone) = placed_unless h _ _ refl
-placed b h m created (Availability id utc_start utc_end time_zone) = placed_unless h _ _ refl
+placed b h m created (Get q) = placed_unless h _ _ refl
+placed b h m created (Changes q) = placed_unless h _ _ refl
+placed b h m created (Set q) = placed_unless h _ _ refl
+placed b h m created (Query q) = placed_unless h _ _ refl
+placed b h m created (QueryChanges q) = placed_unless h _ _ refl
+placed b h m created (Availability q) = placed_unless h _ _ refl
 
 -- a reply says how many entries went before
 pub answer_place : (b : Base) (h : List Entry) (c : Call) (moment : ℤ) → (answer b h c moment).place ≡ length h

@@ -1,5 +1,6 @@
 -- What changed since a state (RFC 8620 section 5.2).
 use Rattle.std.specs.Prelude.{ℕ, ℤ, List, [], ◌∷◌, ◌==◌, not, Option, Some, None, codes, decimal, option_map, unsigned_abs, if◌then◌else◌}
+use Rattle.spec_calls.specs.declared.call.ChangesArguments.{ChangesArguments}
 use Rattle.spec_calls.specs.declared.call.MethodError.{MethodError}
 use Rattle.spec_calls.specs.declared.call.MethodError.TheVariants.{CannotCalculateChanges, InvalidArguments}
 use Rattle.spec_history.specs.History.{state_at}
@@ -11,10 +12,10 @@ use Rattle.spec_json.specs.declared.tree.Tree.{Tree}
 use Rattle.spec_json.specs.declared.tree.Tree.TheVariants.{Object}
 use Rattle.spec_queries.specs.States.{id_list, is_known_state, is_maximum}
 
-abbrev pub changes_refusal : Kind → List Change → List ℕ → Option ℤ → Option MethodError
-changes_refusal kind cs since most =
-    if not (is_maximum most) then Some InvalidArguments
-    else if not (is_known_state kind cs since) then Some CannotCalculateChanges else None
+abbrev pub changes_refusal : List Change → ChangesArguments → Option MethodError
+changes_refusal cs q =
+    if not (is_maximum q.max) then Some InvalidArguments
+    else if not (is_known_state q.kind cs q.since) then Some CannotCalculateChanges else None
 
 -- the page from state k to state j
 abbrev pub page_response : List ℕ → Kind → List Change → List ℕ → ℕ → ℕ → Tree
@@ -25,5 +26,5 @@ page_response account kind cs since k j = Object (
     ∷ (codes "updated", id_list kind (updated (mentions kind cs) k j)) ∷ [])
 
 -- the arguments of the response, whose page ends as far as the maximum allows
-abbrev pub changes_response : List ℕ → Kind → List Change → List ℕ → Option ℤ → ℕ → Tree
-changes_response account kind cs since most k = page_response account kind cs since k (page_end (mentions kind cs) k (option_map unsigned_abs most))
+abbrev pub changes_response : List ℕ → List Change → ChangesArguments → ℕ → Tree
+changes_response account cs q k = page_response account q.kind cs q.since k (page_end (mentions q.kind cs) k (option_map unsigned_abs q.max))

@@ -13,6 +13,7 @@ use Rattle.spec_history.specs.History.{live_at}
 use Rattle.spec_history.specs.ObjectId.{state_text}
 use Rattle.spec_json.specs.Parts.{members_in, some_of}
 use Rattle.spec_json.specs.TreeData.{data_of}
+use Rattle.spec_calls.specs.declared.call.GetArguments.{GetArguments}
 use Rattle.spec_calls.specs.declared.call.MethodError.{MethodError}
 use Rattle.spec_calls.specs.declared.call.MethodError.TheVariants.{InvalidArguments, RequestTooLarge}
 use Rattle.spec_history.specs.declared.entry.Change.{Change}
@@ -60,10 +61,10 @@ are_properties kind None = true
 are_properties kind (Some names) = list_all (is_property kind) names
 
 -- why a get is refused: a name that no property of the kind has, then too many objects
-abbrev pub get_error : Kind → List Change → Option (List (List ℕ)) → Option (List (List ℕ)) → Option MethodError
-get_error kind cs ids properties =
-    if not (are_properties kind properties) then Some InvalidArguments
-    else if nat_lt MAX_OBJECTS_IN_GET (count_asked cs kind ids) then Some RequestTooLarge else None
+abbrev pub get_error : List Change → GetArguments → Option MethodError
+get_error cs q =
+    if not (are_properties q.kind q.properties) then Some InvalidArguments
+    else if nat_lt MAX_OBJECTS_IN_GET (count_asked cs q.kind q.ids) then Some RequestTooLarge else None
 
 abbrev pub get_response : List ℕ → Kind → List Change → List Data → List (List ℕ) → Tree
 get_response account kind cs objects missing = Object (

@@ -7,6 +7,7 @@ use Rattle.cal_model.specs.Operations.{Ground, Operation, changes_in, created_id
 use Rattle.cal_model.specs.declared.outcome.Outcome.{Outcome}
 use Rattle.spec_calls.specs.declared.call.MethodError.{MethodError}
 use Rattle.spec_calls.specs.declared.call.MethodError.TheVariants.{InvalidArguments, RequestTooLarge, StateMismatch}
+use Rattle.spec_calls.specs.declared.call.SetArguments.{SetArguments}
 use Rattle.spec_core.specs.Id.{is_id}
 use Rattle.spec_core.specs.declared.limits.TheConstants.{MAX_OBJECTS_IN_SET}
 use Rattle.spec_history.specs.ObjectId.{state_text}
@@ -24,6 +25,10 @@ pub record Objects : Type 0 where
 
 abbrev pub objects : Option (List Pair) → Option (List Pair) → Option (List (List ℕ)) → Objects
 objects creates updates destroys = record { creates = unwrap_or creates []; updates = unwrap_or updates []; destroys = unwrap_or destroys [] }
+
+-- those that the arguments of a call name
+abbrev pub objects_of : SetArguments → Objects
+objects_of q = objects q.create q.update q.destroy
 
 -- creation ids are Ids, and what is created or patched is an object
 abbrev pub are_values : Objects → Option Bool → Bool

@@ -3,12 +3,14 @@ use Rattle.std.proofs.Common.{◌≡◌, ◌∙◌, ℕ, List, true, None, refl,
 use Rattle.std.specs.Prelude.{IfErr, IfOk, OnOk, Result, unwrap_or}
 use Rattle.expanded_query.specs.Sights.{all_given, looks_for}
 use Rattle.expanded_query.specs.declared.sight.OccurrenceSight.{OccurrenceSight}
+use Rattle.spec_calls.specs.declared.call.Criteria.{Criteria}
+use Rattle.spec_calls.specs.declared.call.Paging.{Paging}
 use Rattle.spec_history.specs.declared.entry.Change.{Change}
 use Rattle.spec_json.specs.declared.tree.Tree.{Tree}
-use Rattle.spec_queries.specs.Criteria.{Criteria, criteria_refusal, filter_or_all, order_of}
+use Rattle.spec_queries.specs.Criteria.{criteria_refusal, filter_or_all, order_of}
 use Rattle.spec_queries.specs.Expanded.{cut_among, expanded_anchor_refusal, expanded_ids, expanded_matches, expanded_window, ids_in_order}
-use Rattle.spec_queries.specs.Found.{Paging, missing_anchor, no_window}
-use Rattle.spec_queries.specs.Queries.{is_paging, query_refusal, query_response}
+use Rattle.spec_queries.specs.Found.{missing_anchor, no_window}
+use Rattle.spec_queries.specs.Queries.{is_paging, occurrences_asked, query_refusal, query_response}
 use Rattle.spec_queries.specs.declared.comparator.Comparator.{Comparator}
 use Rattle.spec_site.specs.TimeZones.{ZoneText}
 use Rattle.query_methods.specs.Reports.{Reports}
@@ -16,7 +18,7 @@ use Rattle.query_methods.specs.declared.error.QueryError.{QueryError}
 
 -- for its anchor alone
 pub by_window : (zones : List ZoneText) (cs : List Change) (c : Criteria) (p : Paging) → is_paging p ≡ true → criteria_refusal zones c true ≡ None
-    → query_refusal zones cs c true p ≡ expanded_anchor_refusal zones cs c p
+    → query_refusal zones cs (occurrences_asked c p) ≡ expanded_anchor_refusal zones cs c p
 by_window zones cs c p h k = rw (h, k) refl
 
 -- by a sight and an order that are those of its criteria
@@ -25,14 +27,14 @@ pub ids_same : (zones : List ZoneText) (cs : List Change) (c : Criteria) (s : Oc
 ids_same zones cs c s order ids sight sorted is = is ∙ (λ i. ids_in_order (sorted i) (expanded_matches (sight i).0 (sight i).1.0 (sight i).1.1 cs))
 
 module _ (zones : List ZoneText) (cs : List Change) (c : Criteria) (p : Paging) (ids : List (List ℕ)) (same : ids ≡ expanded_ids zones cs c) (r : Result Tree QueryError) where
-  pub replied : (account : List ℕ) → IfOk r (λ t. t ≡ expanded_window account cs p ids (unwrap_or (cut_among p ids) no_window)) → IfOk r (λ t. t ≡ query_response zones cs c true account p)
+  pub replied : (account : List ℕ) → IfOk r (λ t. t ≡ expanded_window account cs p ids (unwrap_or (cut_among p ids) no_window)) → IfOk r (λ t. t ≡ query_response zones cs (occurrences_asked c p) account)
   replied account h = subst (λ is. IfOk r (λ t. t ≡ expanded_window account cs p is (unwrap_or (cut_among p is) no_window))) same h
 
-  told : is_paging p ≡ true → criteria_refusal zones c true ≡ None → missing_anchor (cut_among p ids) ≡ query_refusal zones cs c true p
+  told : is_paging p ≡ true → criteria_refusal zones c true ≡ None → missing_anchor (cut_among p ids) ≡ query_refusal zones cs (occurrences_asked c p)
   told h k = (λ i. missing_anchor (cut_among p (same i))) ∙ sym (by_window zones cs c p h k)
 
-  pub answered : is_paging p ≡ true → criteria_refusal zones c true ≡ None → OnOk r (missing_anchor (cut_among p ids) ≡ None) → OnOk r (query_refusal zones cs c true p ≡ None)
+  pub answered : is_paging p ≡ true → criteria_refusal zones c true ≡ None → OnOk r (missing_anchor (cut_among p ids) ≡ None) → OnOk r (query_refusal zones cs (occurrences_asked c p) ≡ None)
   answered h k g = subst (λ refusal. OnOk r (refusal ≡ None)) (told h k) g
 
-  pub refused : is_paging p ≡ true → criteria_refusal zones c true ≡ None → IfErr r (λ e. Reports e (missing_anchor (cut_among p ids))) → IfErr r (λ e. Reports e (query_refusal zones cs c true p))
+  pub refused : is_paging p ≡ true → criteria_refusal zones c true ≡ None → IfErr r (λ e. Reports e (missing_anchor (cut_among p ids))) → IfErr r (λ e. Reports e (query_refusal zones cs (occurrences_asked c p)))
   refused h k g = subst (λ refusal. IfErr r (λ e. Reports e refusal)) (told h k) g

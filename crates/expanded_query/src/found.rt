@@ -12,19 +12,17 @@ ghost use Rattle.spec_queries.specs.Found.{missing_anchor, no_window};
 ghost use Rattle.spec_queries.specs.Queries.{is_paging};
 ghost use Rattle.spec_queries.specs.Windows.{IsInMemory};
 ghost use Rattle.query_methods.specs.Reports.{Reports};
-ghost use Rattle.query_methods.specs.Requests.{paging_in};
 
 use crate::matches::expanded_matches;
 use crate::sight::OccurrenceSight;
 use account_store::Store;
 use event_store::StoredEvents;
-use spec_calls::call::MethodError;
+use spec_calls::call::{MethodError, Paging};
 use spec_json::text::Text;
 use spec_json::tree::{Tree, TreeList};
 use spec_queries::window::{Anchor, Cut};
 use query_methods::error::QueryError;
 use query_methods::found::{Part, cut_asked, cut_out, window_tree};
-use query_methods::request::Paging;
 use query_order::order::Order;
 use query_order::result::result;
 use std::alloc::{AllocError, Global};
@@ -35,14 +33,14 @@ pub(crate) fn found(
     store: &Store,
     account: &Text,
     ids: &[Text],
-    paging: &Paging<'_>,
+    paging: &Paging,
 ) -> Result<Tree, QueryError>
-    requires { is_paging (paging_in paging.now) ≡ true }
-    ensures response { IfOk result (λ t. t ≡ expanded_window account.now (changes_of (entries store.now)) (paging_in paging.now) ids.now (unwrap_or (cut_among (paging_in paging.now) ids.now) no_window)) }
-    ensures found { OnOk result (missing_anchor (cut_among (paging_in paging.now) ids.now) ≡ None) }
-    ensures refused { IfErr result (λ e. Reports e (missing_anchor (cut_among (paging_in paging.now) ids.now))) }
+    requires { is_paging paging.now ≡ true }
+    ensures response { IfOk result (λ t. t ≡ expanded_window account.now (changes_of (entries store.now)) paging.now ids.now (unwrap_or (cut_among paging.now ids.now) no_window)) }
+    ensures found { OnOk result (missing_anchor (cut_among paging.now ids.now) ≡ None) }
+    ensures refused { IfErr result (λ e. Reports e (missing_anchor (cut_among paging.now ids.now))) }
 {
-    let Some(cut) = cut_asked(paging, ids.len() as u64, anchor_among(ids, paging.anchor)) else {
+    let Some(cut) = cut_asked(paging, ids.len() as u64, anchor_among(ids, &paging.anchor)) else {
         return Err(QueryError::Method(MethodError::AnchorNotFound));
     };
     Ok(expanded_window(alloc, store, account, paging, ids, cut)?)
@@ -97,11 +95,11 @@ fn expanded_window(
     alloc: Global,
     store: &Store,
     account: &Text,
-    paging: &Paging<'_>,
+    paging: &Paging,
     ids: &[Text],
     cut: Cut,
 ) -> Result<Tree, AllocError>
-    ensures { IfOk result (λ t. t ≡ expanded_window account.now (changes_of (entries store.now)) (paging_in paging.now) ids.now cut) }
+    ensures { IfOk result (λ t. t ≡ expanded_window account.now (changes_of (entries store.now)) paging.now ids.now cut) }
 {
     let part = Part {
         ids: text_list(alloc, cut_out(cut, ids))?,

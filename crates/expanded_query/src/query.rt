@@ -1,20 +1,18 @@
 //! `CalendarEvent/query` with `expandRecurrences` (RFC 8620 section 5.5, draft JMAP for Calendars).
-ghost use Rattle.std.specs.Prelude.{◌≡◌, IfErr, IfOk, OnOk, None, true};
+ghost use Rattle.std.specs.Prelude.{◌≡◌, IfErr, IfOk, OnOk, None};
 ghost use Rattle.account_store.specs.Store.{entries};
 ghost use Rattle.spec_history.specs.History.{changes_of};
-ghost use Rattle.spec_queries.specs.Queries.{query_refusal, query_response};
+ghost use Rattle.spec_queries.specs.Queries.{occurrences_asked, query_refusal, query_response};
 ghost use Rattle.query_methods.specs.Reports.{Reports};
-ghost use Rattle.query_methods.specs.Requests.{criteria_in, paging_in};
 
 use crate::found::{expanded_ids, found};
 use crate::terms::read_terms;
 use event_store::StoredEvents;
-use spec_calls::call::MethodError;
+use spec_calls::call::{Criteria, MethodError, Paging};
 use spec_json::text::Text;
 use spec_json::tree::Tree;
 use query_methods::error::QueryError;
 use query_methods::numbers::is_paging;
-use query_methods::request::{Criteria, Paging};
 use std::alloc::Global;
 
 /// The arguments of the reply to a query of the events of an account, each of whose occurrences is a result of its own. `Method` tells why
@@ -25,12 +23,12 @@ pub fn expanded_query(
     alloc: Global,
     events: &StoredEvents<'_>,
     account: &Text,
-    criteria: &Criteria<'_>,
-    paging: &Paging<'_>,
+    criteria: &Criteria,
+    paging: &Paging,
 ) -> Result<Tree, QueryError>
-    ensures response { IfOk result (λ t. t ≡ query_response events.now.zones.now (changes_of (entries events.now.store.now)) (criteria_in criteria.now) true account.now (paging_in paging.now)) }
-    ensures answered { OnOk result (query_refusal events.now.zones.now (changes_of (entries events.now.store.now)) (criteria_in criteria.now) true (paging_in paging.now) ≡ None) }
-    ensures refused { IfErr result (λ e. Reports e (query_refusal events.now.zones.now (changes_of (entries events.now.store.now)) (criteria_in criteria.now) true (paging_in paging.now))) }
+    ensures response { IfOk result (λ t. t ≡ query_response events.now.zones.now (changes_of (entries events.now.store.now)) (occurrences_asked criteria.now paging.now) account.now) }
+    ensures answered { OnOk result (query_refusal events.now.zones.now (changes_of (entries events.now.store.now)) (occurrences_asked criteria.now paging.now) ≡ None) }
+    ensures refused { IfErr result (λ e. Reports e (query_refusal events.now.zones.now (changes_of (entries events.now.store.now)) (occurrences_asked criteria.now paging.now))) }
 {
     if !is_paging(paging) {
         return Err(QueryError::Method(MethodError::InvalidArguments));

@@ -3,13 +3,11 @@ ghost use Rattle.std.specs.Prelude.{◌≡◌, IfErr, IfOk, OnOk, None, true};
 ghost use Rattle.expanded_query.specs.Sights.{looks_for};
 ghost use Rattle.spec_queries.specs.Criteria.{criteria_refusal, filter_or_all, order_of};
 ghost use Rattle.query_methods.specs.Reports.{Reports};
-ghost use Rattle.query_methods.specs.Requests.{criteria_in};
 
 use crate::sight::OccurrenceSight;
-use spec_calls::call::MethodError;
+use spec_calls::call::{Criteria, MethodError};
 use query_methods::criteria::filter_and_order;
 use query_methods::error::QueryError;
-use query_methods::request::Criteria;
 use query_order::order::Order;
 use std::alloc::Global;
 use zone_instants::rule_of;
@@ -30,18 +28,18 @@ pub(crate) struct Terms<'a> {
 pub(crate) fn read_terms<'a>(
     alloc: Global,
     zones: &'a Zones,
-    criteria: &Criteria<'a>,
+    criteria: &'a Criteria,
 ) -> Result<Terms<'a>, QueryError>
-    ensures known { OnOk result (criteria_refusal zones.now (criteria_in criteria.now) true ≡ None) }
-    ensures sight { IfOk result (λ t. looks_for t.sight ≡ (zones.now, (criteria.now.time_zone.now, filter_or_all criteria.now.filter.now))) }
+    ensures known { OnOk result (criteria_refusal zones.now criteria.now true ≡ None) }
+    ensures sight { IfOk result (λ t. looks_for t.sight ≡ (zones.now, (criteria.now.time_zone, filter_or_all criteria.now.filter))) }
     ensures zones { IfOk result (λ t. t.sight.zones.now ≡ zones.now) }
-    ensures order { IfOk result (λ t. t.order ≡ order_of (criteria_in criteria.now)) }
-    ensures refused { IfErr result (λ e. Reports e (criteria_refusal zones.now (criteria_in criteria.now) true)) }
+    ensures order { IfOk result (λ t. t.order ≡ order_of criteria.now) }
+    ensures refused { IfErr result (λ e. Reports e (criteria_refusal zones.now criteria.now true)) }
 {
-    let Some(rule) = rule_of(zones, criteria.time_zone) else {
+    let Some(rule) = rule_of(zones, &criteria.time_zone) else {
         return Err(QueryError::Method(MethodError::InvalidArguments));
     };
     let (filter, order) = filter_and_order(alloc, criteria, true)?;
-    let sight = OccurrenceSight::new(alloc, filter, rule, zones, criteria.time_zone)?;
+    let sight = OccurrenceSight::new(alloc, filter, rule, zones, &criteria.time_zone)?;
     Ok(Terms { sight, order })
 }

@@ -30,6 +30,7 @@ use Rattle.state_log.proofs.LawLemmas.{gets_on, length-mentions, page_ends, page
 use Rattle.time_text.proofs.NumberLemmas.{decimal_back}
 use Rattle.time_text.specs.State.{state_in, up_to_unsigned}
 use Rattle.workload.specs.Counts.{count_listed, count_of_ids, has_more, lines, new_state, next_page_state, state_number}
+use Rattle.workload.specs.Generated.{page_arguments}
 use Rattle.workload.specs.Work.{IsWork, PagesLead}
 use Rattle.workload.specs.declared.numbers.Numbers.{Numbers}
 
@@ -92,7 +93,7 @@ module _ (account : List ℕ) (h : List Entry) (since : List ℕ) where
   until = page_end ms from (Some 500)
 
   abbrev page : Reply
-  page = answered h (changes_response account Event cs since (Some (pos 500)) from) []
+  page = answered h (changes_response account cs (page_arguments since) from) []
 
   page_is_few : count_of_ids page ≤ 500
   page_is_few =
@@ -124,7 +125,7 @@ module _ (account : List ℕ) (h : List Entry) (since : List ℕ) where
       let next : state_number (new_state page) ≡ until = ap (λ o. unwrap_or o 0) (decimal_back until (omega (arith, inside, all, few))) in
       (omega (arith, number, begins, on, next), omega (arith, next, inside, all))
 
-  pub leads_of : (e : Option MethodError) → changes_refusal Event cs since (Some (pos 500)) ≡ e → (state : List ℕ) → length h ≤ 2 ^ 40 → next_page_state (unless_error h e page) ≡ Some state → Leads state
+  pub leads_of : (e : Option MethodError) → changes_refusal cs (page_arguments since) ≡ e → (state : List ℕ) → length h ≤ 2 ^ 40 → next_page_state (unless_error h e page) ≡ Some state → Leads state
   leads_of None is state few more =
       let next = taken (has_more page) (new_state page) state more in
       subst Leads next.1 (page_leads (known_state (is_known_state Event cs since) is) few next.0)
@@ -133,8 +134,8 @@ module _ (account : List ℕ) (h : List Entry) (since : List ℕ) where
 pub pages_lead : PagesLead answer added
 pages_lead = record {
   adds_nothing = λ base h since s. refl;
-  few = λ base h since. few_of base.account_id h since (changes_refusal Event (changes_of h) since (Some (pos 500)));
-  gets_on = λ base h since state few more. leads_of base.account_id h since (changes_refusal Event (changes_of h) since (Some (pos 500))) refl state few more;
+  few = λ base h since. few_of base.account_id h since (changes_refusal (changes_of h) (page_arguments since));
+  gets_on = λ base h since state few more. leads_of base.account_id h since (changes_refusal (changes_of h) (page_arguments since)) refl state few more;
 }
 
 -- the lines of the numbers of such a workload are its text

@@ -3,17 +3,20 @@ use Rattle.std.proofs.Common.{◌≡◌, ℕ, List, Bool, true, false, if◌then
 use Rattle.std.specs.Prelude.{unwrap_or}
 use Rattle.spec_history.specs.declared.entry.Change.{Change}
 use Rattle.spec_history.specs.declared.entry.Kind.TheVariants.{Event}
-use Rattle.spec_queries.specs.Changed.{Since, size_refusal}
-use Rattle.spec_queries.specs.Criteria.{Criteria, criteria_refusal, order_of, sight_of}
-use Rattle.spec_queries.specs.Found.{Paging, anchor_refusal}
-use Rattle.spec_queries.specs.Queries.{is_paging, query_changes_refusal, query_refusal}
+use Rattle.spec_calls.specs.declared.call.Criteria.{Criteria}
+use Rattle.spec_calls.specs.declared.call.Paging.{Paging}
+use Rattle.spec_calls.specs.declared.call.QueryChangesArguments.{QueryChangesArguments}
+use Rattle.spec_queries.specs.Changed.{size_refusal}
+use Rattle.spec_queries.specs.Criteria.{criteria_refusal, order_of, sight_of}
+use Rattle.spec_queries.specs.Found.{anchor_refusal}
+use Rattle.spec_queries.specs.Queries.{events_asked, is_paging, query_changes_refusal, query_refusal}
 use Rattle.spec_queries.specs.States.{is_known_state, is_maximum}
 use Rattle.spec_site.specs.TimeZones.{ZoneText}
 use Rattle.time_text.specs.State.{state_in}
 
 -- a query is refused then for its anchor alone
 pub by_anchor : (zones : List ZoneText) (cs : List Change) (c : Criteria) (p : Paging) → is_paging p ≡ true → criteria_refusal zones c false ≡ None
-    → query_refusal zones cs c false p ≡ anchor_refusal (sight_of zones c) (order_of c) cs p
+    → query_refusal zones cs (events_asked c p) ≡ anchor_refusal (sight_of zones c) (order_of c) cs p
 by_anchor zones cs c p h k = rw (h, k) refl
 
 -- the state is one that is known, and the text names it
@@ -25,8 +28,8 @@ pub named : (cs : List Change) (text : List ℕ) (k : ℕ) → Some k ≡ (if is
 named cs text k h = ap (λ o. unwrap_or o 0) (sym (known_is (is_known_state Event cs text) (state_in text) k h).1)
 
 -- its changes are refused then for their number alone
-pub by_size : (zones : List ZoneText) (cs : List Change) (c : Criteria) (expand : Bool) (s : Since) (k : ℕ) → is_maximum s.most ≡ true → criteria_refusal zones c false ≡ None → expand ≡ false
-    → Some k ≡ (if is_known_state Event cs s.state then state_in s.state else None) → query_changes_refusal zones cs c expand s ≡ size_refusal (sight_of zones c) (order_of c) cs s k
-by_size zones cs c expand s k m r e h =
-    let parts = known_is (is_known_state Event cs s.state) (state_in s.state) k h in
+pub by_size : (zones : List ZoneText) (cs : List Change) (q : QueryChangesArguments) (k : ℕ) → is_maximum q.max ≡ true → criteria_refusal zones q.criteria false ≡ None → q.expand ≡ false
+    → Some k ≡ (if is_known_state Event cs q.since then state_in q.since else None) → query_changes_refusal zones cs q ≡ size_refusal (sight_of zones q.criteria) (order_of q.criteria) cs q k
+by_size zones cs q k m r e h =
+    let parts = known_is (is_known_state Event cs q.since) (state_in q.since) k h in
     rw (m, r, e, parts.0, parts.1) refl

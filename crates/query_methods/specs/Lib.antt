@@ -1,5 +1,4 @@
 pub mod Among
-pub mod FilterSights
-pub mod Requests
+pub mod Sights
 pub mod Reports
 pub mod ReadFor

@@ -9,17 +9,16 @@ ghost use Rattle.spec_queries.specs.Changed.{added_item, changed_response, delta
 ghost use Rattle.spec_queries.specs.States.{is_maximum};
 ghost use Rattle.spec_queries.specs.Matching.{result_of};
 ghost use Rattle.query_methods.specs.Reports.{Reports};
-ghost use Rattle.query_methods.specs.Requests.{since_in};
+ghost use Rattle.query_methods.specs.Sights.{seen_by};
 
 use crate::error::QueryError;
 use crate::ids::{id_list, number_tree};
-use crate::request::Since;
 use crate::result::{current_result, touched_result};
 use crate::sight::Sight;
 use crate::touched::touched_since;
 use account_store::Store;
 use event_store::StoredEvents;
-use spec_calls::call::MethodError;
+use spec_calls::call::{MethodError, QueryChangesArguments};
 use spec_history::entry::Kind;
 use spec_json::num::Num;
 use spec_json::text::Text;
@@ -31,50 +30,50 @@ use std::alloc::{AllocError, Global};
 use time_text::{object_id_text, state_text};
 
 /// The arguments of the reply that tells what changed of a result since a state. `Method` tells that it is more than the client takes.
-pub(crate) fn changed<S: Sight>(
+pub(crate) fn changed(
     alloc: Global,
     events: &StoredEvents<'_>,
     account: &Text,
-    sight: &S,
+    sight: &Sight<'_>,
     order: &Order,
-    since: &Since<'_>,
+    arguments: &QueryChangesArguments,
     state: u64,
 ) -> Result<Tree, QueryError>
-    requires zones { S.zones sight.now ≡ events.now.zones.now }
+    requires zones { sight.now.zones.now ≡ events.now.zones.now }
     requires reached { state ≤ state_at (changes_of (entries events.now.store.now)) Event }
-    requires maximum { is_maximum since.now.most ≡ true }
-    ensures response { IfOk result (λ t. t ≡ changed_response (S.see sight.now) order.now (changes_of (entries events.now.store.now)) account.now (since_in since.now) state) }
-    ensures few { OnOk result (size_refusal (S.see sight.now) order.now (changes_of (entries events.now.store.now)) (since_in since.now) state ≡ None) }
-    ensures refused { IfErr result (λ e. Reports e (size_refusal (S.see sight.now) order.now (changes_of (entries events.now.store.now)) (since_in since.now) state)) }
+    requires maximum { is_maximum arguments.now.max ≡ true }
+    ensures response { IfOk result (λ t. t ≡ changed_response (seen_by sight.now) order.now (changes_of (entries events.now.store.now)) account.now arguments.now state) }
+    ensures few { OnOk result (size_refusal (seen_by sight.now) order.now (changes_of (entries events.now.store.now)) arguments.now state ≡ None) }
+    ensures refused { IfErr result (λ e. Reports e (size_refusal (seen_by sight.now) order.now (changes_of (entries events.now.store.now)) arguments.now state)) }
 {
     let now = current_result(alloc, events, sight, order)?;
     let delta = delta_since(alloc, events, sight, order, state, &now)?;
-    if !is_within(since.most, &delta) {
+    if !is_within(arguments.max, &delta) {
         return Err(QueryError::Method(MethodError::TooManyChanges));
     }
     Ok(delta_tree(
         alloc,
         events.store,
         account,
-        since,
+        arguments,
         now.len() as u64,
         &delta,
     )?)
 }
 
 // Of the earlier result only those events are looked at that were touched since.
-fn delta_since<S: Sight>(
+fn delta_since(
     alloc: Global,
     events: &StoredEvents<'_>,
-    sight: &S,
+    sight: &Sight<'_>,
     order: &Order,
     state: u64,
     now: &[u64],
 ) -> Result<Delta, AllocError>
-    requires zones { S.zones sight.now ≡ events.now.zones.now }
+    requires zones { sight.now.zones.now ≡ events.now.zones.now }
     requires reached { state ≤ state_at (changes_of (entries events.now.store.now)) Event }
-    requires result { now.now ≡ result_of (S.see sight.now) order.now (changes_of (entries events.now.store.now)) }
-    ensures { IfOk result (λ delta. delta ≡ delta_since (S.see sight.now) order.now (changes_of (entries events.now.store.now)) state) }
+    requires result { now.now ≡ result_of (seen_by sight.now) order.now (changes_of (entries events.now.store.now)) }
+    ensures { IfOk result (λ delta. delta ≡ delta_since (seen_by sight.now) order.now (changes_of (entries events.now.store.now)) state) }
 {
     let touched = touched_since(
         alloc,
@@ -127,11 +126,11 @@ fn delta_tree(
     alloc: Global,
     store: &Store,
     account: &Text,
-    since: &Since<'_>,
+    arguments: &QueryChangesArguments,
     total: u64,
     delta: &Delta,
 ) -> Result<Tree, AllocError>
-    ensures { IfOk result (λ t. t ≡ delta_response account.now (changes_of (entries store.now)) (since_in since.now) total delta.now) }
+    ensures { IfOk result (λ t. t ≡ delta_response account.now (changes_of (entries store.now)) arguments.now total delta.now) }
 {
     let added = Tree::List(TreeList::new(added_items(alloc, delta.added.items())?));
     let removed = id_list(alloc, Kind::Event, delta.removed.items())?;
@@ -140,10 +139,10 @@ fn delta_tree(
         ("accountId", Tree::Text(account.copy()?)),
         ("added", added),
         ("newQueryState", state),
-        ("oldQueryState", Tree::Text(since.state.copy()?)),
+        ("oldQueryState", Tree::Text(arguments.since.copy()?)),
         ("removed", removed),
     ]?;
-    if since.calculate_total {
+    if arguments.calculate_total {
         members.push(("total", number_tree(total)))?;
     }
     Tree::object(alloc, members)

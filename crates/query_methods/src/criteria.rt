@@ -2,16 +2,14 @@
 ghost use Rattle.std.specs.Prelude.{◌≡◌, IfErr, IfOk, OnOk, None, false};
 ghost use Rattle.spec_queries.specs.Criteria.{asks_window, criteria_refusal, filter_or_all, order_of, sight_of, sort_or_none, terms_refusal};
 ghost use Rattle.spec_queries.specs.Sorts.{by_comparators, sort_in};
-ghost use Rattle.query_methods.specs.FilterSights.{seen_by};
 ghost use Rattle.query_methods.specs.Reports.{Reports};
 ghost use Rattle.query_methods.specs.ReadFor.{IsReadFor};
-ghost use Rattle.query_methods.specs.Requests.{criteria_in};
+ghost use Rattle.query_methods.specs.Sights.{seen_by};
 ghost use Rattle.query_order.specs.Reports.{Reports as ReportsSort};
 
 use crate::error::QueryError;
-use crate::filter_sight::FilterSight;
-use crate::request::Criteria;
-use spec_calls::call::MethodError;
+use crate::sight::Sight;
+use spec_calls::call::{Criteria, MethodError};
 use spec_json::tree::{Tree, TreeObject};
 use spec_queries::limits::MAX_EXPANDED_SECONDS;
 use query_filter::{Filter, FilterError};
@@ -25,7 +23,7 @@ use zone_table::Zones;
 #[derive(Drop)]
 pub(crate) struct Terms<'a> {
     /// The events that the filter holds of.
-    pub sight: FilterSight<'a>,
+    pub sight: Sight<'a>,
     /// The order of the result.
     pub order: Order,
 }
@@ -37,19 +35,19 @@ pub(crate) struct Terms<'a> {
 pub(crate) fn read_terms<'a>(
     alloc: Global,
     zones: &'a Zones,
-    criteria: &Criteria<'a>,
+    criteria: &'a Criteria,
 ) -> Result<Terms<'a>, QueryError>
-    ensures known { OnOk result (criteria_refusal zones.now (criteria_in criteria.now) false ≡ None) }
-    ensures sight { IfOk result (λ t. seen_by t.sight ≡ sight_of zones.now (criteria_in criteria.now)) }
+    ensures known { OnOk result (criteria_refusal zones.now criteria.now false ≡ None) }
+    ensures sight { IfOk result (λ t. seen_by t.sight ≡ sight_of zones.now criteria.now) }
     ensures zones { IfOk result (λ t. t.sight.zones.now ≡ zones.now) }
-    ensures order { IfOk result (λ t. t.order ≡ order_of (criteria_in criteria.now)) }
-    ensures refused { IfErr result (λ e. Reports e (criteria_refusal zones.now (criteria_in criteria.now) false)) }
+    ensures order { IfOk result (λ t. t.order ≡ order_of criteria.now) }
+    ensures refused { IfErr result (λ e. Reports e (criteria_refusal zones.now criteria.now false)) }
 {
-    let Some(rule) = rule_of(zones, criteria.time_zone) else {
+    let Some(rule) = rule_of(zones, &criteria.time_zone) else {
         return Err(QueryError::Method(MethodError::InvalidArguments));
     };
     let (filter, order) = filter_and_order(alloc, criteria, false)?;
-    let sight = FilterSight::new(alloc, filter, rule, zones, criteria.time_zone)?;
+    let sight = Sight::new(alloc, filter, rule, zones, &criteria.time_zone)?;
     Ok(Terms { sight, order })
 }
 
@@ -59,16 +57,16 @@ pub(crate) fn read_terms<'a>(
 /// Takes memory for the filter and the comparators.
 pub fn filter_and_order(
     alloc: Global,
-    criteria: &Criteria<'_>,
+    criteria: &Criteria,
     expand: bool,
 ) -> Result<(Filter, Order), QueryError>
-    ensures known { OnOk result (terms_refusal (criteria_in criteria.now) expand ≡ None) }
-    ensures filter { IfOk result (λ r. r.0 ≡ filter_or_all criteria.now.filter.now) }
-    ensures order { IfOk result (λ r. r.1 ≡ order_of (criteria_in criteria.now)) }
-    ensures refused { IfErr result (λ e. Reports e (terms_refusal (criteria_in criteria.now) expand)) }
+    ensures known { OnOk result (terms_refusal criteria.now expand ≡ None) }
+    ensures filter { IfOk result (λ r. r.0 ≡ filter_or_all criteria.now.filter) }
+    ensures order { IfOk result (λ r. r.1 ≡ order_of criteria.now) }
+    ensures refused { IfErr result (λ e. Reports e (terms_refusal criteria.now expand)) }
 {
-    let filter = read_filter(alloc, criteria.filter, expand);
-    let order = read_order(alloc, criteria.sort);
+    let filter = read_filter(alloc, &criteria.filter, expand);
+    let order = read_order(alloc, &criteria.sort);
     match (filter, order) {
         (Ok(filter), Ok(order)) => Ok((filter, order)),
         (Err(FilterError::NoMemory), _) | (_, Err(SortError::NoMemory)) => Err(

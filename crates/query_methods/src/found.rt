@@ -10,16 +10,15 @@ ghost use Rattle.spec_queries.specs.Found.{anchor_in, anchor_refusal, cut_asked,
 ghost use Rattle.spec_queries.specs.Queries.{is_paging};
 ghost use Rattle.spec_queries.specs.Windows.{IsInMemory};
 ghost use Rattle.query_methods.specs.Reports.{Reports};
-ghost use Rattle.query_methods.specs.Requests.{paging_in};
+ghost use Rattle.query_methods.specs.Sights.{seen_by};
 
 use crate::error::QueryError;
 use crate::ids::{id_list, number_tree};
-use crate::request::Paging;
 use crate::result::current_result;
 use crate::sight::Sight;
 use account_store::Store;
 use event_store::StoredEvents;
-use spec_calls::call::MethodError;
+use spec_calls::call::{MethodError, Paging};
 use spec_history::entry::Kind;
 use spec_json::text::Text;
 use spec_json::tree::Tree;
@@ -32,32 +31,32 @@ use std::cmp::min;
 use time_text::{read_object_id, state_text};
 
 /// The arguments of the reply to a query that asks for this window of its result. `Method` tells that the anchor isn't in the result.
-pub(crate) fn found<S: Sight>(
+pub(crate) fn found(
     alloc: Global,
     events: &StoredEvents<'_>,
     account: &Text,
-    sight: &S,
+    sight: &Sight<'_>,
     order: &Order,
-    paging: &Paging<'_>,
+    paging: &Paging,
 ) -> Result<Tree, QueryError>
-    requires paging { is_paging (paging_in paging.now) ≡ true }
-    requires zones { S.zones sight.now ≡ events.now.zones.now }
-    ensures response { IfOk result (λ t. t ≡ found_response (S.see sight.now) order.now (changes_of (entries events.now.store.now)) (paging_in paging.now) account.now) }
-    ensures found { OnOk result (anchor_refusal (S.see sight.now) order.now (changes_of (entries events.now.store.now)) (paging_in paging.now) ≡ None) }
-    ensures refused { IfErr result (λ e. Reports e (anchor_refusal (S.see sight.now) order.now (changes_of (entries events.now.store.now)) (paging_in paging.now))) }
+    requires paging { is_paging paging.now ≡ true }
+    requires zones { sight.now.zones.now ≡ events.now.zones.now }
+    ensures response { IfOk result (λ t. t ≡ found_response (seen_by sight.now) order.now (changes_of (entries events.now.store.now)) paging.now account.now) }
+    ensures found { OnOk result (anchor_refusal (seen_by sight.now) order.now (changes_of (entries events.now.store.now)) paging.now ≡ None) }
+    ensures refused { IfErr result (λ e. Reports e (anchor_refusal (seen_by sight.now) order.now (changes_of (entries events.now.store.now)) paging.now)) }
 {
     let ids = current_result(alloc, events, sight, order)?;
-    let Some(cut) = cut_asked(paging, ids.len() as u64, anchor_in(&ids, paging.anchor)) else {
+    let Some(cut) = cut_asked(paging, ids.len() as u64, anchor_in(&ids, &paging.anchor)) else {
         return Err(QueryError::Method(MethodError::AnchorNotFound));
     };
     Ok(numbers_window(alloc, events.store, account, paging, &ids, cut)?)
 }
 
 /// The window of a result of so many ids that a query asks for, or `None` where its anchor isn't in the result. Takes no memory.
-pub fn cut_asked(paging: &Paging<'_>, total: u64, anchor: Anchor) -> Option<Cut>
-    requires paging { is_paging (paging_in paging.now) ≡ true }
+pub fn cut_asked(paging: &Paging, total: u64, anchor: Anchor) -> Option<Cut>
+    requires paging { is_paging paging.now ≡ true }
     requires anchor { IsInMemory anchor }
-    ensures { result ≡ cut_asked (paging_in paging.now) total anchor }
+    ensures { result ≡ cut_asked paging.now total anchor }
 {
     window(
         total,
@@ -107,11 +106,11 @@ fn numbers_window(
     alloc: Global,
     store: &Store,
     account: &Text,
-    paging: &Paging<'_>,
+    paging: &Paging,
     ids: &[u64],
     cut: Cut,
 ) -> Result<Tree, AllocError>
-    ensures { IfOk result (λ t. t ≡ numbers_window account.now (changes_of (entries store.now)) (paging_in paging.now) ids.now cut) }
+    ensures { IfOk result (λ t. t ≡ numbers_window account.now (changes_of (entries store.now)) paging.now ids.now cut) }
 {
     let part = Part {
         ids: id_list(alloc, Kind::Event, cut_out(cut, ids))?,
@@ -138,11 +137,11 @@ pub fn window_tree(
     alloc: Global,
     store: &Store,
     account: &Text,
-    paging: &Paging<'_>,
+    paging: &Paging,
     expand: bool,
     part: Part,
 ) -> Result<Tree, AllocError>
-    ensures { IfOk result (λ t. t ≡ window_response account.now (changes_of (entries store.now)) (paging_in paging.now) expand (data_of part.ids) part.total part.cut) }
+    ensures { IfOk result (λ t. t ≡ window_response account.now (changes_of (entries store.now)) paging.now expand (data_of part.ids) part.total part.cut) }
 {
     let mut members = vec![in alloc;
         ("accountId", Tree::Text(account.copy()?)),

@@ -1,8 +1,9 @@
 //! The law of what changed of a query's result, the contract of a function that does nothing.
 ghost use Rattle.std.specs.Prelude.{◌≡◌, ℕ, List};
+ghost use Rattle.spec_calls.specs.declared.call.Criteria.{Criteria};
 ghost use Rattle.spec_history.specs.declared.entry.Change.{Change};
 ghost use Rattle.spec_queries.specs.Changed.{delta_since};
-ghost use Rattle.spec_queries.specs.Criteria.{Criteria, order_of, sight_of};
+ghost use Rattle.spec_queries.specs.Criteria.{order_of, sight_of};
 ghost use Rattle.spec_queries.specs.Matching.{result_at, result_of};
 ghost use Rattle.spec_queries.specs.QueryChanges.{spliced};
 ghost use Rattle.spec_site.specs.TimeZones.{ZoneText};

@@ -4,7 +4,6 @@
 mod changed;
 pub mod criteria;
 pub mod error;
-mod filter_sight;
 pub mod found;
 pub mod ids;
 pub mod item;
@@ -12,7 +11,6 @@ pub mod laws;
 pub mod numbers;
 pub mod query;
 pub mod query_changes;
-pub mod request;
 mod result;
-pub mod sight;
+mod sight;
 mod touched;

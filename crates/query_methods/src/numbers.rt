@@ -5,15 +5,14 @@ ghost use Rattle.spec_queries.specs.Queries.{is_int, is_paging};
 ghost use Rattle.spec_queries.specs.States.{is_maximum};
 ghost use Rattle.spec_json.specs.Data.{whole};
 ghost use Rattle.property_table.specs.Values.{is_unsigned_int};
-ghost use Rattle.query_methods.specs.Requests.{paging_in};
 
-use crate::request::Paging;
+use spec_calls::call::Paging;
 use spec_core::numbers::MAX_UNSIGNED_INT;
 use spec_json::num::Num;
 
 /// Whether positions and offsets are Ints, and the limit is an UnsignedInt (RFC 8620 section 1.3). Takes no memory.
-pub fn is_paging(paging: &Paging<'_>) -> bool
-    ensures { result ≡ is_paging (paging_in paging.now) }
+pub fn is_paging(paging: &Paging) -> bool
+    ensures { result ≡ is_paging paging.now }
 {
     is_int(paging.position) && is_int(paging.anchor_offset) && is_limit(paging.limit)
 }

@@ -1,18 +1,16 @@
 //! `CalendarEvent/query` (RFC 8620 section 5.5, draft JMAP for Calendars).
-ghost use Rattle.std.specs.Prelude.{◌≡◌, IfErr, IfOk, OnOk, None, false};
+ghost use Rattle.std.specs.Prelude.{◌≡◌, IfErr, IfOk, OnOk, None};
 ghost use Rattle.account_store.specs.Store.{entries};
 ghost use Rattle.spec_history.specs.History.{changes_of};
-ghost use Rattle.spec_queries.specs.Queries.{query_refusal, query_response};
+ghost use Rattle.spec_queries.specs.Queries.{events_asked, query_refusal, query_response};
 ghost use Rattle.query_methods.specs.Reports.{Reports};
-ghost use Rattle.query_methods.specs.Requests.{criteria_in, paging_in};
 
 use crate::criteria::read_terms;
 use crate::error::QueryError;
 use crate::found::found;
 use crate::numbers::is_paging;
-use crate::request::{Criteria, Paging};
 use event_store::StoredEvents;
-use spec_calls::call::MethodError;
+use spec_calls::call::{Criteria, MethodError, Paging};
 use spec_json::text::Text;
 use spec_json::tree::Tree;
 use std::alloc::Global;
@@ -24,12 +22,12 @@ pub fn query(
     alloc: Global,
     events: &StoredEvents<'_>,
     account: &Text,
-    criteria: &Criteria<'_>,
-    paging: &Paging<'_>,
+    criteria: &Criteria,
+    paging: &Paging,
 ) -> Result<Tree, QueryError>
-    ensures response { IfOk result (λ t. t ≡ query_response events.now.zones.now (changes_of (entries events.now.store.now)) (criteria_in criteria.now) false account.now (paging_in paging.now)) }
-    ensures answered { OnOk result (query_refusal events.now.zones.now (changes_of (entries events.now.store.now)) (criteria_in criteria.now) false (paging_in paging.now) ≡ None) }
-    ensures refused { IfErr result (λ e. Reports e (query_refusal events.now.zones.now (changes_of (entries events.now.store.now)) (criteria_in criteria.now) false (paging_in paging.now))) }
+    ensures response { IfOk result (λ t. t ≡ query_response events.now.zones.now (changes_of (entries events.now.store.now)) (events_asked criteria.now paging.now) account.now) }
+    ensures answered { OnOk result (query_refusal events.now.zones.now (changes_of (entries events.now.store.now)) (events_asked criteria.now paging.now) ≡ None) }
+    ensures refused { IfErr result (λ e. Reports e (query_refusal events.now.zones.now (changes_of (entries events.now.store.now)) (events_asked criteria.now paging.now))) }
 {
     if !is_paging(paging) {
         return Err(QueryError::Method(MethodError::InvalidArguments));

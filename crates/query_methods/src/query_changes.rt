@@ -7,17 +7,15 @@ ghost use Rattle.spec_history.specs.declared.entry.Kind.TheVariants.{Event};
 ghost use Rattle.spec_queries.specs.Queries.{query_changes_refusal, query_changes_response};
 ghost use Rattle.spec_queries.specs.States.{is_known_state};
 ghost use Rattle.query_methods.specs.Reports.{Reports};
-ghost use Rattle.query_methods.specs.Requests.{criteria_in, since_in};
 ghost use Rattle.time_text.specs.State.{state_in};
 
 use crate::changed::changed;
 use crate::criteria::read_terms;
 use crate::error::QueryError;
 use crate::numbers::is_maximum;
-use crate::request::{Criteria, Since};
 use account_store::Store;
 use event_store::StoredEvents;
-use spec_calls::call::MethodError;
+use spec_calls::call::{MethodError, QueryChangesArguments};
 use spec_history::entry::Kind;
 use spec_json::text::Text;
 use spec_json::tree::Tree;
@@ -33,27 +31,25 @@ pub fn query_changes(
     alloc: Global,
     events: &StoredEvents<'_>,
     account: &Text,
-    criteria: &Criteria<'_>,
-    expand: bool,
-    since: &Since<'_>,
+    arguments: &QueryChangesArguments,
 ) -> Result<Tree, QueryError>
-    ensures response { IfOk result (λ t. t ≡ query_changes_response events.now.zones.now (changes_of (entries events.now.store.now)) (criteria_in criteria.now) expand account.now (since_in since.now)) }
-    ensures answered { OnOk result (query_changes_refusal events.now.zones.now (changes_of (entries events.now.store.now)) (criteria_in criteria.now) expand (since_in since.now) ≡ None) }
-    ensures refused { IfErr result (λ e. Reports e (query_changes_refusal events.now.zones.now (changes_of (entries events.now.store.now)) (criteria_in criteria.now) expand (since_in since.now))) }
+    ensures response { IfOk result (λ t. t ≡ query_changes_response events.now.zones.now (changes_of (entries events.now.store.now)) arguments.now account.now) }
+    ensures answered { OnOk result (query_changes_refusal events.now.zones.now (changes_of (entries events.now.store.now)) arguments.now ≡ None) }
+    ensures refused { IfErr result (λ e. Reports e (query_changes_refusal events.now.zones.now (changes_of (entries events.now.store.now)) arguments.now)) }
 {
-    if !is_maximum(since.most) {
+    if !is_maximum(arguments.max) {
         return Err(QueryError::Method(MethodError::InvalidArguments));
     }
-    let terms = read_terms(alloc, events.zones, criteria)?;
-    match known_state(events.store, since.state) {
-        Some(state) if !expand => {
+    let terms = read_terms(alloc, events.zones, &arguments.criteria)?;
+    match known_state(events.store, &arguments.since) {
+        Some(state) if !arguments.expand => {
             changed(
                 alloc,
                 events,
                 account,
                 &terms.sight,
                 &terms.order,
-                since,
+                arguments,
                 state,
             )
         }

@@ -7,6 +7,7 @@ ghost use Rattle.spec_history.specs.Pages.{is_in};
 ghost use Rattle.spec_history.specs.declared.entry.Kind.TheVariants.{Event};
 ghost use Rattle.spec_queries.specs.Matching.{match_of, result_at, result_of, with_number};
 ghost use Rattle.query_methods.specs.Among.{matches_among, number_if, result_among};
+ghost use Rattle.query_methods.specs.Sights.{seen_by};
 
 use crate::sight::Sight;
 use event_store::StoredEvents;
@@ -21,14 +22,14 @@ use std::alloc::{AllocError, Global};
 ///
 /// Takes memory for them, and where there are comparators for the items of all of them. Time grows with the number of events.
 #[tactic(auto, using(crate::proofs::ResultLemmas::result_now))]
-pub(crate) fn current_result<S: Sight>(
+pub(crate) fn current_result(
     alloc: Global,
     events: &StoredEvents<'_>,
-    sight: &S,
+    sight: &Sight<'_>,
     order: &Order,
 ) -> Result<Vec<u64>, AllocError>
-    requires { S.zones sight.now ≡ events.now.zones.now }
-    ensures { IfOk result (λ v. v.items ≡ result_of (S.see sight.now) order.now (changes_of (entries events.now.store.now))) }
+    requires { sight.now.zones.now ≡ events.now.zones.now }
+    ensures { IfOk result (λ v. v.items ≡ result_of (seen_by sight.now) order.now (changes_of (entries events.now.store.now))) }
 {
     let state = events.store.count(Kind::Event);
     let numbers = events.store.ids(Kind::Event);
@@ -39,16 +40,16 @@ pub(crate) fn current_result<S: Sight>(
 ///
 /// Takes memory for them and their items alone, and for the list of those that were live then.
 #[tactic(auto, using(crate::proofs::ResultLemmas::touched_result))]
-pub(crate) fn touched_result<S: Sight>(
+pub(crate) fn touched_result(
     alloc: Global,
     events: &StoredEvents<'_>,
-    sight: &S,
+    sight: &Sight<'_>,
     order: &Order,
     state: u64,
     touched: &[u64],
 ) -> Result<Vec<u64>, AllocError>
-    requires { S.zones sight.now ≡ events.now.zones.now }
-    ensures { IfOk result (λ v. filter (is_in touched.now) v.items ≡ filter (is_in touched.now) (result_at (S.see sight.now) order.now (changes_of (entries events.now.store.now)) state)) }
+    requires { sight.now.zones.now ≡ events.now.zones.now }
+    ensures { IfOk result (λ v. filter (is_in touched.now) v.items ≡ filter (is_in touched.now) (result_at (seen_by sight.now) order.now (changes_of (entries events.now.store.now)) state)) }
 {
     let live = events.store.live_ids_at(alloc, Kind::Event, state)?;
     let among = numbers_among(alloc, live.items(), touched)?;
@@ -56,16 +57,16 @@ pub(crate) fn touched_result<S: Sight>(
 }
 
 // The result of a query that looks at these events alone, at a state.
-fn result_among<S: Sight>(
+fn result_among(
     alloc: Global,
     events: &StoredEvents<'_>,
-    sight: &S,
+    sight: &Sight<'_>,
     order: &Order,
     state: u64,
     numbers: &[u64],
 ) -> Result<Vec<u64>, AllocError>
-    requires { S.zones sight.now ≡ events.now.zones.now }
-    ensures { IfOk result (λ v. v.items ≡ result_among (S.see sight.now) order.now (changes_up_to (entries events.now.store.now) Event state) numbers.now) }
+    requires { sight.now.zones.now ≡ events.now.zones.now }
+    ensures { IfOk result (λ v. v.items ≡ result_among (seen_by sight.now) order.now (changes_up_to (entries events.now.store.now) Event state) numbers.now) }
 {
     if order.is_empty() {
         return found_among(alloc, events, sight, state, numbers);
@@ -82,16 +83,16 @@ struct Matches {
     items: Vec<Item>,
 }
 
-fn matches_among<S: Sight>(
+fn matches_among(
     alloc: Global,
     events: &StoredEvents<'_>,
-    sight: &S,
+    sight: &Sight<'_>,
     state: u64,
     numbers: &[u64],
 ) -> Result<Matches, AllocError>
-    requires { S.zones sight.now ≡ events.now.zones.now }
-    ensures numbers { IfOk result (λ m. m.numbers.items ≡ map (λ p. p.0) (matches_among (S.see sight.now) (changes_up_to (entries events.now.store.now) Event state) numbers.now)) }
-    ensures items { IfOk result (λ m. m.items.items ≡ map (λ p. p.1) (matches_among (S.see sight.now) (changes_up_to (entries events.now.store.now) Event state) numbers.now)) }
+    requires { sight.now.zones.now ≡ events.now.zones.now }
+    ensures numbers { IfOk result (λ m. m.numbers.items ≡ map (λ p. p.0) (matches_among (seen_by sight.now) (changes_up_to (entries events.now.store.now) Event state) numbers.now)) }
+    ensures items { IfOk result (λ m. m.items.items ≡ map (λ p. p.1) (matches_among (seen_by sight.now) (changes_up_to (entries events.now.store.now) Event state) numbers.now)) }
     ensures paired { IfOk result (λ m. length m.numbers.items ≡ length m.items.items) }
 {
     let mut found = Vec::new(alloc);
@@ -108,15 +109,15 @@ fn matches_among<S: Sight>(
     })
 }
 
-fn item_at<S: Sight>(
+fn item_at(
     alloc: Global,
     events: &StoredEvents<'_>,
-    sight: &S,
+    sight: &Sight<'_>,
     state: u64,
     number: u64,
 ) -> Result<Option<Item>, AllocError>
-    requires { S.zones sight.now ≡ events.now.zones.now }
-    ensures { IfOk result (λ o. with_number number o ≡ match_of (S.see sight.now) number (live_object (changes_up_to (entries events.now.store.now) Event state) Event number)) }
+    requires { sight.now.zones.now ≡ events.now.zones.now }
+    ensures { IfOk result (λ o. with_number number o ≡ match_of (seen_by sight.now) number (live_object (changes_up_to (entries events.now.store.now) Event state) Event number)) }
 {
     match events.event_at(number, state) {
         Some(event) => sight.see(alloc, &event),
@@ -125,15 +126,15 @@ fn item_at<S: Sight>(
 }
 
 // The numbers of the events of which a filter holds. No items are made of them.
-fn found_among<S: Sight>(
+fn found_among(
     alloc: Global,
     events: &StoredEvents<'_>,
-    sight: &S,
+    sight: &Sight<'_>,
     state: u64,
     numbers: &[u64],
 ) -> Result<Vec<u64>, AllocError>
-    requires { S.zones sight.now ≡ events.now.zones.now }
-    ensures { IfOk result (λ v. v.items ≡ map (λ p. p.0) (matches_among (S.see sight.now) (changes_up_to (entries events.now.store.now) Event state) numbers.now)) }
+    requires { sight.now.zones.now ≡ events.now.zones.now }
+    ensures { IfOk result (λ v. v.items ≡ map (λ p. p.0) (matches_among (seen_by sight.now) (changes_up_to (entries events.now.store.now) Event state) numbers.now)) }
 {
     let mut found = Vec::new(alloc);
     for number in numbers {
@@ -144,15 +145,15 @@ fn found_among<S: Sight>(
     Ok(found)
 }
 
-fn is_match<S: Sight>(
+fn is_match(
     alloc: Global,
     events: &StoredEvents<'_>,
-    sight: &S,
+    sight: &Sight<'_>,
     state: u64,
     number: u64,
 ) -> Result<bool, AllocError>
-    requires { S.zones sight.now ≡ events.now.zones.now }
-    ensures { IfOk result (λ b. number_if b number ≡ map (λ p. p.0) (match_of (S.see sight.now) number (live_object (changes_up_to (entries events.now.store.now) Event state) Event number))) }
+    requires { sight.now.zones.now ≡ events.now.zones.now }
+    ensures { IfOk result (λ b. number_if b number ≡ map (λ p. p.0) (match_of (seen_by sight.now) number (live_object (changes_up_to (entries events.now.store.now) Event state) Event number))) }
 {
     match events.event_at(number, state) {
         Some(event) => sight.holds(alloc, &event),

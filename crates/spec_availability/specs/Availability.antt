@@ -5,6 +5,7 @@ use Rattle.std.specs.Str.{bytes_eq}
 use Rattle.spec_availability.specs.BusyInstants.{is_taken_up}
 use Rattle.spec_availability.specs.Runs.{runs_in}
 use Rattle.spec_availability.specs.declared.limits.TheConstants.{MAX_WINDOW_SECONDS}
+use Rattle.spec_calls.specs.declared.call.AvailabilityArguments.{AvailabilityArguments}
 use Rattle.spec_calls.specs.declared.call.MethodError.{MethodError}
 use Rattle.spec_calls.specs.declared.call.MethodError.TheVariants.{InvalidArguments}
 use Rattle.spec_events.specs.Values.{is_showing}
@@ -41,14 +42,14 @@ periods_object account ps = Object ((codes "accountId", text account) ∷ (codes
 
 module _ (base : Base) where
   -- the principal is the account, the window one that may be asked for, and the zone of floating events one of the account's
-  abbrev pub availability_refusal : List ℕ → List ℕ → List ℕ → List ℕ → Option MethodError
-  availability_refusal id start end zone =
-      if bytes_eq id base.account_id && (is_some (window_in start end) && has_zone base.zones zone) then None else Some InvalidArguments
+  abbrev pub availability_refusal : AvailabilityArguments → Option MethodError
+  availability_refusal q =
+      if bytes_eq q.id base.account_id && (is_some (window_in q.utc_start q.utc_end) && has_zone base.zones q.time_zone) then None else Some InvalidArguments
 
   -- the maximal runs of the window's instants that live events take up
   abbrev pub busy_periods : List Change → List ℕ → Period → List Period
   busy_periods cs zone window = runs_in (is_taken_up base.zones zone (live_at cs Event)) window
 
   -- the arguments of the response
-  abbrev pub availability_response : List Change → List ℕ → List ℕ → List ℕ → Tree
-  availability_response cs start end zone = periods_object base.account_id (option_map_or (busy_periods cs zone) (window_in start end) [])
+  abbrev pub availability_response : List Change → AvailabilityArguments → Tree
+  availability_response cs q = periods_object base.account_id (option_map_or (busy_periods cs q.time_zone) (window_in q.utc_start q.utc_end) [])

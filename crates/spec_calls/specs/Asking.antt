@@ -4,6 +4,8 @@ use Rattle.spec_json.specs.Data.{Data, Pair, lookup}
 use Rattle.spec_json.specs.Parts.{as_text, as_truth, as_whole, as_texts, as_list, as_object}
 use Rattle.spec_calls.specs.declared.call.Asks.{Asks}
 use Rattle.spec_calls.specs.declared.call.Asks.TheVariants.{Get, Changes, Set, Query, QueryChanges, Availability}
+use Rattle.spec_calls.specs.declared.call.Criteria.{Criteria}
+use Rattle.spec_calls.specs.declared.call.Paging.{Paging}
 use Rattle.spec_history.specs.declared.entry.Kind.{Kind}
 use Rattle.spec_history.specs.declared.entry.Kind.TheVariants.{Calendar}
 use Rattle.spec_json.specs.declared.tree.Tree.{Tree}
@@ -33,29 +35,53 @@ module _ (arguments : List Pair) where
   zone_argument = unwrap_or (argument as_text (codes "timeZone")) (codes "Etc/UTC")
 
   abbrev pub get_asks : Kind → Asks
-  get_asks kind = Get kind (argument as_texts (codes "ids")) (argument as_texts (codes "properties"))
+  get_asks kind = Get (record { kind = kind; ids = argument as_texts (codes "ids"); properties = argument as_texts (codes "properties") })
 
   abbrev pub changes_asks : Kind → Asks
-  changes_asks kind = Changes kind (text_argument (codes "sinceState")) (argument as_whole (codes "maxChanges"))
+  changes_asks kind = Changes (record { kind = kind; since = text_argument (codes "sinceState"); max = argument as_whole (codes "maxChanges") })
 
   abbrev pub set_asks : Kind → Option Bool → Asks
-  set_asks kind remove_events = Set kind (argument as_text (codes "ifInState")) (argument as_object (codes "create"))
-      (argument as_object (codes "update")) (argument as_texts (codes "destroy")) remove_events
+  set_asks kind remove_events = Set (record {
+    kind = kind;
+    if_in_state = argument as_text (codes "ifInState");
+    create = argument as_object (codes "create");
+    update = argument as_object (codes "update");
+    destroy = argument as_texts (codes "destroy");
+    remove_events = remove_events;
+  })
 
   abbrev pub calendar_set_asks : Asks
   calendar_set_asks = set_asks Calendar (argument as_truth (codes "onDestroyRemoveEvents"))
 
+  abbrev pub criteria_given : Criteria
+  criteria_given = record { filter = argument object_tree (codes "filter"); sort = argument list_tree (codes "sort"); time_zone = zone_argument }
+
+  abbrev pub paging_given : Paging
+  paging_given = record {
+    position = number_argument (codes "position");
+    anchor = argument as_text (codes "anchor");
+    anchor_offset = number_argument (codes "anchorOffset");
+    limit = argument as_whole (codes "limit");
+    calculate_total = truth_argument (codes "calculateTotal");
+  }
+
   abbrev pub query_asks : Asks
-  query_asks = Query (argument object_tree (codes "filter")) (argument list_tree (codes "sort"))
-      (number_argument (codes "position")) (argument as_text (codes "anchor")) (number_argument (codes "anchorOffset"))
-      (argument as_whole (codes "limit")) (truth_argument (codes "calculateTotal")) (truth_argument (codes "expandRecurrences"))
-      zone_argument
+  query_asks = Query (record { criteria = criteria_given; expand = truth_argument (codes "expandRecurrences"); paging = paging_given })
 
   abbrev pub query_changes_asks : Asks
-  query_changes_asks = QueryChanges (argument object_tree (codes "filter")) (argument list_tree (codes "sort"))
-      (text_argument (codes "sinceQueryState")) (argument as_whole (codes "maxChanges")) (argument as_text (codes "upToId"))
-      (truth_argument (codes "calculateTotal")) (truth_argument (codes "expandRecurrences")) zone_argument
+  query_changes_asks = QueryChanges (record {
+    criteria = criteria_given;
+    expand = truth_argument (codes "expandRecurrences");
+    since = text_argument (codes "sinceQueryState");
+    max = argument as_whole (codes "maxChanges");
+    up_to = argument as_text (codes "upToId");
+    calculate_total = truth_argument (codes "calculateTotal");
+  })
 
   abbrev pub availability_asks : Asks
-  availability_asks = Availability (text_argument (codes "id")) (text_argument (codes "utcStart"))
-      (text_argument (codes "utcEnd")) zone_argument
+  availability_asks = Availability (record {
+    id = text_argument (codes "id");
+    utc_start = text_argument (codes "utcStart");
+    utc_end = text_argument (codes "utcEnd");
+    time_zone = zone_argument;
+  })

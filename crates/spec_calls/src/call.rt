@@ -121,86 +121,21 @@ pub struct AvailabilityArguments {
     pub time_zone: Text,
 }
 
-/// What a method call asks of an account: its arguments, with the defaults of those that are absent.
+/// What a method call asks of an account, by its arguments.
 #[derive(Drop)]
 pub enum Asks {
     /// Asks for objects (RFC 8620 section 5.1).
-    Get {
-        /// The kind of the objects.
-        kind: Kind,
-        /// The ids asked for, or `None` for all.
-        ids: Option<Texts>,
-        /// The names of the properties asked for, or `None` for all.
-        properties: Option<Texts>,
-    },
+    Get(GetArguments),
     /// Asks what changed since a state (RFC 8620 section 5.2).
-    Changes {
-        /// The kind of the objects.
-        kind: Kind,
-        /// The state that the client knows.
-        since: Text,
-        /// The most ids that the reply may have, or `None` for no limit.
-        max: Option<Num>,
-    },
+    Changes(ChangesArguments),
     /// Creates, updates and destroys objects (RFC 8620 section 5.3).
-    Set {
-        /// The kind of the objects.
-        kind: Kind,
-        /// The state in which alone the call is to be carried out.
-        if_in_state: Option<Text>,
-        /// Creation ids, each with the object to be created.
-        create: Option<TreeObject>,
-        /// Ids, each with the patch of its object.
-        update: Option<TreeObject>,
-        /// The ids of the objects to be destroyed.
-        destroy: Option<Texts>,
-        /// The argument `onDestroyRemoveEvents` of calendars.
-        remove_events: Option<bool>,
-    },
+    Set(SetArguments),
     /// Asks for the events that a filter holds of, sorted (RFC 8620 section 5.5).
-    Query {
-        filter: Option<Tree>,
-        sort: Option<Tree>,
-        /// The place of the first result, from the end where it is negative.
-        position: Num,
-        /// The id that takes the place of a position.
-        anchor: Option<Text>,
-        anchor_offset: Num,
-        /// The most results, or `None` for no limit of the client.
-        limit: Option<Num>,
-        calculate_total: bool,
-        /// Whether each occurrence is a result of its own.
-        expand: bool,
-        /// The time zone of the filter's times and of floating events.
-        time_zone: Text,
-    },
+    Query(QueryArguments),
     /// Asks how the result of a query changed since a state (RFC 8620 section 5.6).
-    QueryChanges {
-        filter: Option<Tree>,
-        sort: Option<Tree>,
-        /// The state that the client knows.
-        since: Text,
-        /// The most changes that the reply may have, or `None` for no limit.
-        max: Option<Num>,
-        /// The last id that the client knows.
-        up_to: Option<Text>,
-        calculate_total: bool,
-        /// Whether each occurrence is a result of its own.
-        expand: bool,
-        /// The time zone of the filter's times and of floating events.
-        time_zone: Text,
-    },
+    QueryChanges(QueryChangesArguments),
     /// Asks when the account's owner is busy (draft JMAP for Calendars).
-    Availability {
-        /// The principal, which is the account.
-        id: Text,
-        /// The start of the window, a UTCDate.
-        utc_start: Text,
-        /// The end of the window, a UTCDate.
-        utc_end: Text,
-        /// The time zone of floating events.
-        time_zone: Text,
-    },
+    Availability(AvailabilityArguments),
 }
 
 /// Why a method call was refused (RFC 8620 section 3.6.2). The call changed nothing.

@@ -2,6 +2,7 @@
 use Rattle.std.specs.Prelude.{ℕ, ℤ, pos, ◌+◌, List, [], ◌∷◌, Bool, Option, Some, None, codes, length, map, option_map, unsigned_abs, if◌then◌else◌}
 use Rattle.spec_calls.specs.declared.call.MethodError.{MethodError}
 use Rattle.spec_calls.specs.declared.call.MethodError.TheVariants.{TooManyChanges}
+use Rattle.spec_calls.specs.declared.call.QueryChangesArguments.{QueryChangesArguments}
 use Rattle.spec_history.specs.ObjectId.{id_text, state_text}
 use Rattle.spec_history.specs.Pages.{is_within}
 use Rattle.spec_history.specs.declared.entry.Change.{Change}
@@ -18,12 +19,6 @@ use Rattle.spec_queries.specs.declared.delta.Delta.{Delta}
 use Rattle.spec_queries.specs.declared.delta.Place.{Place}
 use Rattle.spec_queries.specs.declared.item.Item.{Item}
 
--- from which state, how many changes at most, and whether the length of the result is asked for
-pub record Since : Type 0 where
-  pub state : List ℕ
-  pub most : Option ℤ
-  pub calculate_total : Bool
-
 abbrev pub size_of_delta : Delta → ℕ
 size_of_delta delta = length delta.removed + length delta.added
 
@@ -32,19 +27,19 @@ abbrev pub added_item : Place → Data
 added_item place = object (members_of ((codes "id", text (id_text Event place.id)) ∷ (codes "index", whole (pos place.index)) ∷ []))
 
 -- the arguments of the reply that tells what changed, where the result has so many ids now
-abbrev pub delta_response : List ℕ → List Change → Since → ℕ → Delta → Tree
-delta_response account cs s total delta = Object (
+abbrev pub delta_response : List ℕ → List Change → QueryChangesArguments → ℕ → Delta → Tree
+delta_response account cs q total delta = Object (
     (codes "accountId", text account) ∷ (codes "added", list (items_of (map added_item delta.added)))
-    ∷ (codes "newQueryState", text (state_text Event cs)) ∷ (codes "oldQueryState", text s.state)
-    ∷ (codes "removed", id_list Event delta.removed) ∷ total_member s.calculate_total total)
+    ∷ (codes "newQueryState", text (state_text Event cs)) ∷ (codes "oldQueryState", text q.since)
+    ∷ (codes "removed", id_list Event delta.removed) ∷ total_member q.calculate_total total)
 
 module _ (see : Tree → Option Item) (order : List Comparator) (cs : List Change) where
   -- from the result at state k to that at the end of the history
   abbrev pub delta_since : ℕ → Delta
   delta_since k = delta_of (result_at see order cs k) (result_of see order cs) (touched_since cs k)
 
-  abbrev pub size_refusal : Since → ℕ → Option MethodError
-  size_refusal s k = if is_within (option_map unsigned_abs s.most) (size_of_delta (delta_since k)) then None else Some TooManyChanges
+  abbrev pub size_refusal : QueryChangesArguments → ℕ → Option MethodError
+  size_refusal q k = if is_within (option_map unsigned_abs q.max) (size_of_delta (delta_since k)) then None else Some TooManyChanges
 
-  abbrev pub changed_response : List ℕ → Since → ℕ → Tree
-  changed_response account s k = delta_response account cs s (length (result_of see order cs)) (delta_since k)
+  abbrev pub changed_response : List ℕ → QueryChangesArguments → ℕ → Tree
+  changed_response account q k = delta_response account cs q (length (result_of see order cs)) (delta_since k)

@@ -1,6 +1,7 @@
 -- Which events a query asks for, and in which order (RFC 8620 section 5.5).
 use Rattle.std.specs.Prelude.{ℕ, pos, ◌-ℤ◌, int_le, List, [], ◌&&◌, ◌||◌, Bool, true, false, not, Option, Some, None, option_map, unwrap_or, if◌then◌else◌}
 use Rattle.std.specs.Option.{option_map_or}
+use Rattle.spec_calls.specs.declared.call.Criteria.{Criteria}
 use Rattle.spec_calls.specs.declared.call.MethodError.{MethodError}
 use Rattle.spec_calls.specs.declared.call.MethodError.TheVariants.{InvalidArguments, UnsupportedFilter, UnsupportedSort}
 use Rattle.spec_filters.specs.Filters.{is_bad_filter, is_unsupported_filter}
@@ -38,12 +39,6 @@ comparators_of bad_sort = []
 comparators_of unsupported_sort = []
 comparators_of (by_comparators order) = order
 
--- the arguments that say which events and in which order; times of the filter and floating events are of the zone
-pub record Criteria : Type 0 where
-  pub filter : Option Tree
-  pub sort : Option Tree
-  pub time_zone : List ℕ
-
 module _ (c : Criteria) where
   -- filter and sort are such, whether or not all of them is known
   abbrev pub are_terms : Bool
@@ -78,6 +73,6 @@ module _ (zones : List ZoneText) (c : Criteria) where
   abbrev pub criteria_refusal : Bool → Option MethodError
   criteria_refusal expand = if has_zone zones c.time_zone then terms_refusal c expand else Some InvalidArguments
 
-  -- what the query sees of an event's object
+  -- what the query sees of an event's object; times of the filter and floating events are of its zone
   abbrev pub sight_of : Tree → Option Item
   sight_of = seen_where (event_matches zones c.time_zone (filter_or_all c.filter)) zones c.time_zone

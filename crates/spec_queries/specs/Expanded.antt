@@ -3,7 +3,9 @@ use Rattle.std.specs.Prelude.{ℕ, ℤ, pos, List, [], ◌∷◌, Bool, true, Op
 use Rattle.std.specs.List.{position}
 use Rattle.std.specs.Str.{bytes_eq}
 use Rattle.jiff_tz.specs.PosixText.{TzText}
+use Rattle.spec_calls.specs.declared.call.Criteria.{Criteria}
 use Rattle.spec_calls.specs.declared.call.MethodError.{MethodError}
+use Rattle.spec_calls.specs.declared.call.Paging.{Paging}
 use Rattle.spec_events.specs.Events.{has_recurrence}
 use Rattle.spec_filters.specs.Matches.{event_matches, instants_asked}
 use Rattle.spec_history.specs.History.{ids_at, live_object}
@@ -14,8 +16,8 @@ use Rattle.spec_json.specs.Data.{Data, items_of, list, text}
 use Rattle.spec_json.specs.Parts.{members_in, some_of}
 use Rattle.spec_json.specs.TreeData.{data_of}
 use Rattle.spec_json.specs.declared.tree.Tree.{Tree}
-use Rattle.spec_queries.specs.Criteria.{Criteria, filter_or_all, order_of}
-use Rattle.spec_queries.specs.Found.{Paging, at_place, cut_asked, missing_anchor, no_window, cut_out, window_response}
+use Rattle.spec_queries.specs.Criteria.{filter_or_all, order_of}
+use Rattle.spec_queries.specs.Found.{at_place, cut_asked, missing_anchor, no_window, cut_out, window_response}
 use Rattle.spec_queries.specs.Items.{text_or_empty, utc_moment}
 use Rattle.spec_queries.specs.Results.{places}
 use Rattle.spec_queries.specs.declared.comparator.Comparator.{Comparator}

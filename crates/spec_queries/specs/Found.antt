@@ -4,6 +4,7 @@ use Rattle.std.specs.List.{position}
 use Rattle.std.specs.Option.{option_map_or}
 use Rattle.spec_calls.specs.declared.call.MethodError.{MethodError}
 use Rattle.spec_calls.specs.declared.call.MethodError.TheVariants.{AnchorNotFound}
+use Rattle.spec_calls.specs.declared.call.Paging.{Paging}
 use Rattle.spec_history.specs.ObjectId.{object_number, state_text}
 use Rattle.spec_history.specs.declared.entry.Change.{Change}
 use Rattle.spec_history.specs.declared.entry.Kind.TheVariants.{Event}
@@ -19,14 +20,6 @@ use Rattle.spec_queries.specs.declared.item.Item.{Item}
 use Rattle.spec_queries.specs.declared.window.Anchor.{Anchor}
 use Rattle.spec_queries.specs.declared.window.Anchor.TheVariants.{None as NoAnchor, At, Missing}
 use Rattle.spec_queries.specs.declared.window.Cut.{Cut}
-
--- which part of the result is asked for, and whether its length is
-pub record Paging : Type 0 where
-  pub position : ℤ
-  pub anchor : Option (List ℕ)
-  pub anchor_offset : ℤ
-  pub limit : Option ℤ
-  pub calculate_total : Bool
 
 abbrev pub at_place : Option ℕ → Anchor
 at_place None = Missing

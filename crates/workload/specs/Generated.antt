@@ -3,6 +3,7 @@ use Rattle.std.specs.Prelude.{ℕ, zero, suc, ◌+◌, ◌*◌, ◌%◌, ℤ, po
 use Rattle.spec_calls.specs.declared.call.Asks.{Asks}
 use Rattle.spec_calls.specs.declared.call.Asks.TheVariants.{Changes, Set}
 use Rattle.spec_calls.specs.declared.call.Call.{Call}
+use Rattle.spec_calls.specs.declared.call.ChangesArguments.{ChangesArguments}
 use Rattle.spec_history.specs.declared.entry.Kind.{Kind}
 use Rattle.spec_history.specs.declared.entry.Kind.TheVariants.{Calendar, Event}
 use Rattle.spec_json.specs.Data.{Data, Pair, items_of, list, members_of, object, text, truth, whole}
@@ -25,12 +26,19 @@ abbrev pub creation_id : List ℕ
 creation_id = codes "new"
 
 -- a set that creates one object (RFC 8620 section 5.3)
-abbrev pub create_call : Kind → List Pair → Call
-create_call kind members = call_asking (Set kind None (Some ((creation_id, object (members_of members)) ∷ [])) None None None)
+abbrev pub create_call : Kind → Data → Call
+create_call kind created = call_asking (Set (record {
+  kind = kind;
+  if_in_state = None;
+  create = Some ((creation_id, created) ∷ []);
+  update = None;
+  destroy = None;
+  remove_events = None;
+}))
 
 -- the calendar of a room with the clock of UTC
 abbrev pub room_call : Call
-room_call = create_call Calendar ((codes "name", text (codes "room")) ∷ (codes "resourceZone", text (codes "Etc/UTC")) ∷ [])
+room_call = create_call Calendar (object (members_of ((codes "name", text (codes "room")) ∷ (codes "resourceZone", text (codes "Etc/UTC")) ∷ [])))
 
 -- a weekly rule
 abbrev pub weekly : ℕ → Data
@@ -48,7 +56,7 @@ event request start interval =
 
 -- the request of a number, by its three draws
 abbrev pub request_call : ℕ → ℕ → ℕ → ℕ → Call
-request_call request a b c = create_call Event (event request (wall_at (pos (19723 + a % 700)) (seconds_of_clock (8 + b % 10) 0 0)) (1 + c % 4))
+request_call request a b c = create_call Event (object (members_of (event request (wall_at (pos (19723 + a % 700)) (seconds_of_clock (8 + b % 10) 0 0)) (1 + c % 4))))
 
 -- so many requests from this one on, where the generator has this number before them
 abbrev pub request_calls : ℕ → ℕ → ℕ → List Call
@@ -57,5 +65,8 @@ request_calls request x (suc count) =
     request_call request (drawn x) (drawn (drawn x)) (drawn (drawn (drawn x))) ∷ request_calls (suc request) (drawn (drawn (drawn x))) count
 
 -- a call for the changes of events since a state, at most 500 (RFC 8620 section 5.2)
+abbrev pub page_arguments : List ℕ → ChangesArguments
+page_arguments since = record { kind = Event; since = since; max = Some (pos 500) }
+
 abbrev pub page_call : List ℕ → Call
-page_call since = call_asking (Changes Event since (Some (pos 500)))
+page_call since = call_asking (Changes (page_arguments since))

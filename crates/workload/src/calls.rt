@@ -1,12 +1,11 @@
 //! The calls of a workload.
-ghost use Rattle.std.specs.Prelude.{◌≡◌, ◌<◌, ◌+◌, ◌*◌, ◌∷◌, [], IfOk, None, Some, pos, true};
-ghost use Rattle.spec_calls.specs.declared.call.Asks.TheVariants.{Set};
+ghost use Rattle.std.specs.Prelude.{◌≡◌, ◌<◌, ◌+◌, ◌*◌, IfOk, pos, true};
 ghost use Rattle.spec_json.specs.TreeData.{data_of};
 ghost use Rattle.spec_time.specs.LocalTimes.{seconds_of_clock};
 ghost use Rattle.spec_time.specs.Walls.{is_in_years, wall_at};
-ghost use Rattle.workload.specs.Generated.{call_asking, creation_id, drawn, event, page_call, request_call, room_call, weekly};
+ghost use Rattle.workload.specs.Generated.{call_asking, create_call, drawn, event, page_call, request_call, room_call, weekly};
 
-use spec_calls::call::{Asks, Call};
+use spec_calls::call::{Asks, Call, ChangesArguments, SetArguments};
 use spec_history::entry::Kind;
 use spec_json::lists::Pairs;
 use spec_json::num::Num;
@@ -97,7 +96,7 @@ fn weekly(alloc: Global, interval: u32) -> Result<Tree, AllocError>
 
 // A set that creates one object.
 fn create_call(alloc: Global, kind: Kind, object: Tree) -> Result<Call, AllocError>
-    ensures { IfOk result (λ call. call ≡ call_asking (Set kind None (Some ((creation_id, data_of object) ∷ [])) None None None)) }
+    ensures { IfOk result (λ call. call ≡ create_call kind (data_of object)) }
 {
     let created = Member {
         key: Text::from_str(alloc, CREATION_ID)?,
@@ -106,14 +105,14 @@ fn create_call(alloc: Global, kind: Kind, object: Tree) -> Result<Call, AllocErr
     let create = TreeObject::new(vec![in alloc; created]?);
     Ok(call_asking(
         alloc,
-        Asks::Set {
+        Asks::Set(SetArguments {
             kind,
             if_in_state: None,
             create: Some(create),
             update: None,
             destroy: None,
             remove_events: None,
-        },
+        }),
     ))
 }
 
@@ -123,11 +122,11 @@ pub(crate) fn page_call(alloc: Global, since: Text) -> Call
 {
     call_asking(
         alloc,
-        Asks::Changes {
+        Asks::Changes(ChangesArguments {
             kind: Kind::Event,
             since,
             max: Some(Num::new(MOST_IDS)),
-        },
+        }),
     )
 }
 

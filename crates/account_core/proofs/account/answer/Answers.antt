@@ -12,10 +12,13 @@ returns-in-Set-clause-reply c =
     subst (λ asks. IfOk c.set.result (λ r. r ≡ answer_to (base c.args.ledger.now) (ledger_entries c.args.ledger.now) c.args.stamp.now.moment c.args.call.now.created asks)) (sym c.in-Set.is) c.set.ensures.reply
 
 pub returns-in-Query-clause-reply : goal.returns-in-Query-clause-reply
-returns-in-Query-clause-reply c = c.query.ensures c.args.stamp.now.moment c.args.call.now.created
+returns-in-Query-clause-reply c =
+    subst (λ asks. IfOk c.query.result (λ r. r ≡ answer_to (base c.args.ledger.now) (ledger_entries c.args.ledger.now) c.args.stamp.now.moment c.args.call.now.created asks)) (sym c.in-Query.is) c.query.ensures
 
 pub returns-in-QueryChanges-clause-reply : goal.returns-in-QueryChanges-clause-reply
-returns-in-QueryChanges-clause-reply c = c.query_changes.ensures c.args.stamp.now.moment c.args.call.now.created
+returns-in-QueryChanges-clause-reply c =
+    subst (λ asks. IfOk c.query_changes.result (λ r. r ≡ answer_to (base c.args.ledger.now) (ledger_entries c.args.ledger.now) c.args.stamp.now.moment c.args.call.now.created asks)) (sym c.in-QueryChanges.is) c.query_changes.ensures
 
 pub returns-in-Availability-clause-reply : goal.returns-in-Availability-clause-reply
-returns-in-Availability-clause-reply c = c.availability.ensures c.args.stamp.now.moment c.args.call.now.created
+returns-in-Availability-clause-reply c =
+    subst (λ asks. IfOk c.availability.result (λ r. r ≡ answer_to (base c.args.ledger.now) (ledger_entries c.args.ledger.now) c.args.stamp.now.moment c.args.call.now.created asks)) (sym c.in-Availability.is) c.availability.ensures

@@ -10,8 +10,8 @@ use Rattle.account_core.proofs.changes.changes.Goals as goal
 
 pub returns : goal.returns
 returns c =
-    let page = subst (λ most. IsPage (mentions c.args.kind (changes_of (entries c.args.ledger.now.store))) c.in-Some.state most c.in-Ok.page) c.limit.ensures c.in-Ok.ensures.ok in
+    let page = subst (λ most. IsPage (mentions c.args.arguments.now.kind (changes_of (entries c.args.ledger.now.store))) c.in-Some.state most c.in-Ok.page) c.limit.ensures c.in-Ok.ensures.ok in
     c.reply.ensures ∙ rw (c.in_ok-arguments.ensures, c.count.ensures, c.new-2.ensures, c.new.ensures.items)
-    (changes_told c.args.ledger.now.id (entries c.args.ledger.now.store) c.args.kind c.args.since.now c.args.most.now c.in-Some.state c.in-Ok.page
+    (changes_told c.args.ledger.now.id (entries c.args.ledger.now.store) c.args.arguments.now c.in-Some.state c.in-Ok.page
     (sym c.is_maximum.ensures ∙ c.if-not-is_maximum.false) (ap state_in (sym (c.as_bytes.ensures.value ∙ c.as_str.ensures)) ∙ sym c.read_state.ensures ∙ c.in-Some.is)
     (λ e. false≢true (sym (ap is_ok (c.in-Ok.ensures.not_retained.1 e)))) page)

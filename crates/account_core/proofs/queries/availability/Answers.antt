@@ -1,8 +1,25 @@
-use Rattle.std.proofs.Common.{◌≡◌, IfOk, subst, sym}
+use Rattle.std.proofs.Common.{◌≡◌, MatchOption, None, Some, [], subst, subst₂, sym, ap, ◌∙◌}
 use Rattle.account_core.specs.Ledger.{base, ledger_entries}
-use Rattle.cal_model.specs.Answer.{answer_to}
+use Rattle.account_store.specs.Store.{entries}
+use Rattle.cal_model.specs.Answer.{answered, unless_error}
+use Rattle.spec_availability.specs.Availability.{availability_refusal, availability_response}
+use Rattle.spec_calls.specs.declared.call.MethodError.TheVariants.{InvalidArguments}
+use Rattle.spec_history.specs.Base.{Base}
+use Rattle.spec_history.specs.History.{changes_of}
 use Rattle.account_core.proofs.queries.availability.Goals as goal
 
-pub returns : goal.returns
-returns c = λ moment created.
-    subst (λ asks. IfOk c.busy_periods.result (λ r. r ≡ answer_to (base c.args.ledger.now) (ledger_entries c.args.ledger.now) moment created asks)) (sym c.in-Availability.is) c.busy_periods.ensures
+pub returns-in-Some : goal.returns-in-Some
+returns-in-Some c =
+    let l = c.args.ledger.now in
+    let q = c.args.arguments.now in
+    let h = ledger_entries l in
+    let events = c.events.result in
+    let lent : Base = record { account_id = l.id; zones = events.zones.now } in
+    let refusal = availability_refusal lent q in
+    let response = availability_response lent (changes_of (entries events.store.now)) q in
+    let found = subst (λ r. MatchOption r (refusal ≡ Some InvalidArguments) (λ t. (refusal ≡ None) × (t ≡ response))) c.in-Some.is c.in_ok-availability.ensures in
+    let told = subst₂ (λ zs s. (availability_refusal (record { account_id = l.id; zones = zs }) q ≡ None)
+    × (c.in-Some.periods ≡ availability_response (record { account_id = l.id; zones = zs }) (changes_of (entries s)) q))
+    c.events.ensures.zones c.events.ensures.store found in
+    c.reply.ensures ∙ ap (answered h c.in-Some.periods) (c.new-in-Some.ensures ∙ c.new.ensures.items) ∙ ap (λ t. answered h t []) told.1
+    ∙ ap (λ e. unless_error h e (answered h (availability_response (base l) (changes_of h) q) [])) (sym told.0)

@@ -1,6 +1,7 @@
-use Rattle.std.proofs.Common.{◌≡◌, ◌&&◌, Bool, true, false, not, ℕ, List, Some, refl, sym, ◌∙◌}
+use Rattle.std.proofs.Common.{◌≡◌, ◌&&◌, Bool, true, false, not, Some, refl, sym, ◌∙◌}
 use Rattle.std.specs.Str.{bytes_eq}
 use Rattle.spec_availability.specs.Availability.{availability_refusal}
+use Rattle.spec_calls.specs.declared.call.AvailabilityArguments.{AvailabilityArguments}
 use Rattle.spec_calls.specs.declared.call.MethodError.TheVariants.{InvalidArguments}
 use Rattle.spec_history.specs.Base.{Base}
 use Rattle.spec_site.specs.TimeZones.{has_zone}
@@ -17,19 +18,19 @@ not_all true false z h = refl
 not_all false b z h = refl
 
 -- another principal, and a zone that there isn't
-other_id : (base : Base) (id start end zone : List ℕ) → bytes_eq id base.account_id ≡ false → availability_refusal base id start end zone ≡ Some InvalidArguments
-other_id base id start end zone h = rw h refl
+other_id : (base : Base) (q : AvailabilityArguments) → bytes_eq q.id base.account_id ≡ false → availability_refusal base q ≡ Some InvalidArguments
+other_id base q h = rw h refl
 
-no_zone : (base : Base) (id start end zone : List ℕ) → has_zone base.zones zone ≡ false → availability_refusal base id start end zone ≡ Some InvalidArguments
-no_zone base id start end zone h = rw (not_all (bytes_eq id base.account_id) _ _ h) refl
+no_zone : (base : Base) (q : AvailabilityArguments) → has_zone base.zones q.time_zone ≡ false → availability_refusal base q ≡ Some InvalidArguments
+no_zone base q h = rw (not_all (bytes_eq q.id base.account_id) _ _ h) refl
 
 pub returns-then-ne : goal.returns-then-ne
 returns-then-ne c =
     let base : Base = record { account_id = c.args.account.now; zones = c.args.events.now.zones.now } in
-    let r = c.args.request.now in
+    let q = c.args.arguments.now in
     elim c.then-ne.branch [
-      | then-ne-via-then-ne w ↦ other_id base r.id.now r.utc_start.now r.utc_end.now r.time_zone.now (rw (c.as_str.ensures, c.as_str-2.ensures) at (not_is _ (sym c.ne.ensures ∙ w.if-ne.true)))
-      | then-ne-via-else-ne+then-not-has w ↦ no_zone base r.id.now r.utc_start.now r.utc_end.now r.time_zone.now (sym w.has.ensures ∙ w.if-not-has.true)
+      | then-ne-via-then-ne w ↦ other_id base q (rw (c.as_str.ensures, c.as_str-2.ensures) at (not_is _ (sym c.ne.ensures ∙ w.if-ne.true)))
+      | then-ne-via-else-ne+then-not-has w ↦ no_zone base q (sym w.has.ensures ∙ w.if-not-has.true)
     ]
 
 pub response-requires : goal.response-requires

@@ -8,38 +8,35 @@ use Rattle.spec_queries.specs.Queries.{query_changes_refusal}
 use Rattle.spec_queries.specs.States.{is_known_state}
 use Rattle.query_methods.proofs.RefusalLemmas.{by_size, named}
 use Rattle.query_methods.proofs.query_changes.query_changes.Goals as goal
-use Rattle.query_methods.specs.FilterSights.{seen_by}
 use Rattle.query_methods.specs.Reports.{Reports}
-use Rattle.query_methods.specs.Requests.{criteria_in, since_in}
+use Rattle.query_methods.specs.Sights.{seen_by}
 use Rattle.time_text.specs.State.{state_in}
 
 pub returns-in-Some-clause-response : goal.returns-in-Some-clause-response
 returns-in-Some-clause-response c =
     let cs = changes_of (entries c.args.events.now.store.now) in
-    let s = since_in c.args.since.now in
-    let known : Some c.in-Some.state ≡ (if is_known_state Event cs s.state then state_in s.state else None) = sym c.in-Some.is ∙ c.known_state.ensures.value in
+    let q = c.args.arguments.now in
+    let known : Some c.in-Some.state ≡ (if is_known_state Event cs q.since then state_in q.since else None) = sym c.in-Some.is ∙ c.known_state.ensures.value in
     IfOk-weaker c.changed.result _ _
-    (λ t is. is ∙ (λ i. changed_response (c.in_ok-terms.ensures.sight i) (c.in_ok-terms.ensures.order i) cs c.args.account.now s (named cs s.state c.in-Some.state known i)))
+    (λ t is. is ∙ (λ i. changed_response (c.in_ok-terms.ensures.sight i) (c.in_ok-terms.ensures.order i) cs c.args.account.now q (named cs q.since c.in-Some.state known i)))
     c.changed.ensures.response
 
 pub returns-in-Some-clause-answered : goal.returns-in-Some-clause-answered
 returns-in-Some-clause-answered c =
     let cs = changes_of (entries c.args.events.now.store.now) in
-    let asked = criteria_in c.args.criteria.now in
-    let s = since_in c.args.since.now in
-    let known : Some c.in-Some.state ≡ (if is_known_state Event cs s.state then state_in s.state else None) = sym c.in-Some.is ∙ c.known_state.ensures.value in
-    let told : query_changes_refusal c.args.events.now.zones.now cs asked c.args.expand s ≡ size_refusal (seen_by c.in_ok-terms.terms.sight) c.in_ok-terms.terms.order cs s c.in-Some.state =
-    by_size c.args.events.now.zones.now cs asked c.args.expand s c.in-Some.state (sym c.is_maximum.ensures ∙ c.if-not-is_maximum.false) c.in_ok-terms.ensures.known c.if-not-expand.true known
-    ∙ (λ i. size_refusal (sym c.in_ok-terms.ensures.sight i) (sym c.in_ok-terms.ensures.order i) cs s c.in-Some.state) in
+    let q = c.args.arguments.now in
+    let known : Some c.in-Some.state ≡ (if is_known_state Event cs q.since then state_in q.since else None) = sym c.in-Some.is ∙ c.known_state.ensures.value in
+    let told : query_changes_refusal c.args.events.now.zones.now cs q ≡ size_refusal (seen_by c.in_ok-terms.terms.sight) c.in_ok-terms.terms.order cs q c.in-Some.state =
+    by_size c.args.events.now.zones.now cs q c.in-Some.state (sym c.is_maximum.ensures ∙ c.if-not-is_maximum.false) c.in_ok-terms.ensures.known c.if-not-expand.true known
+    ∙ (λ i. size_refusal (sym c.in_ok-terms.ensures.sight i) (sym c.in_ok-terms.ensures.order i) cs q c.in-Some.state) in
     on_ok_weaker c.changed.result (λ none. told ∙ none) c.changed.ensures.few
 
 pub returns-in-Some-clause-refused : goal.returns-in-Some-clause-refused
 returns-in-Some-clause-refused c =
     let cs = changes_of (entries c.args.events.now.store.now) in
-    let asked = criteria_in c.args.criteria.now in
-    let s = since_in c.args.since.now in
-    let known : Some c.in-Some.state ≡ (if is_known_state Event cs s.state then state_in s.state else None) = sym c.in-Some.is ∙ c.known_state.ensures.value in
-    let told : query_changes_refusal c.args.events.now.zones.now cs asked c.args.expand s ≡ size_refusal (seen_by c.in_ok-terms.terms.sight) c.in_ok-terms.terms.order cs s c.in-Some.state =
-    by_size c.args.events.now.zones.now cs asked c.args.expand s c.in-Some.state (sym c.is_maximum.ensures ∙ c.if-not-is_maximum.false) c.in_ok-terms.ensures.known c.if-not-expand.true known
-    ∙ (λ i. size_refusal (sym c.in_ok-terms.ensures.sight i) (sym c.in_ok-terms.ensures.order i) cs s c.in-Some.state) in
+    let q = c.args.arguments.now in
+    let known : Some c.in-Some.state ≡ (if is_known_state Event cs q.since then state_in q.since else None) = sym c.in-Some.is ∙ c.known_state.ensures.value in
+    let told : query_changes_refusal c.args.events.now.zones.now cs q ≡ size_refusal (seen_by c.in_ok-terms.terms.sight) c.in_ok-terms.terms.order cs q c.in-Some.state =
+    by_size c.args.events.now.zones.now cs q c.in-Some.state (sym c.is_maximum.ensures ∙ c.if-not-is_maximum.false) c.in_ok-terms.ensures.known c.if-not-expand.true known
+    ∙ (λ i. size_refusal (sym c.in_ok-terms.ensures.sight i) (sym c.in_ok-terms.ensures.order i) cs q c.in-Some.state) in
     IfErr-weaker c.changed.result _ _ (λ e reports. subst (Reports e) (sym told) reports) c.changed.ensures.refused

@@ -5,9 +5,10 @@ use Rattle.account_store.specs.Store.{entries}
 use Rattle.spec_history.specs.declared.entry.Kind.TheVariants.{Event}
 use Rattle.query_methods.proofs.ResultLemmas.{result_uncompared}
 use Rattle.query_methods.proofs.result.result_among.Goals as goal
+use Rattle.query_methods.specs.Sights.{seen_by}
 
 pub returns-then-is_empty : goal.returns-then-is_empty
-returns-then-is_empty g c =
+returns-then-is_empty c =
     let cs = changes_up_to (entries c.args.events.now.store.now) Event c.args.state in
     let none : c.args.order.now ≡ [] = c.is_empty.ensures.0 c.if-is_empty.true in
-    IfOk-weaker c.found_among.result _ _ (λ v is. is ∙ result_uncompared (g.S.Sight.see c.args.sight.now) c.args.order.now cs c.args.numbers.now none) c.found_among.ensures
+    IfOk-weaker c.found_among.result _ _ (λ v is. is ∙ result_uncompared (seen_by c.args.sight.now) c.args.order.now cs c.args.numbers.now none) c.found_among.ensures

@@ -2,7 +2,7 @@ use Rattle.std.proofs.Common.{Option, option_map}
 use Rattle.spec_json.specs.TreeData.{data_of}
 use Rattle.spec_series.specs.declared.series.Series.{Series}
 use Rattle.query_methods.proofs.SightLemmas.{not_matched}
-use Rattle.query_methods.proofs.filter_sight.FilterSight.meets.Goals as goal
+use Rattle.query_methods.proofs.sight.Sight.meets.Goals as goal
 
 pub returns-then-not-may_match : goal.returns-then-not-may_match
 returns-then-not-may_match c =
