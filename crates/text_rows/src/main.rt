@@ -19,7 +19,7 @@ use std::{env, io};
 /// The tables of texts.
 #[derive(Drop)]
 struct TextRows {
-    /// How many calls that read messages wanted memory.
+    /// How many calls that read messages ran out of memory.
     wants: u64,
 }
 
@@ -54,8 +54,8 @@ fn came(alloc: Global, table: &str, asked: &str) -> Result<Option<String>, Alloc
     }
 }
 
-// A call that wanted memory is made again, so that a table whose answers all came shows that nothing was lost. Ample memory was wanted
-// then, which is an error.
+// A call that ran out of memory is made again, so that a table whose answers all came shows that nothing was lost. Ample
+// memory ran out then, which is an error.
 fn main(rt: HostRuntime) -> io::Result<()> {
     if let Some(rounds) = env::args(&rt)?.nth(1) {
         return times::tell(&rt, rounds.parse::<u32>().unwrap_or(1));

@@ -14,7 +14,7 @@ use row_table::trial::NOT_READ;
 use spec_json::tree::Tree;
 use std::alloc::{AllocError, Global};
 
-/// What first came of a row otherwise than the table has it. Counts the calls that wanted memory.
+/// What first came of a row otherwise than the table has it. Counts the calls that ran out of memory.
 pub fn other_than(alloc: Global, row: &Row, wants: &mut u64) -> Result<Option<String>, AllocError> {
     let mut findings = Findings::new();
     try_row(alloc, row, &mut findings)?;

@@ -1,6 +1,6 @@
 //! What was found of a row.
 
-/// What first came otherwise than a row has it, and how often memory was wanted.
+/// What first came otherwise than a row has it, and how often memory ran out.
 #[derive(Drop)]
 pub struct Findings {
     other: Option<String>,
@@ -23,12 +23,12 @@ impl Findings {
         }
     }
 
-    /// So many calls wanted memory. Takes no memory.
+    /// So many calls ran out of memory. Takes no memory.
     pub fn want(&mut self, calls: u32) {
         self.wants = self.wants.saturating_add(calls.into());
     }
 
-    /// How many calls wanted memory.
+    /// How many calls ran out of memory.
     pub fn wants(&self) -> u64 {
         self.wants
     }
