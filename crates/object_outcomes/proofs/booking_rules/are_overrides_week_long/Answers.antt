@@ -2,7 +2,7 @@ use Rattle.std.proofs.Common.{refl, subst}
 use Rattle.event_model.proofs.OverrideLemmas.{refused_are_none}
 use Rattle.spec_json.specs.TreeData.{data_of}
 use Rattle.overrides.specs.Reports.{Reports}
-use Rattle.object_outcomes.proofs.rules.are_overrides_week_long.Goals as goal
+use Rattle.object_outcomes.proofs.booking_rules.are_overrides_week_long.Goals as goal
 
 pub returns-in-Err-BadOverride : goal.returns-in-Err-BadOverride
 returns-in-Err-BadOverride c =

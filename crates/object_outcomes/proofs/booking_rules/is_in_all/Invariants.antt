@@ -4,7 +4,7 @@ use Rattle.std.specs.Option.{option_map_or}
 use Rattle.spec_json.specs.TreeData.{data_of}
 use Rattle.spec_bookings.specs.BookingRules.{is_in_zone}
 use Rattle.spec_bookings.specs.Resources.{resource_zone}
-use Rattle.object_outcomes.proofs.rules.is_in_all.Given as goal
+use Rattle.object_outcomes.proofs.booking_rules.is_in_all.Given as goal
 
 abbrev pub invariant-loop-number : goal.invariant-loop-number
 invariant-loop-number g l =
