@@ -29,7 +29,6 @@ pub is_booked-at : (n : ℕ) (bs : List Booking) (i : ℕ) (b : Booking) → sli
 is_booked-at n [] i b e m = absurd (cc e)
 is_booked-at n (c ∷ cs) zero b e m = rw (eq-eqb c.number n (ap (λ (y : Booking). y.number) (same_Some c b e) ∙ m)) refl
 is_booked-at n (c ∷ cs) (suc i) b e m = or_right (c.number == n) (is_booked n cs) (is_booked-at n cs i b e m)
-  where
 
 pub with-end : (n : ℕ) (s : Series) (bs : List Booking) → list_any (λ b. nat_lt n b.number) bs ≡ false → with_booking n s bs ≡ insert bs (length bs) (record { number = n; series = s })
 with-end n s [] h = refl
