@@ -158,18 +158,17 @@ module _ (g : Ground) (cs : List Change) where
       by_cases true (calendar, (clash, e)) = cc e
       by_cases false (calendar, (clash, e)) = let last = last_of_all cs false None (removal kind q.0) [] calendar clash e in cc last.1.1
 
-  unless_of : (is_occurrence is_destroyed : Bool) (x : Outcome) → (IsClashed x → IsOfStoring g cs x) → IsClashed (unless_occurrence g cs is_occurrence is_destroyed x)
-      → IsOfStoring g cs (unless_occurrence g cs is_occurrence is_destroyed x)
-  unless_of false is_destroyed x f h = f h
-  unless_of true true x f (calendar, (clash, h)) = absurd (cc h)
-  unless_of true false x f (calendar, (clash, h)) = absurd (cc h)
+  unless_of : (o : Option Tree) (is_destroyed : Bool) (x : Outcome) → (IsClashed x → IsOfStoring g cs x) → IsClashed (unless_occurrence g cs o is_destroyed x) → IsOfStoring g cs (unless_occurrence g cs o is_destroyed x)
+  unless_of None is_destroyed x f h = f h
+  unless_of (Some t) true x f (calendar, (clash, h)) = absurd (cc h)
+  unless_of (Some t) false x f (calendar, (clash, h)) = absurd (cc h)
 
   operation_of : (kind : Kind) (created : List (List ℕ × List ℕ)) (o : Operation) → IsClashed (outcome_of g cs kind created o) → IsOfStoring g cs (outcome_of g cs kind created o)
   operation_of kind created (update id patch is_destroyed is_repeated) h =
-      unless_of (is_some (occurrence_named cs kind id)) is_destroyed (updated_outcome g cs kind (resolved_patch created kind patch) is_destroyed is_repeated (object_named cs kind id))
+      unless_of (occurrence_named cs kind id) is_destroyed (updated_outcome g cs kind (resolved_patch created kind patch) is_destroyed is_repeated (object_named cs kind id))
       (updated_of kind (resolved_patch created kind patch) is_destroyed is_repeated (object_named cs kind id)) h
   operation_of kind created (destroy id) h =
-      unless_of (is_some (occurrence_named cs kind id)) false (destroyed_outcome g cs kind (object_named cs kind id)) (λ e. absurd (destroyed_not kind (object_named cs kind id) e)) h
+      unless_of (occurrence_named cs kind id) false (destroyed_outcome g cs kind (object_named cs kind id)) (λ e. absurd (destroyed_not kind (object_named cs kind id) e)) h
 
 pub clashes_are_of_storing : ClashesAreOfStoring
 clashes_are_of_storing g cs kind created = (

@@ -55,6 +55,11 @@ removal kind n = record { kind = kind; id = n; object = None }
 abbrev pub if_holds : Bool → SetError → Option SetError
 if_holds holds e = if holds then Some e else None
 
+-- bad properties, all of them, where there are some
+abbrev pub if_bad : List (List ℕ) → Option SetError
+if_bad [] = None
+if_bad (name ∷ names) = Some (InvalidProperties (name ∷ names))
+
 -- refused for the first of these reasons that holds, or else what comes of it
 abbrev pub unless : List (Option SetError) → Outcome → Outcome
 unless [] o = o
@@ -64,7 +69,7 @@ unless (r ∷ rs) o = option_map_or Refused r (unless rs o)
 -- event would clash in a resource.
 abbrev pub after_tests : List Change → Bool → Option (ℕ × Clash) → Change → List (List ℕ) → Outcome
 after_tests cs is_full clash c names = unless (
-    if_holds (not (length names == 0)) (InvalidProperties names)
+    if_bad names
     ∷ if_holds (exceeds_quota cs (size_of_object c.object) || is_full) OverQuota
     ∷ option_map (λ q. Clashes q.0 q.1) clash
     ∷ []) (Accepted c)
@@ -162,18 +167,18 @@ module _ (g : Ground) (cs : List Change) where
   destroyed_outcome kind (Some q) = unless (if_holds (is_in_use cs kind q.0) CalendarHasEvent ∷ []) (within_quota cs false None (removal kind q.0))
 
   -- an occurrence can't be changed by itself
-  abbrev pub unless_occurrence : Bool → Bool → Outcome → Outcome
-  unless_occurrence is_occurrence is_destroyed o = unless (
-      if_holds (is_occurrence && is_destroyed) WillDestroy
-      ∷ if_holds is_occurrence Forbidden
+  abbrev pub unless_occurrence : Option Tree → Bool → Outcome → Outcome
+  unless_occurrence occurrence is_destroyed o = unless (
+      if_holds (is_some occurrence && is_destroyed) WillDestroy
+      ∷ if_holds (is_some occurrence) Forbidden
       ∷ []) o
 
   -- the first reason why an operation is refused after these changes, or else the change that it makes, where the request has
   -- created these ids
   abbrev pub outcome_of : Kind → List (List ℕ × List ℕ) → Operation → Outcome
-  outcome_of kind created (update id patch is_destroyed is_repeated) = unless_occurrence (is_some (occurrence_named cs kind id)) is_destroyed
+  outcome_of kind created (update id patch is_destroyed is_repeated) = unless_occurrence (occurrence_named cs kind id) is_destroyed
       (updated_outcome kind (resolved_patch created kind patch) is_destroyed is_repeated (object_named cs kind id))
-  outcome_of kind created (destroy id) = unless_occurrence (is_some (occurrence_named cs kind id)) false (destroyed_outcome kind (object_named cs kind id))
+  outcome_of kind created (destroy id) = unless_occurrence (occurrence_named cs kind id) false (destroyed_outcome kind (object_named cs kind id))
 
 abbrev pub changes_in : Outcome → List Change
 changes_in (Accepted c) = c ∷ []
