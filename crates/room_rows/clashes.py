@@ -1,5 +1,5 @@
 #!/usr/bin/env python3
-"""Writes pairs of series with the first second that they share, which a scan of all their occurrences finds, as rows of the table `stdin`.
+"""Writes pairs of series with the first second that they share, which a scan of all their occurrences finds, as rows of the table `clashes` of `stdin`.
 
 python3-dateutil computes the days of the rules. Their intervals divide the periods of 400 years, so that what endless series share they share in the 400 years after both
 have begun and all exceptions lie behind; each occurrence of these years is looked at. Rules that dateutil reads otherwise are left out, as is each start that its rule doesn't

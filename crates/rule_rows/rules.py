@@ -1,5 +1,5 @@
 #!/usr/bin/env python3
-"""Writes 200 recurrence rules with their first ten days, which python3-dateutil computes, as rows of the table `stdin`.
+"""Writes 200 recurrence rules with their first ten days, which python3-dateutil computes, as rows of the table `rules` of `stdin`.
 
 Left out are rules that dateutil reads otherwise: yearly ones with days of the month and without months, which it takes for
 days of every month, weekly ones with days of the month and without days of the week, which it takes for every day of the week,

@@ -1,5 +1,5 @@
 #!/usr/bin/env python3
-"""Writes 100 wall times in eight time zones with the instants that Python's `zoneinfo` has for them, as rows of the table `stdin`.
+"""Writes 100 wall times in eight time zones with the instants that Python's `zoneinfo` has for them, as rows of the table `windows` of `stdin`.
 
 `zoneinfo` reads each zone from its rule alone: a file of version 2 (RFC 9636) without transitions, whose footer is the rule. A wall time
 that comes twice is asked for as the first, and for one that the clock passes over `zoneinfo` takes the offset before the gap (fold 0 of
@@ -71,7 +71,7 @@ def main():
                 walls.add(wall)
         for wall in sorted(walls):
             rows.append((rule, wall, instant(zone, wall)))
-    print("\n## By `rows.py`\n\n# Wall times round the changes of eight zones, with the instants that Python's `zoneinfo` has for them.")
+    print("\n## By `windows.py`\n\n# Wall times round the changes of eight zones, with the instants that Python's `zoneinfo` has for them.")
     for rule, wall, at in rows:
         print(json.dumps({"zone": rule, "at": wall.isoformat()}, separators=(",", ":")))
         print(at.isoformat() + "Z")

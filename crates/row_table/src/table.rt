@@ -9,15 +9,15 @@ const HEADING: &str = "=== ";
 
 /// The rows under one heading.
 #[derive(Drop)]
-pub struct Table {
+pub struct RowTable {
     /// What the heading says, empty where the rows have none.
     pub name: String,
     pub rows: Vec<Row>,
 }
 
-impl Table {
-    fn new(alloc: Global, name: String) -> Table {
-        Table {
+impl RowTable {
+    fn new(alloc: Global, name: String) -> RowTable {
+        RowTable {
             name,
             rows: Vec::new(alloc),
         }
@@ -34,9 +34,9 @@ impl Table {
 struct Reading {
     alloc: Global,
     /// The tables before the last heading.
-    before: Vec<Table>,
+    before: Vec<RowTable>,
     /// The table under the last heading.
-    table: Table,
+    table: RowTable,
     /// What the rows after it show.
     subject: String,
     /// A question whose answer is the next text.
@@ -48,7 +48,7 @@ impl Reading {
         Reading {
             alloc,
             before: Vec::new(alloc),
-            table: Table::new(alloc, String::new(alloc)),
+            table: RowTable::new(alloc, String::new(alloc)),
             subject: String::new(alloc),
             asked: None,
         }
@@ -94,7 +94,7 @@ impl Reading {
             self.push(asked, String::new(self.alloc))?;
         }
         self.subject = String::new(self.alloc);
-        let table = mem::replace(&mut self.table, Table::new(self.alloc, name));
+        let table = mem::replace(&mut self.table, RowTable::new(self.alloc, name));
         if !table.is_blank() {
             self.before.push(table)?;
         }
@@ -106,7 +106,7 @@ impl Reading {
 ///
 /// A line that begins with `=== ` names the table of the rows after it, one that begins with `#` says what the rows after it show, an empty line
 /// says nothing, and of the others each second one is the answer to the line before it. A question behind which no answer comes has an empty one.
-pub fn read_tables(rt: &HostRuntime) -> io::Result<Vec<Table>> {
+pub fn read_tables(rt: &HostRuntime) -> io::Result<Vec<RowTable>> {
     let alloc = rt.alloc();
     let mut reading = Reading::new(alloc);
     for line in BufReader::new(alloc, rt.reader())?.lines(alloc) {

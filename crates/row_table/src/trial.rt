@@ -4,7 +4,7 @@ ghost use Rattle.row_table.specs.Answers.{other_than};
 
 use crate::line::unrolled;
 use crate::row::Row;
-use crate::table::{Table, read_tables};
+use crate::table::{RowTable, read_tables};
 use crate::tally::RowTally;
 use std::alloc::{AllocError, Global};
 use std::io;
@@ -45,7 +45,7 @@ pub fn try_rows<T: Trial>(rt: &HostRuntime, trial: &mut T) -> io::Result<()> {
 fn others_of<T: Trial>(
     alloc: Global,
     trial: &mut T,
-    table: &Table,
+    table: &RowTable,
 ) -> Result<Vec<Option<String>>, AllocError>
     ensures rows { IfOk result (λ others. length others.items ≡ length table.now.rows.items) }
     ensures unknown { IfOk result (λ others. T.knows (string_bytes table.now.name) ≡ false → All (λ other. IsSome other) others.items) }
