@@ -1,6 +1,6 @@
 //! The calls on accounts that methods make of their arguments.
 ghost use Rattle.std.specs.Prelude.{◌≡◌, ◌≢◌, IfOk, Some, codes, option_map};
-ghost use Rattle.spec_calls.specs.Asking.{argument, availability_asks, changes_asks, criteria_given, get_asks, list_tree, number_argument, object_tree, paging_given, query_asks, query_changes_asks, set_asks, text_argument, truth_argument, zone_argument};
+ghost use Rattle.spec_calls.specs.Asking.{argument, availability_asks, changes_asks, get_asks, list_tree, number_argument, object_tree, paging_given, query_asks, query_changes_asks, set_asks, text_argument, truth_argument, zone_argument};
 ghost use Rattle.spec_calls.specs.Methods.{call_of, row};
 ghost use Rattle.spec_json.specs.Edit.{ChangesOnlyAt};
 ghost use Rattle.spec_batch.specs.Meaning.{grant_of};
@@ -127,7 +127,11 @@ fn query_asks(alloc: Global, mut arguments: TreeObject) -> Result<Asks, AllocErr
     Ok(Asks::Query(QueryArguments {
         expand: is_true_at(&arguments, "expandRecurrences"),
         paging: take_paging(&mut arguments),
-        criteria: criteria_from(alloc, arguments)?,
+        criteria: Criteria {
+            filter: take_filter(&mut arguments),
+            sort: take_sort(&mut arguments),
+            time_zone: take_zone(alloc, &mut arguments)?,
+        },
     }))
 }
 
@@ -140,7 +144,11 @@ fn query_changes_asks(alloc: Global, mut arguments: TreeObject) -> Result<Asks, 
         calculate_total: is_true_at(&arguments, "calculateTotal"),
         since: take_text_or_empty(&mut arguments, "sinceQueryState"),
         up_to: take_text(&mut arguments, "upToId"),
-        criteria: criteria_from(alloc, arguments)?,
+        criteria: Criteria {
+            filter: take_filter(&mut arguments),
+            sort: take_sort(&mut arguments),
+            time_zone: take_zone(alloc, &mut arguments)?,
+        },
     }))
 }
 
@@ -153,16 +161,6 @@ fn availability_asks(alloc: Global, mut arguments: TreeObject) -> Result<Asks, A
         utc_end: take_text_or_empty(&mut arguments, "utcEnd"),
         time_zone: take_zone(alloc, &mut arguments)?,
     }))
-}
-
-fn criteria_from(alloc: Global, mut arguments: TreeObject) -> Result<Criteria, AllocError>
-    ensures { IfOk result (λ criteria. criteria ≡ criteria_given arguments) }
-{
-    Ok(Criteria {
-        filter: take_filter(&mut arguments),
-        sort: take_sort(&mut arguments),
-        time_zone: take_zone(alloc, &mut arguments)?,
-    })
 }
 
 fn take_paging(arguments: &mut TreeObject) -> Paging
