@@ -36,7 +36,16 @@ fn came(alloc: Global, asked: &Tree) -> Result<Option<String>, AllocError> {
 struct DeskRows;
 
 impl Trial for DeskRows {
-    fn other_than(&self, alloc: Global, row: &Row) -> Result<Option<String>, AllocError> {
+    ghost use Rattle.std.specs.Prelude.{true};
+
+    ghost knows = { λ _. true };
+
+    fn other_than(
+        &mut self,
+        alloc: Global,
+        _table: &str,
+        row: &Row,
+    ) -> Result<Option<String>, AllocError> {
         let (Some(asked), Some(answer)) = (
             tree_in(alloc, row.asked.as_str())?,
             unrolled(alloc, row.answer.as_str())?,
@@ -48,5 +57,5 @@ impl Trial for DeskRows {
 }
 
 fn main(rt: HostRuntime) -> io::Result<()> {
-    try_rows(&rt, &DeskRows)
+    try_rows(&rt, &mut DeskRows)
 }

@@ -1,34 +1,59 @@
-//! Reads the events of a table, and tells which come otherwise than the table has them.
+//! Tries what reads events and what filters them on the rows of tables.
 #![tactic(auto)]
 
-mod answers;
-mod calendars;
-mod events;
-mod finds;
-mod recurring;
+ghost use Rattle.std.specs.Prelude.{◌≡◌, ◌||◌, IfOk, IsNone, bytes_eq, codes, false};
 
-use spec_json::tree::Tree;
+mod events;
+mod filters;
+mod time_zones;
+
+use row_table::answers::text_of;
 use row_table::line::tree_in;
 use row_table::row::Row;
-use row_table::trial::{NOT_READ, Trial, try_rows};
+use row_table::trial::{Trial, try_rows, unless_unrolled};
+use spec_json::tree::Tree;
 use std::alloc::{AllocError, Global};
 use std::io;
 use zone_table::Zones;
 
-/// What comes of a line: of the value behind a word that says what is asked of it, or of members that are laid over an event.
-fn came_of(alloc: Global, zones: &Zones, line: &str) -> Result<Option<Tree>, AllocError> {
-    let (question, value) = parts_of(line);
+/// The tables of events and filters.
+#[derive(Drop)]
+struct EventRows {
+    /// The time zones that events may name.
+    zones: Zones,
+}
+
+impl Trial for EventRows {
+    ghost use Rattle.std.specs.Prelude.{◌||◌, bytes_eq, codes};
+
+    ghost knows = { λ name. bytes_eq name (codes "events") || bytes_eq name (codes "filters") };
+
+    fn other_than(
+        &mut self,
+        alloc: Global,
+        table: &str,
+        row: &Row,
+    ) -> Result<Option<String>, AllocError> {
+        let came = match came(alloc, &self.zones, table, row.asked.as_str())? {
+            Some(came) => Some(text_of(alloc, &came)?),
+            None => None,
+        };
+        unless_unrolled(alloc, came, row)
+    }
+}
+
+/// What comes of a question: of the value behind a word that says what is asked of it, or of a value alone. None where it can't be read.
+fn came(alloc: Global, zones: &Zones, table: &str, asked: &str) -> Result<Option<Tree>, AllocError>
+    ensures { (bytes_eq table.now (codes "events") || bytes_eq table.now (codes "filters")) ≡ false → IfOk result (λ came. IsNone came) }
+{
+    let (question, value) = parts_of(asked);
     let Some(value) = tree_in(alloc, value)? else {
         return Ok(None);
     };
-    match question {
-        "whole" => Ok(Some(events::read(alloc, zones, &value)?)),
-        "recurs" => Ok(Some(calendars::recurs(&value))),
-        "calendars" => calendars::named(alloc, &value),
-        "find" => Ok(Some(finds::found(alloc, &value)?)),
-        "bad" => recurring::bad(alloc, zones, value),
-        "occurrence" => recurring::named(alloc, &value),
-        _ => events::read_over(alloc, zones, value),
+    match table {
+        "events" => events::came(alloc, zones, question, value),
+        "filters" => filters::came(alloc, zones, question, value),
+        _ => Ok(None),
     }
 }
 
@@ -41,36 +66,10 @@ fn parts_of(line: &str) -> (&str, &str) {
 }
 
 fn is_question(word: &str) -> bool {
-    matches!(
-        word,
-        "whole" | "recurs" | "calendars" | "find" | "bad" | "occurrence"
-    )
-}
-
-/// Events, and what they mean.
-#[derive(Drop)]
-struct EventRows {
-    /// The time zones of the table.
-    zones: Zones,
-}
-
-impl Trial for EventRows {
-    fn other_than(&self, alloc: Global, row: &Row) -> Result<Option<String>, AllocError> {
-        let (Some(came), Some(answer)) = (
-            came_of(alloc, &self.zones, row.asked.as_str())?,
-            tree_in(alloc, row.answer.as_str())?,
-        ) else {
-            return Ok(Some(String::from_str(alloc, NOT_READ)?));
-        };
-        if came.same(&answer) {
-            Ok(None)
-        } else {
-            Ok(Some(answers::text_of(alloc, &came)?))
-        }
-    }
+    events::QUESTIONS.contains(&word) || filters::QUESTIONS.contains(&word)
 }
 
 fn main(rt: HostRuntime) -> io::Result<()> {
-    let zones = events::zones(rt.alloc())?;
-    try_rows(&rt, &EventRows { zones })
+    let zones = time_zones::zones(rt.alloc())?;
+    try_rows(&rt, &mut EventRows { zones })
 }

@@ -1,101 +1,59 @@
-//! Reads rooms of a table with a proposed series each, and tells which clash otherwise than the table has it. An argument is the number of times that each check
-//! is made, for `bench/rooms.py` to time.
+//! Tries what finds clashes on the rows of tables: pairs of series, and rooms with a proposed series. An argument is the number of times that each decision
+//! is made, for `bench/clashes.py` and `bench/rooms.py` to time.
 #![tactic(auto)]
 
-use spec_json::tree::Tree;
-use spec_bookings::clash::Clash;
-use resource_book::Room;
-use row_series::series_in;
+ghost use Rattle.std.specs.Prelude.{◌≡◌, ◌||◌, IfOk, IsNone, bytes_eq, codes, false};
+
+mod clashes;
+mod limits;
+mod rooms;
+mod series;
+
 use row_table::line::tree_in;
 use row_table::row::Row;
-use row_table::trial::{Trial, try_rows, unless_answered};
+use row_table::trial::{Trial, try_rows, unless_unrolled};
+use row_table::words::times_in;
 use std::alloc::{AllocError, Global};
-use std::fmt::Write;
-use std::{env, io};
+use std::io;
 
-/// Rooms with a proposed series, and how it clashes.
+/// The tables of series.
 #[derive(Drop)]
 struct RoomRows {
-    /// How often each check is made.
+    /// How often each decision is made.
     times: u32,
 }
 
 impl Trial for RoomRows {
-    fn other_than(&self, alloc: Global, row: &Row) -> Result<Option<String>, AllocError> {
-        let came = match tree_in(alloc, row.asked.as_str())? {
-            Some(asked) => Some(told(alloc, &asked, self.times)?),
-            None => None,
-        };
-        unless_answered(alloc, came, row.answer.as_str())
+    ghost use Rattle.std.specs.Prelude.{◌||◌, bytes_eq, codes};
+
+    ghost knows = { λ name. bytes_eq name (codes "clashes") || bytes_eq name (codes "rooms") };
+
+    fn other_than(
+        &mut self,
+        alloc: Global,
+        table: &str,
+        row: &Row,
+    ) -> Result<Option<String>, AllocError> {
+        let came = came(alloc, table, row.asked.as_str(), self.times)?;
+        unless_unrolled(alloc, came, row)
     }
 }
 
-/// A room with the series at `bookings`, which are numbered from 1, or none where one may not be booked.
-fn room_in(alloc: Global, asked: &Tree) -> Result<Option<Room>, AllocError> {
-    let mut room = Room::new(alloc);
-    if let Some(Tree::List(list)) = asked.get("bookings") {
-        let mut number = 0u64;
-        for item in list.items() {
-            let Some(series) = series_in(alloc, item)? else {
-                return Ok(None);
-            };
-            room.reserve(&series)?;
-            number = number.saturating_add(1);
-            room.book(number);
-        }
-    }
-    Ok(Some(room))
-}
-
-/// The clash of the series at `proposed` with the room, in which the booking at `except` is excepted.
-fn told(alloc: Global, asked: &Tree, times: u32) -> Result<String, AllocError> {
-    let Some(room) = room_in(alloc, asked)? else {
-        return String::from_str(alloc, "a booking may not be booked");
+/// What comes of a question, none where it can't be read.
+fn came(alloc: Global, table: &str, asked: &str, times: u32) -> Result<Option<String>, AllocError>
+    ensures { (bytes_eq table.now (codes "clashes") || bytes_eq table.now (codes "rooms")) ≡ false → IfOk result (λ came. IsNone came) }
+{
+    let Some(asked) = tree_in(alloc, asked)? else {
+        return Ok(None);
     };
-    let Some(proposed) = asked.get("proposed") else {
-        return String::from_str(alloc, "the row proposes nothing");
-    };
-    let Some(series) = series_in(alloc, proposed)? else {
-        return String::from_str(alloc, "what is proposed may not be booked");
-    };
-    let except = match asked.get("except") {
-        Some(Tree::Whole(number)) => u64::try_from(number.get()).ok(),
-        _ => None,
-    };
-    let mut found = room.check(except, &series);
-    for _ in 1..times {
-        found = room.check(except, &series);
+    match table {
+        "clashes" => Ok(Some(clashes::told(alloc, &asked, times)?)),
+        "rooms" => Ok(Some(rooms::told(alloc, &asked, times)?)),
+        _ => Ok(None),
     }
-    text_of(alloc, found)
-}
-
-/// The day, the second and the event of a clash.
-fn text_of(alloc: Global, found: Option<Clash>) -> Result<String, AllocError> {
-    let mut text = String::new(alloc);
-    match found {
-        Some(clash) => {
-            write!(&mut text, "day {} second {} with ", clash.day, clash.second)?;
-            match clash.with {
-                Some(number) => write!(&mut text, "E{number}")?,
-                None => text.push_str("itself")?,
-            }
-        }
-        None => text.push_str("none")?,
-    }
-    Ok(text)
-}
-
-/// How often each check is made.
-fn times_in(rt: &HostRuntime) -> io::Result<u32> {
-    for word in env::args(rt)?.skip(1) {
-        if let Ok(times) = word.parse::<u32>() {
-            return Ok(times);
-        }
-    }
-    Ok(1)
 }
 
 fn main(rt: HostRuntime) -> io::Result<()> {
     let times = times_in(&rt)?;
-    try_rows(&rt, &RoomRows { times })
+    try_rows(&rt, &mut RoomRows { times })
 }

@@ -1,5 +1,5 @@
 //! The rows of a table.
-use std::io::{self, BufRead, BufReader};
+use std::io;
 
 /// A line that asks, and the line that is to answer it.
 #[derive(Drop)]
@@ -18,31 +18,4 @@ impl Row {
         println!(rt; "table: {}", self.answer)?;
         println!(rt; "came:  {came}")
     }
-}
-
-/// The rows of the table on standard input. Takes memory for them.
-///
-/// A line that begins with `#` says what the rows after it show, an empty line says nothing, and of the others each
-/// second one is the answer to the line before it.
-pub fn read_rows(rt: &HostRuntime) -> io::Result<Vec<Row>> {
-    let alloc = rt.alloc();
-    let mut rows = Vec::new(alloc);
-    let mut subject = String::new(alloc);
-    let mut asked = None;
-    for line in BufReader::new(alloc, rt.reader())?.lines(alloc) {
-        let line = line?;
-        if line.starts_with("#") {
-            subject = line;
-        } else if !line.is_empty() {
-            match asked.take() {
-                None => asked = Some(line),
-                Some(asked) => rows.push(Row {
-                    subject: subject.clone()?,
-                    asked,
-                    answer: line,
-                })?,
-            }
-        }
-    }
-    Ok(rows)
 }

@@ -1,5 +1,5 @@
 //! The count of rows.
-ghost use Rattle.std.specs.Prelude.{◌≡◌, ◌==◌, ◌+◌, ◌<◌, ◌^◌, true, false};
+ghost use Rattle.std.specs.Prelude.{◌≡◌, ◌+◌, ◌<◌, ◌^◌, true, false};
 
 use std::fmt;
 
@@ -19,6 +19,14 @@ impl RowTally {
         RowTally { rows: 0, others: 0 }
     }
 
+    /// So many rows were tried, and so many of them had another answer.
+    pub fn of(rows: u64, others: u64) -> RowTally
+        ensures rows { result.rows ≡ rows }
+        ensures others { result.others ≡ others }
+    {
+        RowTally { rows, others }
+    }
+
     /// Counts a row, whose answer was the table's or another. The counts stand at the last value of a `u64`.
     pub fn count(&mut self, is_answered: bool)
         ensures rows { self.old.rows + 1 < 2 ^ 64 → self.new.rows ≡ self.old.rows + 1 }
@@ -29,13 +37,6 @@ impl RowTally {
         if !is_answered {
             self.others = self.others.saturating_add(1);
         }
-    }
-
-    /// Whether no row had another answer.
-    pub fn is_clean(&self) -> bool
-        ensures { result ≡ (self.now.others == 0) }
-    {
-        self.others == 0
     }
 }
 

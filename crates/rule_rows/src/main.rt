@@ -1,201 +1,50 @@
-//! Reads the recurrence rules of a table, and tells which give other days than the table has.
+//! Tries what tells times on the rows of tables: recurrence rules, wall times, windows and busy periods.
 #![tactic(auto)]
 
-ghost use Rattle.std.specs.Prelude.{◌≡◌, ◌≤◌, length, true};
-ghost use Rattle.spec_time.specs.Walls.{is_in_years};
+ghost use Rattle.std.specs.Prelude.{◌≡◌, ◌||◌, IfOk, IsNone, bytes_eq, codes, false};
 
-use spec_json::tree::Tree;
-use spec_series::by_part::End;
-use spec_series::exception::Exceptions;
-use spec_series::rules::Rules;
-use spec_series::series::Series;
-use spec_time::length::Length;
-use spec_time::wall::Wall;
+mod rules;
+mod windows;
+
 use row_table::line::tree_in;
 use row_table::row::Row;
-use row_table::trial::{NOT_READ, Trial, try_rows, unless_answered};
-use rule_expand::{Bound, last_day, next_from, occurs_on};
-use rule_read::{RulesError, read_rules};
+use row_table::trial::{Trial, try_rows, unless_unrolled};
 use std::alloc::{AllocError, Global};
-use std::fmt::Write;
 use std::io;
-use time_text::{is_in_years, local_text, read_local};
 
-/// How many occurrences of a series are told.
-const TOLD: u32 = 10;
-
-/// The end of the wall seconds that `next_from` is asked about.
-const FAR: u64 = 1 << 57;
-
-/// Recurrence rules, and the days that they give.
+/// The tables of times.
 #[derive(Drop)]
 struct RuleRows;
 
 impl Trial for RuleRows {
-    fn other_than(&self, alloc: Global, row: &Row) -> Result<Option<String>, AllocError> {
-        let came = match tree_in(alloc, row.asked.as_str())? {
-            Some(asked) => Some(told(alloc, &asked)?),
-            None => None,
-        };
-        unless_answered(alloc, came, row.answer.as_str())
+    ghost use Rattle.std.specs.Prelude.{◌||◌, bytes_eq, codes};
+
+    ghost knows = { λ name. bytes_eq name (codes "rules") || bytes_eq name (codes "windows") };
+
+    fn other_than(
+        &mut self,
+        alloc: Global,
+        table: &str,
+        row: &Row,
+    ) -> Result<Option<String>, AllocError> {
+        unless_unrolled(alloc, came(alloc, table, row.asked.as_str())?, row)
     }
 }
 
-// The wall second at a key.
-fn wall_at(tree: &Tree, key: &str) -> Option<Wall> {
-    match tree.get(key) {
-        Some(Tree::Text(text)) => read_local(text.as_str().as_bytes()),
-        _ => None,
-    }
-}
-
-fn told(alloc: Global, asked: &Tree) -> Result<String, AllocError> {
-    match (wall_at(asked, "start"), asked.get("rules")) {
-        (Some(start), Some(rules)) => told_of(alloc, start, rules, asked),
-        _ => String::from_str(alloc, NOT_READ),
-    }
-}
-
-fn told_of(alloc: Global, start: Wall, rules: &Tree, asked: &Tree) -> Result<String, AllocError> {
-    if !is_in_years(start) {
-        return String::from_str(alloc, NOT_READ);
-    }
-    match read_rules(alloc, rules, start) {
-        Ok(rules) => told_of_rules(alloc, start, rules, asked),
-        Err(RulesError::BadRules) => String::from_str(alloc, "bad"),
-        Err(RulesError::NoMemory) => Err(AllocError),
-    }
-}
-
-// What the table asks of the rules: the first occurrences, the last day, or whether a day is in the set.
-fn told_of_rules(
-    alloc: Global,
-    start: Wall,
-    rules: Rules,
-    asked: &Tree,
-) -> Result<String, AllocError>
-    requires years { is_in_years start ≡ true }
-    requires few { length rules ≤ 4 }
+/// What comes of a question, none where it can't be read.
+fn came(alloc: Global, table: &str, asked: &str) -> Result<Option<String>, AllocError>
+    ensures { (bytes_eq table.now (codes "rules") || bytes_eq table.now (codes "windows")) ≡ false → IfOk result (λ came. IsNone came) }
 {
-    if asked.get("last").is_some() {
-        return last_days(alloc, start, &rules);
+    let Some(asked) = tree_in(alloc, asked)? else {
+        return Ok(None);
+    };
+    match table {
+        "rules" => rules::told(alloc, &asked),
+        "windows" => windows::told(alloc, &asked),
+        _ => Ok(None),
     }
-    if let Some(Tree::Whole(day)) = asked.get("day") {
-        return on_day(alloc, start, &rules, day.get());
-    }
-    let series = hourly(alloc, start, rules);
-    match asked.get("times") {
-        Some(Tree::Whole(times)) => asked_again(alloc, &series, asked, times.get()),
-        _ => first_occurrences(alloc, &series),
-    }
-}
-
-// A series of hours from a start, without exceptions.
-fn hourly(alloc: Global, start: Wall, rules: Rules) -> Series
-    requires years { is_in_years start ≡ true }
-    requires few { length rules ≤ 4 }
-{
-    Series {
-        start,
-        length: Length {
-            days: 0,
-            seconds: 3600,
-        },
-        occupying: true,
-        rules,
-        exceptions: Exceptions::new(Vec::new(alloc)),
-    }
-}
-
-// How many of so many questions for the next occurrence had an answer, from a wall second on and behind the year 9999 from there again.
-//
-// It is there to measure how long a question takes.
-fn asked_again(
-    alloc: Global,
-    series: &Series,
-    asked: &Tree,
-    times: i128,
-) -> Result<String, AllocError> {
-    let from = wall_at(asked, "from").unwrap_or(series.start);
-    let mut here = from;
-    let mut answers: u64 = 0;
-    for _ in 0..times.unsigned_abs() {
-        if !is_in_years(here) {
-            here = from;
-        }
-        if here.seconds().unsigned_abs() >= FAR {
-            break;
-        }
-        if let Some(next) = next_from(series, here, Some(here)) {
-            here = next.start;
-            answers = answers.saturating_add(1);
-        }
-    }
-    let mut text = String::new(alloc);
-    write!(&mut text, "{answers}")?;
-    Ok(text)
-}
-
-// The starts of the first occurrences, one after another.
-fn first_occurrences(alloc: Global, series: &Series) -> Result<String, AllocError> {
-    let mut text = String::new(alloc);
-    let mut from = series.start;
-    let mut past = None;
-    for _ in 0..TOLD {
-        if from.seconds().unsigned_abs() >= FAR {
-            break;
-        }
-        let Some(next) = next_from(series, from, past) else {
-            break;
-        };
-        if !text.is_empty() {
-            text.push(' ')?;
-        }
-        push_wall(alloc, &mut text, next.start)?;
-        from = next.start;
-        past = Some(next.rid);
-    }
-    Ok(text)
-}
-
-// A wall second as a LocalDateTime, or as its number where it lies behind the year 9999.
-fn push_wall(alloc: Global, text: &mut String, wall: Wall) -> Result<(), AllocError> {
-    if is_in_years(wall) {
-        text.push_str(local_text(alloc, wall)?.as_str())
-    } else {
-        write!(text, "{}", wall.seconds())
-    }
-}
-
-// The last day of each rule.
-fn last_days(alloc: Global, start: Wall, rules: &Rules) -> Result<String, AllocError>
-    requires { is_in_years start ≡ true }
-{
-    let mut text = String::new(alloc);
-    for rule in rules.items() {
-        match last_day(rule, start) {
-            Bound::Endless => text.push_str("endless")?,
-            Bound::Last(day) => write!(&mut text, "{day}")?,
-        }
-    }
-    Ok(text)
-}
-
-// For each rule whether the day is in its set.
-fn on_day(alloc: Global, start: Wall, rules: &Rules, day: i128) -> Result<String, AllocError>
-    requires { is_in_years start ≡ true }
-{
-    let mut text = String::new(alloc);
-    for rule in rules.items() {
-        if day.unsigned_abs() < 1 << 41 && occurs_on(rule, start, day as i64) {
-            text.push_str("yes")?;
-        } else {
-            text.push_str("no")?;
-        }
-    }
-    Ok(text)
 }
 
 fn main(rt: HostRuntime) -> io::Result<()> {
-    try_rows(&rt, &RuleRows)
+    try_rows(&rt, &mut RuleRows)
 }
