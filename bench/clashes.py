@@ -6,7 +6,7 @@ import tempfile
 
 from measure import contents, measured, options, run_program
 
-BINARY = "crates/clash_rows/out/clash_rows"
+BINARY = "crates/room_rows/out/room_rows"
 
 
 def daily(start, **rule):
@@ -55,13 +55,13 @@ PAIRS = {
 
 def table(asked, answer):
     file = tempfile.TemporaryFile()
-    file.write(f"{json.dumps(asked)}\n{answer}\n".encode())
+    file.write(f"=== clashes\n{json.dumps(asked)}\n{answer}\n".encode())
     file.flush()
     return file
 
 
 def check(_, made):
-    if not contents(made).startswith(b"1 rows, 0 of them"):
+    if not contents(made).startswith(b"clashes: 1 rows, 0 of them"):
         raise SystemExit(contents(made).decode())
 
 

@@ -1,8 +1,8 @@
 #!/usr/bin/env python3
-"""Measures how long heads take that come one byte at a time, by crates/message_rows, which gives each input in one piece, in pieces of
+"""Measures how long heads take that come one byte at a time, by crates/text_rows, which gives each input in one piece, in pieces of
 one byte and in pieces of seven bytes.
 
-Build the program first, by `rt run < stdin` in crates/message_rows. Each line has heads of one length, always as many bytes in all; times are
+Build the program first, by `rt run < stdin` in crates/text_rows. Each line has heads of one length, always as many bytes in all; times are
 of the processor, the least of three. The exit status is 0 whatever the figures, and 1 where the program failed or answered something else.
 """
 import os
@@ -10,7 +10,7 @@ import resource
 import subprocess
 import sys
 
-PROGRAM = os.path.join(os.path.dirname(__file__), "..", "crates", "message_rows", "out", "message_rows")
+PROGRAM = os.path.join(os.path.dirname(__file__), "..", "crates", "text_rows", "out", "text_rows")
 BYTES = 8_000_000
 FIRST, LAST = "GET / HTTP/1.1\\r\\nX: ", "\\r\\n\\r\\n"
 FIXED = 23
@@ -22,10 +22,10 @@ def spent(length, count):
     times = []
     for _ in range(3):
         before = resource.getrusage(resource.RUSAGE_CHILDREN)
-        ran = subprocess.run([PROGRAM], input=(row * count).encode(), stdout=subprocess.PIPE)
+        ran = subprocess.run([PROGRAM], input=("=== messages\n" + row * count).encode(), stdout=subprocess.PIPE)
         after = resource.getrusage(resource.RUSAGE_CHILDREN)
-        if ran.returncode or f"{count} rows, 0 of them" not in ran.stdout.decode():
-            sys.exit(f"message_rows failed: {ran.stdout.decode()[:500]}")
+        if ran.returncode or f"messages: {count} rows, 0 of them" not in ran.stdout.decode():
+            sys.exit(f"text_rows failed: {ran.stdout.decode()[:500]}")
         times.append(after.ru_utime + after.ru_stime - before.ru_utime - before.ru_stime)
     return min(times)
 

@@ -45,7 +45,7 @@ def nanoseconds(chosen, count, shape):
 
 def main():
     parser = argparse.ArgumentParser(description=__doc__)
-    parser.add_argument("binary", nargs="?", default="crates/patch_rows/out/patch_rows")
+    parser.add_argument("binary", nargs="?", default="crates/text_rows/out/text_rows")
     parser.add_argument("--rounds", type=int, default=5)
     chosen = parser.parse_args()
     print(f"{'patch':28} ms of {FEW:,}  ms of {MANY:,}  ratio  goals: under {GOAL} ms, a ratio under {GROWTH}")

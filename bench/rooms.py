@@ -72,13 +72,13 @@ ROOMS = {
 
 def table(bookings, proposed, answer):
     file = tempfile.TemporaryFile()
-    file.write(f"{json.dumps({'bookings': bookings, 'proposed': proposed})}\n{answer}\n".encode())
+    file.write(f"=== rooms\n{json.dumps({'bookings': bookings, 'proposed': proposed})}\n{answer}\n".encode())
     file.flush()
     return file
 
 
 def check(_, made):
-    if not contents(made).startswith(b"1 rows, 0 of them"):
+    if not contents(made).startswith(b"rooms: 1 rows, 0 of them"):
         raise SystemExit(contents(made).decode())
 
 

@@ -32,7 +32,7 @@ FAR = {"frequency": "daily", "interval": 970, "byMonth": ["2"], "byMonthDay": [2
 
 def spent(rows):
     """Seconds of the processor that the program takes for these rows."""
-    text = "".join(json.dumps(row) + "\nx\n" for row in rows)
+    text = "=== rules\n" + "".join(json.dumps(row) + "\nx\n" for row in rows)
     times = []
     for _ in range(3):
         before = resource.getrusage(resource.RUSAGE_CHILDREN).ru_utime

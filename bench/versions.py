@@ -69,7 +69,7 @@ def tell_memory(chosen):
 
 def main():
     parser = argparse.ArgumentParser(description=__doc__)
-    parser.add_argument("binary", nargs="?", default="crates/version_rows/out/version_rows")
+    parser.add_argument("binary", nargs="?", default="crates/store_rows/out/store_rows")
     parser.add_argument("--rounds", type=int, default=5)
     chosen = parser.parse_args()
     tell_times(chosen)
