@@ -54,8 +54,8 @@ fn came(alloc: Global, table: &str, asked: &str) -> Result<Option<String>, Alloc
     }
 }
 
-// A call that ran out of memory is made again, so that a table whose answers all came shows that nothing was lost. Ample
-// memory ran out then, which is an error.
+// A call that ran out of memory is made again, so that a table whose answers all came shows that nothing was lost. Ample memory ran out
+// then, which is an error.
 fn main(rt: HostRuntime) -> io::Result<()> {
     if let Some(rounds) = env::args(&rt)?.nth(1) {
         return times::tell(&rt, rounds.parse::<u32>().unwrap_or(1));
