@@ -1,51 +1,82 @@
--- Durations as texts (RFC 8984 section 1.4.6): days, and seconds beside them.
-use Rattle.std.specs.Prelude.{ℕ, List, [], ◌∷◌, ◌+◌, ◌*◌, ◌<◌, ◌==◌, ◌&&◌, ◌||◌, Bool, Option, Some, None, drop, take, length, nat_le, option_map, slice_index, if◌then◌else◌}
+-- Durations as texts (RFC 8984 section 1.4.6, without fractions of a second): days, and seconds beside them.
+use Rattle.std.specs.Prelude.{ℕ, List, [], ◌∷◌, ◌+◌, ◌-◌, ◌*◌, ◌<◌, ◌==◌, ◌&&◌, Bool, Option, Some, None, length, nat_le, option_and_then, option_map, slice_index, take, if◌then◌else◌}
 use Rattle.std.specs.Char.{is_ascii_digit}
-use Rattle.std.specs.List.{prefix_len}
+use Rattle.std.specs.List.{list_all}
+use Rattle.std.specs.Option.{option_or}
 use Rattle.spec_json.specs.Number.{value_of_digits}
-use Rattle.spec_time.specs.LocalTimes.{seconds_of_clock}
 use Rattle.spec_time.specs.declared.length.Length.{Length}
 
 -- as short as every length that is read
 abbrev pub IsShortLength : Length → Type 0
 IsShortLength l = (l.days < 10000000000) × (l.seconds < 10000000000000)
 
--- how many digits stand first
-abbrev pub digits_first : List ℕ → ℕ
-digits_first s = prefix_len is_ascii_digit s
-
--- a number of 1 to 9 digits stands first, and this letter behind it
-unfoldable pub has_part : ℕ → List ℕ → Bool
-has_part letter s = (nat_le 1 (digits_first s) && nat_le (digits_first s) 9) && (slice_index s (digits_first s) == letter)
-
--- that number, 0 where there is none
-unfoldable pub amount : ℕ → List ℕ → ℕ
-amount letter s = if has_part letter s then value_of_digits (take (digits_first s) s) else 0
-
--- what stands behind the letter; all, where there is no number
-unfoldable pub behind_part : ℕ → List ℕ → List ℕ
-behind_part letter s = if has_part letter s then drop (digits_first s + 1) s else s
-
--- `nH`, `nM` and `nS` in this order, at least one of them, and nothing behind
-abbrev pub clock_in : List ℕ → Option ℕ
-clock_in s =
-    if ((has_part 72 s || has_part 77 (behind_part 72 s)) || has_part 83 (behind_part 77 (behind_part 72 s))) && (length (behind_part 83 (behind_part 77 (behind_part 72 s))) == 0)
-    then Some (seconds_of_clock (amount 72 s) (amount 77 (behind_part 72 s)) (amount 83 (behind_part 77 (behind_part 72 s)))) else None
-
--- nothing, where a part stood before; or `T` and then hours, minutes and seconds
-abbrev pub seconds_in : Bool → List ℕ → Option ℕ
-seconds_in after_days [] = if after_days then Some 0 else None
-seconds_in after_days (b ∷ bs) = if b == 84 then clock_in bs else None
-
 abbrev pub length_of : ℕ → ℕ → Length
 length_of days seconds = record { days = days; seconds = seconds }
 
--- `nW` and `nD` in this order, each of which may be left out, and then the seconds
-abbrev pub parts_in : List ℕ → Option Length
-parts_in s =
-    option_map (length_of (7 * amount 87 s + amount 68 (behind_part 87 s))) (seconds_in (has_part 87 s || has_part 68 (behind_part 87 s)) (behind_part 68 (behind_part 87 s)))
+-- Forms of texts, as the grammar puts them together.
 
--- the length that a Duration names
-abbrev pub duration_in : List ℕ → Option Length
-duration_in [] = None
-duration_in (b ∷ bs) = if b == 80 then parts_in bs else None
+-- the length that a text of the form says; none for a text that isn't of it
+abbrev pub Form : Type 0
+Form = List ℕ → Option Length
+
+-- two lengths together, where there are both
+abbrev pub both : Option Length → Option Length → Option Length
+both a b = option_and_then (λ x. option_map (λ y. length_of (x.days + y.days) (x.seconds + y.seconds)) b) a
+
+-- a text of the one form and then one of the other; the first ends before a byte or goes on with it
+unfoldable pub followed_by : Form → Form → Form
+followed_by f g [] = both (f []) (g [])
+followed_by f g (b ∷ bs) = option_or (both (f []) (g (b ∷ bs))) (followed_by (λ rest. f (b ∷ rest)) g bs)
+
+-- a text of either form
+abbrev pub either : Form → Form → Form
+either f g s = option_or (f s) (g s)
+
+-- nothing, or a text of the form
+abbrev pub optional : Form → Form
+optional f [] = Some (length_of 0 0)
+optional f (b ∷ bs) = f (b ∷ bs)
+
+-- a letter and then a text of the form
+abbrev pub behind : ℕ → Form → Form
+behind letter f [] = None
+behind letter f (b ∷ bs) = if b == letter then f bs else None
+
+-- a number of 1 to 9 digits
+abbrev pub is_number : List ℕ → Bool
+is_number s = (nat_le 1 (length s) && nat_le (length s) 9) && list_all is_ascii_digit s
+
+abbrev pub all_but_last : List ℕ → List ℕ
+all_but_last s = take (length s - 1) s
+
+abbrev pub is_part : ℕ → List ℕ → Bool
+is_part letter s = is_number (all_but_last s) && (slice_index s (length s - 1) == letter)
+
+-- a number and then a letter, which tells how long so many are
+unfoldable pub part : ℕ → (ℕ → Length) → Form
+part letter lengths s = if is_part letter s then Some (lengths (value_of_digits (all_but_last s))) else None
+
+-- The grammar. Minutes may be left out between hours and seconds.
+
+abbrev pub dur_second : Form
+dur_second = part 83 (λ n. length_of 0 n)
+
+abbrev pub dur_minute : Form
+dur_minute = followed_by (part 77 (λ n. length_of 0 (60 * n))) (optional dur_second)
+
+abbrev pub dur_hour : Form
+dur_hour = followed_by (part 72 (λ n. length_of 0 (3600 * n))) (optional (either dur_minute dur_second))
+
+-- `T`, and then hours, minutes and seconds
+abbrev pub dur_time : Form
+dur_time = behind 84 (either dur_hour (either dur_minute dur_second))
+
+abbrev pub dur_day : Form
+dur_day = followed_by (part 68 (λ n. length_of n 0)) (optional dur_time)
+
+abbrev pub dur_week : Form
+dur_week = followed_by (part 87 (λ n. length_of (7 * n) 0)) (optional (either dur_day dur_time))
+
+-- the length that a Duration names: `P`, and then weeks, days and the time
+unfoldable pub duration_in : List ℕ → Option Length
+duration_in = behind 80 (either dur_week (either dur_day dur_time))

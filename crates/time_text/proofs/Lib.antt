@@ -1,4 +1,5 @@
 pub mod NumberLemmas
 pub mod DateLemmas
 pub mod FormLemmas
+pub mod DurationLemmas
 pub mod WrittenLemmas

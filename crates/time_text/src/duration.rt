@@ -3,7 +3,8 @@ ghost use Rattle.std.specs.Prelude.{◌≡◌, ◌≤◌, ◌<◌, IfSome, true,
 ghost use Rattle.std.specs.Char.{is_ascii_digit};
 ghost use Rattle.std.specs.List.{list_all};
 ghost use Rattle.spec_json.specs.Number.{value_of_digits};
-ghost use Rattle.spec_time.specs.Durations.{amount, behind_part, clock_in, digits_first, duration_in, has_part, parts_in, seconds_in, IsShortLength};
+ghost use Rattle.spec_time.specs.Durations.{IsShortLength, duration_in};
+ghost use Rattle.time_text.specs.DurationParts.{amount, behind_part, clock_in, digits_first, has_part, parts_in, seconds_in};
 
 use spec_time::length::Length;
 
@@ -16,6 +17,7 @@ struct Part<'a> {
 }
 
 /// Reads a Duration (RFC 8984 section 1.4.6). None where the text is anything else. Takes no memory.
+#[tactic(auto, using(crate::proofs::DurationLemmas::duration_is))]
 pub fn read_duration(text: &[u8]) -> Option<Length>
     ensures value { result ≡ duration_in text.now }
     ensures bound { IfSome result IsShortLength }
@@ -78,7 +80,7 @@ fn read_clock(text: &[u8]) -> Option<u64>
 }
 
 // The part of this letter that stands first, if there is one.
-#[tactic(auto, unfolding(spec_time::specs::Durations::amount, spec_time::specs::Durations::behind_part))]
+#[tactic(auto, unfolding(crate::specs::DurationParts::amount, crate::specs::DurationParts::behind_part))]
 fn first_part(text: &[u8], letter: u8) -> Part<'_>
     requires { 0 < letter }
     ensures is_there { result.is_there ≡ has_part letter text.now }
@@ -102,7 +104,7 @@ fn first_part(text: &[u8], letter: u8) -> Part<'_>
     }
 }
 
-#[tactic(auto, unfolding(spec_time::specs::Durations::has_part))]
+#[tactic(auto, unfolding(crate::specs::DurationParts::has_part))]
 fn has_part(text: &[u8], digits: usize, letter: u8) -> bool
     requires digits { digits ≡ digits_first text.now }
     requires letter { 0 < letter }

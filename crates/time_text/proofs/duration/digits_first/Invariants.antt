@@ -1,7 +1,7 @@
 use Rattle.std.proofs.Common.{◌≡◌, ◌≤◌, ◌+◌, ◌-◌, drop, take, length, true}
 use Rattle.std.specs.Char.{is_ascii_digit}
 use Rattle.std.specs.List.{list_all}
-use Rattle.spec_time.specs.Durations.{digits_first}
+use Rattle.time_text.specs.DurationParts.{digits_first}
 use Rattle.time_text.proofs.duration.digits_first.Given as goal
 
 abbrev pub invariant-loop-i : goal.invariant-loop-i
