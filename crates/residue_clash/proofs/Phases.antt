@@ -16,7 +16,8 @@ use Rattle.rule_expand.proofs.Next.{period-later}
 use Rattle.rule_expand.proofs.Places.{and_both, false_true}
 use Rattle.rule_expand.proofs.Sets.{or_cases}
 use Rattle.spec_series.specs.RuleObjects.{is_empty}
-use Rattle.residue_clash.specs.Repeats.{is_up_to_a_week, is_of_weekdays, repeats_after, periods_of_week, periods_after}
+use Rattle.rule_expand.specs.Repeats.{is_up_to_a_week, is_of_weekdays, repeats_after}
+use Rattle.residue_clash.specs.Repeats.{periods_of_week, periods_after}
 
 rem_is : (x : ℤ) (i : ℕ) → int_rem_euclid x (pos i) ≡ pos (modulo x i)
 rem_is (pos a) i = refl

@@ -4,7 +4,5 @@ pub mod Meetings
 pub mod Covers
 pub mod Parts
 pub mod Hidden
-pub mod Late
 pub mod Repeats
-pub mod Again
 pub mod RuleTracks

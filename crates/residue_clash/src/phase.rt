@@ -5,7 +5,8 @@ ghost use Rattle.spec_time.specs.Floor.{modulo};
 ghost use Rattle.spec_series.specs.Periods.{is_in_phase};
 ghost use Rattle.residue_solve.specs.Cong.{IsInRange, Solves};
 ghost use Rattle.rule_expand.specs.Walk.{periods};
-ghost use Rattle.residue_clash.specs.Repeats.{is_of_weekdays, periods_after, repeats_after};
+ghost use Rattle.rule_expand.specs.Repeats.{is_of_weekdays, repeats_after};
+ghost use Rattle.residue_clash.specs.Repeats.{periods_after};
 
 use spec_series::by_part::Freq;
 use spec_series::rule::Rule;

@@ -2,7 +2,7 @@
 ghost use Rattle.std.specs.Prelude.{◌<◌, unsigned_abs};
 ghost use Rattle.spec_series.specs.Periods.{is_in_phase};
 ghost use Rattle.spec_series.specs.RuleSets.{is_kept};
-ghost use Rattle.residue_clash.specs.Repeats.{repeats_after};
+ghost use Rattle.rule_expand.specs.Repeats.{repeats_after};
 
 use crate::kept::is_kept_on;
 use crate::phase::{is_phase_day, looks_at_weekdays, phase_of};
@@ -25,7 +25,7 @@ pub struct RuleTrack<'a> {
 
 impl Track for RuleTrack<'_> {
     ghost use Rattle.std.specs.Prelude.{refl};
-    ghost use Rattle.residue_clash.specs.Again.{kept_again};
+    ghost use Rattle.rule_expand.proofs.Again.{kept_again};
 
     ghost keeps = { λ t n. is_kept t.rule.now n };
 

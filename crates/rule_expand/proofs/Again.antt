@@ -17,7 +17,7 @@ use Rattle.rule_expand.proofs.Cycle.{is_kept-cycle}
 use Rattle.rule_expand.proofs.Places.{and_both, false_true}
 use Rattle.rule_expand.proofs.Sets.{or_cases}
 use Rattle.spec_series.specs.RuleObjects.{is_empty}
-use Rattle.residue_clash.specs.Repeats.{is_up_to_a_week, is_of_weekdays, repeats_after}
+use Rattle.rule_expand.specs.Repeats.{is_up_to_a_week, is_of_weekdays, repeats_after}
 
 -- the day a week later
 abbrev pub week_later : ℤ → ℤ
