@@ -6,7 +6,8 @@ use Rattle.std.proofs.lemmas.Option.{same_Some}
 use Rattle.jiff_core.proofs.SignedLemmas.{signed_arith}
 use borrow.Author.Differences.{up, down}
 use Rattle.spec_time.specs.Walls.{day_of_wall, is_in_years, second_of_wall}
-use Rattle.spec_series.specs.Occurrences.{Covers, IsOccurrence, IsRegular, IsReplacement, is_day}
+use Rattle.spec_series.proofs.Occurrences.{kinds, regular_occurs}
+use Rattle.spec_series.specs.Occurrences.{Covers, IsOccurrence, IsOfKinds, IsRegular, is_day}
 use Rattle.spec_series.specs.Periods.{is_in_phase, period_number}
 use Rattle.spec_series.specs.Places.{count_from}
 use Rattle.spec_series.specs.RuleSets.{is_by_end, is_counted, is_due, is_in_set, is_kept, is_within_count}
@@ -17,6 +18,7 @@ use Rattle.spec_series.specs.declared.exception.Exception.{Exception}
 use Rattle.spec_series.specs.declared.occurrence.Occurrence.{Occurrence}
 use Rattle.spec_series.specs.declared.rule.Rule.{Rule}
 use Rattle.spec_series.specs.declared.series.Series.{Series}
+use Rattle.residue_clash.proofs.Covering.{replaced_early}
 use Rattle.rule_expand.proofs.Cycle.{count_from-after, is_kept-cycle, later}
 use Rattle.rule_expand.proofs.Next.{period-later}
 use Rattle.rule_expand.proofs.Places.{and_both, count_le, false_true}
@@ -179,40 +181,33 @@ regular_again s o h far =
       ),
     )
 
-all_at : {A : Type 0} (p : A → Bool) (xs : List A) (k : ℕ) (x : A) → list_all p xs ≡ true → slice_get xs k ≡ Some x → p x ≡ true
-all_at p [] k x h e = absurd (cc e)
-all_at p (y ∷ ys) zero x h e = ap p (sym (same_Some y x e)) ∙ (and_both (p y) (list_all p ys) h).0
-all_at p (y ∷ ys) (suc k) x h e = all_at p ys k x (and_both (p y) (list_all p ys) h).1 e
-
--- what replaces an occurrence lies in the years 0 to 9999 and isn't long
-replaced_early : (s : Series) (k : ℕ) (x : Exception) (o : Occurrence) → slice_get s.exceptions k ≡ Some x → IsReplacement x o → (is_in_years o.start ≡ true) × (wall_seconds o.length ≤ 31622400)
-replaced_early s k x o at is =
-    let years = and_both (is_in_years x.rid) (is_span_in_years x.replaced) (all_at (λ (y : Exception). is_in_years y.rid && is_span_in_years y.replaced) s.exceptions k x s.exceptions_in at) in
-    let short = all_at (λ (y : Exception). is_span_short y.replaced) s.exceptions k x s.exceptions_short at in
-    let by : x.replaced ≡ Some (record { start = o.start; length = o.length; occupying = o.occupying }) = ap (λ (y : Exception). y.replaced) is in
-    (rw by at years.1, let le = rw by at short in grind (arith, nat_tests))
-
 -- where an occurrence of a series may begin, and how long it may last
-pub bounds : (s : Series) (o : Occurrence) → IsOccurrence s o → ((pos 0 -ℤ pos 500000000000) ≤ℤ o.start) × (wall_seconds o.length ≤ 31622400)
-bounds s o (inl h) =
+kind_bounds : (s : Series) (o : Occurrence) → IsOfKinds s o → ((pos 0 -ℤ pos 500000000000) ≤ℤ o.start) × (wall_seconds o.length ≤ 31622400)
+kind_bounds s o (inl h) =
     let p = and_both (second_of_wall o.rid == second_of_wall s.start) (is_day s.rules s.start (day_of_wall o.rid)) h.rid in
     let from = day_from s.rules s.start (day_of_wall o.rid) p.1 in
     let early = (start_early s.start s.start_in).0 in
     (omega (arith, signed_arith, from, early, h.start), rw h.length s.length_in)
-bounds s o (inr (k, x)) =
+kind_bounds s o (inr (k, x)) =
     let early = replaced_early s k x.0 o x.1.0 x.1.1 in
     let near = years_near o.start early.0 in
     (omega (arith, signed_arith, near), early.1)
 
+pub bounds : (s : Series) (o : Occurrence) → IsOccurrence s o → ((pos 0 -ℤ pos 500000000000) ≤ℤ o.start) × (wall_seconds o.length ≤ 31622400)
+bounds s o h = kind_bounds s o (kinds s o h)
+
+abbrev AgainFrom : Series → Occurrence → ℤ → Type 0
+AgainFrom s o x =
+    (i : ℕ) × ((1 ≤ i) × ((i ≤ 1000) × ((k : ℕ) → pos 1000000000000 ≤ℤ (x -ℤ back (k * i)) → IsOccurrence s (earlier o (k * i)) × Covers (earlier o (k * i)) (x -ℤ back (k * i)))))
+
 -- a late second that an occurrence covers is covered some times this many cycles earlier too, by the same occurrence so much earlier
-pub again : (s : Series) (o : Occurrence) (x : ℤ) → IsOccurrence s o → Covers o x → pos 1000000000000 ≤ℤ x
-    → (i : ℕ) × ((1 ≤ i) × ((i ≤ 1000) × ((k : ℕ) → pos 1000000000000 ≤ℤ (x -ℤ back (k * i)) → IsOccurrence s (earlier o (k * i)) × Covers (earlier o (k * i)) (x -ℤ back (k * i)))))
-again s o x (inr (k, e)) over far =
+kind_again : (s : Series) (o : Occurrence) (x : ℤ) → IsOfKinds s o → Covers o x → pos 1000000000000 ≤ℤ x → AgainFrom s o x
+kind_again s o x (inr (k, e)) over far =
     let early = replaced_early s k e.0 o e.1.0 e.1.1 in
     let near = years_near o.start early.0 in
     absurd (omega (arith, signed_arith, near, early.1, over.not_over, far))
-again s o x (inl h) over far =
-    let short = (bounds s o (inl h)).1 in
+kind_again s o x (inl h) over far =
+    let short = (kind_bounds s o (inl h)).1 in
     let regular = regular_again s o h (omega (arith, signed_arith, h.start, short, over.not_over, far)) in (
       regular.0,
       (
@@ -220,7 +215,7 @@ again s o x (inl h) over far =
         (
           regular.1.1.0,
           λ k less. (
-            inl (regular.1.1.1 k (omega (arith, signed_arith, h.start, short, over.not_over, less))),
+            regular_occurs s (earlier o (k * regular.0)) (regular.1.1.1 k (omega (arith, signed_arith, h.start, short, over.not_over, less))),
             record {
               occupying = over.occupying;
               begun = omega (arith, signed_arith, over.begun);
@@ -230,3 +225,7 @@ again s o x (inl h) over far =
         ),
       ),
     )
+
+pub again : (s : Series) (o : Occurrence) (x : ℤ) → IsOccurrence s o → Covers o x → pos 1000000000000 ≤ℤ x
+    → (i : ℕ) × ((1 ≤ i) × ((i ≤ 1000) × ((k : ℕ) → pos 1000000000000 ≤ℤ (x -ℤ back (k * i)) → IsOccurrence s (earlier o (k * i)) × Covers (earlier o (k * i)) (x -ℤ back (k * i)))))
+again s o x h over far = kind_again s o x (kinds s o h) over far

@@ -1,11 +1,13 @@
 -- The first clash of any series and bookings is the least second that is one, over all days without end.
 use Rattle.std.proofs.Common.{◌≡◌, ℕ, zero, suc, ◌*◌, ◌≤◌, ◌^◌, ℤ, pos, negsuc, ◌+ℤ◌, ◌-ℤ◌, ◌≤ℤ◌, ◌<ℤ◌, inl, inr, Bool, true, false, List, Option, Some, None, MatchOption, option_map, refl, ap, arith, subst, mul_comm, mul-le-mul, if◌then◌else◌}
+use Rattle.std.specs.Prelude.{find}
 use Rattle.std.proofs.lemmas.Int.{by_lt_z}
 use Rattle.jiff_core.proofs.SignedLemmas.{signed_arith}
 use Rattle.spec_bookings.specs.declared.booking.Booking.{Booking}
 use Rattle.spec_bookings.specs.Clashes.{IsClash, clash_at, first_clash, is_clash, second_of}
 use Rattle.spec_series.specs.Occurrences.{Covers, IsOccurrence}
-use Rattle.spec_series.specs.Shared.{first_from, first_second}
+use Rattle.spec_series.specs.Numbers.{numbers_from, seconds_around}
+use Rattle.spec_series.specs.Shared.{first_second}
 use Rattle.spec_series.specs.declared.occurrence.Occurrence.{Occurrence}
 use Rattle.spec_series.specs.declared.series.Series.{Series}
 use Rattle.spec_time.specs.Walls.{day_of_wall, second_of_wall, wall_at}
@@ -33,15 +35,15 @@ one_less p from end (Some x) fails h = (
       (λ ge. let same : y ≡ from = omega (arith, signed_arith, low, ge) in absurd (cc (ap p same, e, fails))),
 )
 
-searched : (p : ℤ → Bool) (from : ℤ) (n : ℕ) → LeastWithin p from (from +ℤ pos n) (first_from p from n)
-unfolding first_from
+searched : (p : ℤ → Bool) (from : ℤ) (n : ℕ) → LeastWithin p from (from +ℤ pos n) (find p (numbers_from from n))
+unfolding numbers_from
 searched p from zero = λ y low high e. absurd (omega (arith, signed_arith, low, high))
 searched p from (suc n) =
-    by_test (LeastWithin p from (from +ℤ pos (suc n))) (p from) (Some from) (first_from p (from +ℤ pos 1) n)
+    by_test (LeastWithin p from (from +ℤ pos (suc n))) (p from) (Some from) (find p (numbers_from (from +ℤ pos 1) n))
     (λ holds. (holds, λ y low e. low))
     (λ fails.
     let end : (from +ℤ pos 1) +ℤ pos n ≡ from +ℤ pos (suc n) = omega (arith, signed_arith) in
-    one_less p from (from +ℤ pos (suc n)) (first_from p (from +ℤ pos 1) n) fails (subst (λ (z : ℤ). LeastWithin p (from +ℤ pos 1) z (first_from p (from +ℤ pos 1) n)) end (searched p (from +ℤ pos 1) n)))
+    one_less p from (from +ℤ pos (suc n)) (find p (numbers_from (from +ℤ pos 1) n)) fails (subst (λ (z : ℤ). LeastWithin p (from +ℤ pos 1) z (find p (numbers_from (from +ℤ pos 1) n))) end (searched p (from +ℤ pos 1) n)))
 
 module _ (p : ℤ → Bool) (low : (x : ℤ) → p x ≡ true → (pos 0 -ℤ pos (2 ^ 57)) ≤ℤ x) (near : (x : ℤ) → p x ≡ true → (y : ℤ) × ((y <ℤ pos (2 ^ 57)) × (p y ≡ true))) where
   all_numbers : (end : ℤ) (o : Option ℤ) → pos (2 ^ 57) ≤ℤ end → LeastWithin p (pos 0 -ℤ pos (2 ^ 57)) end o → IsLeastOf (λ x. p x ≡ true) o
@@ -50,8 +52,8 @@ module _ (p : ℤ → Bool) (low : (x : ℤ) → p x ≡ true → (pos 0 -ℤ po
 
   -- a test whose numbers aren't too low, and that has a low one if any
   pub least_second : IsLeastOf (λ x. p x ≡ true) (first_second p)
-  unfolding first_second
-  least_second = all_numbers _ (first_from p (pos 0 -ℤ pos (2 ^ 57)) (2 ^ 58)) (omega (arith, signed_arith)) (searched p (pos 0 -ℤ pos (2 ^ 57)) (2 ^ 58))
+  unfolding first_second seconds_around
+  least_second = all_numbers _ (find p (numbers_from (pos 0 -ℤ pos (2 ^ 57)) (2 ^ 58))) (omega (arith, signed_arith)) (searched p (pos 0 -ℤ pos (2 ^ 57)) (2 ^ 58))
 
 -- ---- Clashes.
 

@@ -1,6 +1,6 @@
 -- The runs of a test in a window.
 use Rattle.std.proofs.Common.{◌&&◌, ◌||◌, ◌≡◌, ◌⊎◌, ℕ, zero, suc, inl, inr, Bool, true, false, not, refl, sym, ◌∙◌, arith, ℤ, pos, ◌≤ℤ◌, ◌<ℤ◌, ◌+ℤ◌, ◌-ℤ◌, negsuc, int_lt, int_le, List, [], ◌∷◌, Some}
-use Rattle.std.specs.Prelude.{filter, map, slice_get, unsigned_abs, unwrap_or}
+use Rattle.std.specs.Prelude.{filter, find, map, slice_get, unsigned_abs, unwrap_or}
 use Rattle.std.specs.Ordering.{int_eq}
 use Rattle.std.proofs.lemmas.Bool.Decides.{Decides-int_eq}
 use Rattle.std.proofs.lemmas.Int.{by_lt_z, ints}
@@ -9,9 +9,9 @@ use Rattle.jiff_core.specs.Calendar.{IsWithin}
 use Rattle.availability.proofs.Determined.{determined}
 use Rattle.availability.proofs.Runs.{run_of}
 use Rattle.availability_method.specs.Periods.{AreInYears, IsInYears}
-use Rattle.spec_availability.specs.Runs.{begins_run, instants_from, run_at, run_end, runs_in}
+use Rattle.spec_availability.specs.Runs.{begins_run, run_at, run_end, runs_in}
 use Rattle.spec_events.specs.Values.{is_showing}
-use Rattle.spec_series.specs.Shared.{first_from}
+use Rattle.spec_series.specs.Numbers.{numbers_from}
 use Rattle.spec_time.specs.Walls.{is_in_years}
 use Rattle.spec_windows.specs.declared.period.Period.{Period}
 use Rattle.spec_windows.specs.BusyPeriods.{are_runs, lies_in, is_busy}
@@ -48,10 +48,10 @@ record IsEnd (p : ℤ → Bool) (high u e : ℤ) : Type 0 where
   over : (e ≡ high) ⊎ (p e ≡ false)
 
 abbrev end_from : (ℤ → Bool) → ℤ → ℤ → ℕ → ℤ
-end_from p high u n = unwrap_or (first_from (λ v. not (p v)) u n) high
+end_from p high u n = unwrap_or (find (λ v. not (p v)) (numbers_from u n)) high
 
 end_is : (p : ℤ → Bool) (high u : ℤ) (n : ℕ) → high ≡ u +ℤ pos n → IsEnd p high u (end_from p high u n)
-unfolding first_from
+unfolding numbers_from
 end_is p high u zero e = record { behind = omega (arith, signed_arith); within = omega (arith, signed_arith); all = λ x a b. absurd (omega (arith, signed_arith)); over = inl refl }
 end_is p high u (suc n) e = by_bool (not (p u))
     (λ t. rw t (record { behind = omega (arith, signed_arith); within = omega (arith, signed_arith); all = λ x a b. absurd (omega (arith, signed_arith)); over = inr (not_is (p u) t) }))
@@ -91,18 +91,18 @@ module _ (p : ℤ → Bool) (w : Period) where
 
   -- the runs that begin among so many instants
   abbrev from_here : ℤ → ℕ → List Period
-  from_here u k = map (run_at p w) (filter (begins_run p w) (instants_from u k))
+  from_here u k = map (run_at p w) (filter (begins_run p w) (numbers_from u k))
 
   here_some : (u : ℤ) (k : ℕ) → begins_run p w u ≡ true → from_here u (suc k) ≡ run_at p w u ∷ from_here (u +ℤ pos 1) k
-  unfolding instants_from
+  unfolding numbers_from
   here_some u k h = rw h refl
 
   here_none : (u : ℤ) (k : ℕ) → begins_run p w u ≡ false → from_here u (suc k) ≡ from_here (u +ℤ pos 1) k
-  unfolding instants_from
+  unfolding numbers_from
   here_none u k h = rw h refl
 
   here_no_more : (u : ℤ) → from_here u zero ≡ []
-  unfolding instants_from
+  unfolding numbers_from
   here_no_more u = refl
 
   run_first : (low : ℤ) (q : Period) (qs : List Period) → low <ℤ q.from → q.from <ℤ q.to → q.to ≤ℤ w.to → are_runs q.to w.to qs ≡ true → are_runs low w.to (q ∷ qs) ≡ true
@@ -213,7 +213,7 @@ unfolding runs_in
 runs_in_cover p w le u =
     let k = unsigned_abs (w.to -ℤ w.from) in
     let b : w.to ≡ w.from +ℤ pos k = reach w.from w.to le in
-    same_truth (is_busy (map (run_at p w) (filter (begins_run p w) (instants_from w.from k))) u) (lies_in u w && p u)
+    same_truth (is_busy (map (run_at p w) (filter (begins_run p w) (numbers_from w.from k))) u) (lies_in u w && p u)
     (λ h. let r = covered_pass p w w.from k u b h in both_and (lies_in u w) (p u) (both_and (int_le w.from u) _ (is_int_le w.from u r.0) (is_late u w.to r.1.0)) r.1.1)
     (λ h. let r = and_both (lies_in u w) (p u) h in let l = and_both (int_le w.from u) _ r.0 in
     pass_covered p w k u b (int_le_is w.from u l.0) (late_is u w.to l.1) r.1)

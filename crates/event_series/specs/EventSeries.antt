@@ -1,11 +1,9 @@
 -- The series of an event (RFC 8984 section 4.3).
-use Rattle.std.specs.Prelude.{◌≡◌, List, ℤ, Some}
+use Rattle.std.specs.Prelude.{◌≡◌, List, Some}
 use Rattle.spec_events.specs.Events.{is_occupying, length_in, start_in}
 use Rattle.spec_json.specs.Data.{Data}
 use Rattle.spec_recurrence.specs.Overrides.{exceptions_in}
 use Rattle.spec_recurrence.specs.RulesOf.{rules_of_event}
-use Rattle.spec_series.specs.Occurrences.{IsOccurrence}
-use Rattle.spec_series.specs.declared.occurrence.Occurrence.{Occurrence}
 use Rattle.spec_series.specs.declared.series.Series.{Series}
 use Rattle.spec_site.specs.TimeZones.{ZoneText}
 
@@ -16,7 +14,3 @@ pub record IsSeriesOf (zones : List ZoneText) (d : Data) (s : Series) : Type 0 w
   pub occupying : s.occupying ≡ is_occupying d
   pub rules : s.rules ≡ rules_of_event d
   pub exceptions : exceptions_in zones d ≡ Some s.exceptions
-
--- an occurrence of the series has this recurrence id
-abbrev pub HasOccurrence : Series → ℤ → Type 0
-HasOccurrence s w = (o : Occurrence) × IsOccurrence s o × (o.rid ≡ w)

@@ -1,10 +1,11 @@
 //! Laws of the definitions.
-ghost use Rattle.std.specs.Prelude.{◌≡◌, ◌↔◌, Some, List, [], ℕ, ℤ, true};
-ghost use Rattle.event_series.specs.EventSeries.{HasOccurrence, IsSeriesOf};
+ghost use Rattle.std.specs.Prelude.{◌≡◌, Some, List, [], ℕ, ℤ, is_some, true};
+ghost use Rattle.event_series.specs.EventSeries.{IsSeriesOf};
 ghost use Rattle.spec_events.specs.Events.{has_recurrence};
 ghost use Rattle.spec_json.specs.Data.{Data};
 ghost use Rattle.spec_recurrence.specs.Recurrence.{bad_properties_of_event, has_occurrence};
 ghost use Rattle.spec_recurrence.specs.SeriesOf.{series_in};
+ghost use Rattle.spec_series.specs.Occurrences.{occurrence_with};
 ghost use Rattle.spec_series.specs.declared.series.Series.{Series};
 ghost use Rattle.spec_site.specs.TimeZones.{ZoneText};
 ghost use Rattle.spec_time.specs.LocalTimes.{local_in, local_text};
@@ -24,5 +25,5 @@ pub fn events_have_one_series()
 
 /// An event that has rules or overrides has the occurrences of its series: those with recurrence ids in the years 0 to 9999.
 pub fn events_have_the_occurrences_of_series()
-    ensures { (zones : List ZoneText) (d : Data) (s : Series) (w : ℤ) → IsSeriesOf zones d s → has_recurrence d ≡ true → is_in_years w ≡ true → HasOccurrence s w ↔ (has_occurrence d w ≡ true) }
+    ensures { (zones : List ZoneText) (d : Data) (s : Series) (w : ℤ) → IsSeriesOf zones d s → has_recurrence d ≡ true → is_in_years w ≡ true → has_occurrence d w ≡ is_some (occurrence_with s w) }
 {}

@@ -1,18 +1,18 @@
 -- Occurrences in the order of their recurrence ids are those that a search over all recurrence ids finds.
 use Rattle.std.proofs.Common.{◌≡◌, ◌∙◌, ℕ, zero, suc, ℤ, pos, ◌+ℤ◌, ◌≤ℤ◌, ◌<ℤ◌, ◌⊎◌, inl, inr, Bool, true, false, List, [], ◌∷◌, ◌++◌, Some, flat_map, refl, sym, ap, subst, arith}
-use Rattle.std.specs.Prelude.{⊤}
+use Rattle.std.specs.Prelude.{⊤, filter}
 use Rattle.std.specs.List.{AllByRecursion}
 use Rattle.std.specs.Option.{option_map_or}
 use Rattle.std.proofs.lemmas.Int.{by_lt_z}
 use Rattle.jiff_core.proofs.SignedLemmas.{signed_arith}
 use Rattle.spec_json.specs.Parts.{some_of}
-use Rattle.spec_queries.specs.Expanded.{passing_from}
+use Rattle.spec_series.proofs.Occurrences.{with_rid}
+use Rattle.spec_series.specs.Numbers.{numbers_from}
+use Rattle.spec_series.specs.Occurrences.{occurrence_with, passes_with}
 use Rattle.spec_series.specs.declared.occurrence.Occurrence.{Occurrence}
 use Rattle.spec_series.specs.declared.series.Series.{Series}
-use Rattle.spec_windows.specs.Meetings.{occurrence_with, passes_with}
 use Rattle.occurrence_windows.proofs.Listing.{by_bool}
 use Rattle.occurrence_windows.proofs.Meeting.{some_holds}
-use Rattle.occurrence_windows.proofs.Passing.{with_is}
 
 -- each has a recurrence id that is no less than this one, and greater than that of the one before it
 unfoldable pub rises : ℤ → List Occurrence → Type 0
@@ -58,10 +58,10 @@ module _ (s : Series) (test : Occurrence → Bool) where
       → os ≡ found_at from ++ rest
   unfolding rises is_one
   begun from end o rest [] at passes room r all below whole next =
-      let own : o.rid ≡ from = (with_is s from o at).1 in
+      let own : o.rid ≡ from = (with_rid s from o at).1 in
       absurd (whole o (ap (occurrence_with s) own ∙ at, passes) (omega (arith, signed_arith, own)) (omega (arith, signed_arith, own, room)))
   begun from end o rest (p ∷ ps) at passes room r all below whole next =
-      let own : o.rid ≡ from = (with_is s from o at).1 in
+      let own : o.rid ≡ from = (with_rid s from o at).1 in
       elim (whole o (ap (occurrence_with s) own ∙ at, passes) (omega (arith, signed_arith, own)) (omega (arith, signed_arith, own, room))) [
         | inl same ↦
             let first : p.rid ≡ from = ap (λ q. q.rid) same ∙ own in
@@ -79,14 +79,14 @@ module _ (s : Series) (test : Occurrence → Bool) where
   head_is p ps = inl refl
 
   pub listed : (n : ℕ) (from end : ℤ) (os : List Occurrence) → end ≡ from +ℤ pos n → rises from os → AllByRecursion IsFound os → ((q : Occurrence) → is_one q os → q.rid <ℤ end)
-      → ((q : Occurrence) → IsFound q → from ≤ℤ q.rid → q.rid <ℤ end → is_one q os) → os ≡ flat_map found_at (passing_from (passes_with test s) from n)
-  unfolding passing_from
+      → ((q : Occurrence) → IsFound q → from ≤ℤ q.rid → q.rid <ℤ end → is_one q os) → os ≡ flat_map found_at (filter (passes_with test s) (numbers_from from n))
+  unfolding numbers_from
   listed zero from end [] e r all below whole = refl
   listed zero from end (p ∷ ps) e r all below whole =
       let low = above from (p ∷ ps) p r (head_is p ps) in let high = below p (head_is p ps) in absurd (omega (arith, signed_arith, low, high, e))
   listed (suc n) from end os e r all below whole = by_bool (passes_with test s from)
       (λ t. let o = some_holds test (occurrence_with s from) t in
-      rw t (begun from end o.0 (flat_map found_at (passing_from (passes_with test s) (from +ℤ pos 1) n)) os o.1.0 o.1.1 (omega (arith, signed_arith, e)) r all below whole
+      rw t (begun from end o.0 (flat_map found_at (filter (passes_with test s) (numbers_from (from +ℤ pos 1) n))) os o.1.0 o.1.1 (omega (arith, signed_arith, e)) r all below whole
       (λ ps. listed n (from +ℤ pos 1) end ps (omega (arith, signed_arith, e)))))
       (λ f. rw f (listed n (from +ℤ pos 1) end os (omega (arith, signed_arith, e)) (rises_past from os r all f) all below
       (λ q is low high. whole q is (omega (arith, signed_arith, low)) high)))

@@ -12,7 +12,8 @@ use Rattle.spec_series.specs.declared.exception.Exception.{Exception}
 use Rattle.spec_series.specs.declared.exception.Span.{Span}
 use Rattle.spec_series.specs.declared.occurrence.Occurrence.{Occurrence}
 use Rattle.spec_series.specs.declared.series.Series.{Series}
-use Rattle.spec_series.specs.Occurrences.{IsOccurrence, IsReplacement}
+use Rattle.spec_series.proofs.Occurrences.{kinds, names}
+use Rattle.spec_series.specs.Occurrences.{IsOccurrence, IsReplacement, occurrence_with}
 use Rattle.spec_series.specs.SeriesLimits.{are_distinct, are_short, is_named, is_span_short, wall_seconds}
 use Rattle.spec_time.specs.declared.length.Length.{Length}
 use Rattle.spec_windows.specs.Clocks.{instant_in}
@@ -25,36 +26,8 @@ use Rattle.rule_expand.proofs.Sets.{int_le_is, or_left, or_right}
 use Rattle.zone_instants.proofs.Bounds.{instant_near, rule_near}
 use Rattle.zone_instants.proofs.Readings.{instant-none}
 
-pub names : (xs : List Exception) (k : ℕ) (x : Exception) (w : ℤ) → slice_get xs k ≡ Some x → x.rid ≡ w → is_named xs w ≡ true
-unfolding is_named
-names [] k x w h e = cc
-names (y ∷ ys) zero x w h e = let same : y ≡ x = cc in or_left (int_eq y.rid w) _ ((Decides-int_eq y.rid w).1 (ap (λ z. z.rid) same ∙ e))
-names (y ∷ ys) (suc k) x w h e = or_right (int_eq y.rid w) _ (names ys k x w h e)
-
-not_is : (b : Bool) → not b ≡ true → b ≡ false
-not_is true h = sym h
-not_is false h = refl
-
-pub distinct_parts : (x : Exception) (xs : List Exception) → are_distinct (x ∷ xs) ≡ true → (is_named xs x.rid ≡ false) × (are_distinct xs ≡ true)
-unfolding are_distinct
-distinct_parts x xs h = let z = and_both (not (is_named xs x.rid)) (are_distinct xs) h in (not_is (is_named xs x.rid) z.0, z.1)
-
-same_item : (xs : List Exception) (j k : ℕ) (x y : Exception) → are_distinct xs ≡ true → slice_get xs j ≡ Some x → slice_get xs k ≡ Some y → x.rid ≡ y.rid → x ≡ y
-same_item [] j k x y d h g e = cc
-same_item (z ∷ zs) zero zero x y d h g e = cc
-same_item (z ∷ zs) zero (suc k) x y d h g e = let same : z ≡ x = cc in let named = names zs k y z.rid g (sym (ap (λ w. w.rid) same ∙ e)) in let free = (distinct_parts z zs d).0 in cc
-same_item (z ∷ zs) (suc j) zero x y d h g e = let same : z ≡ y = cc in let named = names zs j x z.rid h (e ∙ sym (ap (λ w. w.rid) same)) in let free = (distinct_parts z zs d).0 in cc
-same_item (z ∷ zs) (suc j) (suc k) x y d h g e = same_item zs j k x y (distinct_parts z zs d).1 h g e
-
 pub some_same : {A : Type 0} (x y : A) → Some x ≡ Some y → x ≡ y
 some_same x y h = cc
-
-span_of : Occurrence → Span
-span_of o = record { start = o.start; length = o.length; occupying = o.occupying }
-
-spans_same : (x y : Exception) (a b : Occurrence) → x ≡ y → IsReplacement x a → IsReplacement y b → span_of a ≡ span_of b
-unfolding span_of
-spans_same x y a b e h g = some_same (span_of a) (span_of b) (ap (λ z. z.replaced) (sym h ∙ e ∙ g))
 
 pub rid_of : (x : Exception) (o : Occurrence) → IsReplacement x o → x.rid ≡ o.rid
 rid_of x o h = ap (λ y. y.rid) h
@@ -63,23 +36,10 @@ pub replaced_of : (x : Exception) (o : Occurrence) → IsReplacement x o → x.r
 replaced_of x o h = ap (λ y. y.replaced) h
 
 pub single : (s : Series) → AreSingle (IsOccurrence s)
-unfolding span_of
-single s a b m n e f = elim m [
-  | inl own ↦ elim n [
-    | inl other ↦ λ i. record { rid = f i; start = e i; length = (own.length ∙ sym other.length) i; occupying = (own.occupying ∙ sym other.occupying) i }
-    | inr put ↦ let named = names s.exceptions put.0 put.1.0 a.rid put.1.1.0 (rid_of put.1.0 b put.1.1.1 ∙ sym f) in let free = own.free in cc
-  ]
-  | inr set ↦ elim n [
-    | inl other ↦ let named = names s.exceptions set.0 set.1.0 b.rid set.1.1.0 (rid_of set.1.0 a set.1.1.1 ∙ f) in let free = other.free in cc
-    | inr put ↦
-        let same = same_item s.exceptions set.0 put.0 set.1.0 put.1.0 s.exceptions_distinct set.1.1.0 put.1.1.0 (rid_of set.1.0 a set.1.1.1 ∙ f ∙ sym (rid_of put.1.0 b put.1.1.1)) in
-        let spans = spans_same set.1.0 put.1.0 a b same set.1.1.1 put.1.1.1 in
-        λ i. record { rid = f i; start = e i; length = (spans i).length; occupying = (spans i).occupying }
-  ]
-]
+single s a b m n e f = some_same a b (sym m ∙ ap (occurrence_with s) f ∙ n)
 
 pub rids_near : (s : Series) (o : Occurrence) → IsOccurrence s o → IsWithin 400000000000 o.start → IsWithin 400000000000 o.rid
-rids_near s o m h = elim m [
+rids_near s o m h = elim (kinds s o m) [
   | inl own ↦ let e = own.start in (omega (arith, signed_arith, h, e), omega (arith, signed_arith, h, e))
   | inr put ↦ named_near s.exceptions s.exceptions_in o.rid (names s.exceptions put.0 put.1.0 o.rid put.1.1.0 (rid_of put.1.0 o put.1.1.1))
 ]
@@ -90,7 +50,7 @@ lasts_is n l h = grind (arith, nat_tests)
 -- a longest length is one of all occurrences
 pub longest_lasts : (s : Series) (n : ℕ) → wall_seconds s.length ≤ n → ((k : ℕ) (x : Exception) → slice_get s.exceptions k ≡ Some x → lasts_up_to n x.replaced ≡ true)
     → (o : Occurrence) → IsOccurrence s o → wall_seconds o.length ≤ n
-longest_lasts s n own all o m = elim m [
+longest_lasts s n own all o m = elim (kinds s o m) [
   | inl x ↦ let e = ap wall_seconds x.length in omega (arith, own, e)
   | inr put ↦ let h = all put.0 put.1.0 put.1.1.0 in
       let k = rw (replaced_of put.1.0 o put.1.1.1) at h in

@@ -10,6 +10,7 @@ use Rattle.spec_events.specs.Events.{time_zone_in}
 use Rattle.spec_events.specs.Values.{is_showing}
 use Rattle.spec_filters.specs.Matches.{matches_by, meets_by}
 use Rattle.spec_json.specs.Data.{Data}
+use Rattle.spec_series.proofs.Occurrences.{kinds}
 use Rattle.spec_series.specs.Occurrences.{IsOccurrence, is_day}
 use Rattle.spec_series.specs.SeriesLimits.{wall_seconds}
 use Rattle.spec_series.specs.declared.occurrence.Occurrence.{Occurrence}
@@ -104,7 +105,7 @@ is_zero n h = grind (arith, nat_tests)
 alone_at : (s : Series) (o : Occurrence) → is_alone s ≡ true → IsOccurrence s o → (o.start ≡ s.start) × (o.length ≡ s.length)
 alone_at s o alone m =
     let parts = and_both (length s.rules == 0) (length s.exceptions == 0) alone in
-    elim m [
+    elim (kinds s o m) [
       | inl own ↦ (own.start ∙ at_start s.rules s.start o.rid (is_zero (length s.rules) parts.0) own.rid, own.length)
       | inr put ↦ absurd (no_item s.exceptions put.0 put.1.0 (is_zero (length s.exceptions) parts.1) put.1.1.0)
     ]

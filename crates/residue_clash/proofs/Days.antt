@@ -13,7 +13,8 @@ use Rattle.spec_series.specs.declared.series.Series.{Series}
 use Rattle.spec_time.specs.Walls.{day_of_wall, second_of_wall, wall_at}
 use Rattle.spec_series.specs.Periods.{is_in_phase}
 use Rattle.spec_series.specs.RuleSets.{is_kept, is_in_set}
-use Rattle.spec_series.specs.Occurrences.{is_day, IsOccurrence, Covers}
+use Rattle.spec_series.proofs.Occurrences.{kinds, regular_occurs, replaced_occurs}
+use Rattle.spec_series.specs.Occurrences.{is_day, IsOccurrence, Covers, IsOfKinds}
 use Rattle.spec_series.specs.Shared.{IsShared, IsSelfShared}
 use Rattle.rule_expand.specs.Least.{IsLeastOf}
 use Rattle.rule_expand.proofs.Least.{same-least}
@@ -160,17 +161,17 @@ module _ (s : Series) (a : Outline) (ts : List (Option RuleTrack)) (is : IsOutli
       let same = o.4 in
       let second : rid ≡ wall_at n (second_of_wall s.start) = o.2 ∙ ap (λ k. wall_at n k) is.time in
       let at = parts_at rid n (second_of_wall s.start) (omega (arith, a.time_in, is.time)) second in
-      inl (record {
+      regular_occurs s (at_rid rid t) (record {
         rid = both_and (second_of_wall rid == second_of_wall s.start) _ (eq-eqb (second_of_wall rid) (second_of_wall s.start) at.0) (rw at.1 (days_to n o.1));
         free = rw (← is.exceptions) o.3;
         start = ap (λ (v : Span). v.start) same;
         length = ap (λ (v : Span). v.length) same ∙ is.length;
         occupying = ap (λ (v : Span). v.occupying) same ∙ is.occupying;
       })
-  occurrence_to rid t (inr o) = inr (o.0, (record { rid = rid; replaced = Some t }, (rw (← is.exceptions) o.1, refl)))
+  occurrence_to rid t (inr o) = replaced_occurs s o.0 (record { rid = rid; replaced = Some t }) (at_rid rid t) (rw (← is.exceptions) o.1) refl
 
-  pub occurrence_from : (o : Occurrence) → IsOccurrence s o → IsOccurrenceAt TrackGives a ts o.rid (span_of o)
-  occurrence_from o (inl h) =
+  kind_from : (o : Occurrence) → IsOfKinds s o → IsOccurrenceAt TrackGives a ts o.rid (span_of o)
+  kind_from o (inl h) =
       let n = day_of_wall o.rid in
       let p = and_both (second_of_wall o.rid == second_of_wall s.start) (is_day s.rules s.start n) h.rid in
       let second = eqb-true (second_of_wall o.rid) (second_of_wall s.start) p.0 in
@@ -181,7 +182,10 @@ module _ (s : Series) (a : Outline) (ts : List (Option RuleTrack)) (is : IsOutli
         rw is.exceptions h.free,
         rw (h.start, h.length, h.occupying, is.length, is.occupying) refl,
       )
-  occurrence_from o (inr e) = inr (e.0, rw is.exceptions (e.1.1.0 ∙ ap Some e.1.1.1))
+  kind_from o (inr e) = inr (e.0, rw is.exceptions (e.1.1.0 ∙ ap Some e.1.1.1))
+
+  pub occurrence_from : (o : Occurrence) → IsOccurrence s o → IsOccurrenceAt TrackGives a ts o.rid (span_of o)
+  occurrence_from o h = kind_from o (kinds s o h)
 
 covers_to : (t : Span) (rid x : ℤ) → Blocks t x → Covers (at_rid rid t) x
 covers_to t rid x b = record { occupying = b.0; begun = b.1.0; not_over = b.1.1 }

@@ -1,13 +1,8 @@
 -- The maximal runs of the instants of a window that pass a test.
-use Rattle.std.specs.Prelude.{ℕ, zero, suc, ℤ, pos, ◌+ℤ◌, ◌-ℤ◌, ◌&&◌, ◌||◌, Bool, not, List, [], ◌∷◌, filter, map, unsigned_abs, unwrap_or}
+use Rattle.std.specs.Prelude.{ℤ, pos, ◌-ℤ◌, ◌&&◌, ◌||◌, Bool, not, List, filter, find, map, unsigned_abs, unwrap_or}
 use Rattle.std.specs.Ordering.{int_eq}
-use Rattle.spec_series.specs.Shared.{first_from}
+use Rattle.spec_series.specs.Numbers.{numbers_from}
 use Rattle.spec_windows.specs.declared.period.Period.{Period}
-
--- so many instants from one on
-unfoldable pub instants_from : ℤ → ℕ → List ℤ
-instants_from u zero = []
-instants_from u (suc k) = u ∷ instants_from (u +ℤ pos 1) k
 
 module _ (passes : ℤ → Bool) (window : Period) where
   -- a run begins at an instant that passes and is the first of the window, or comes after one that doesn't pass
@@ -16,11 +11,11 @@ module _ (passes : ℤ → Bool) (window : Period) where
 
   -- it ends at the first instant behind that doesn't pass, or with the window
   abbrev pub run_end : ℤ → ℤ
-  run_end u = unwrap_or (first_from (λ v. not (passes v)) u (unsigned_abs (window.to -ℤ u))) window.to
+  run_end u = unwrap_or (find (λ v. not (passes v)) (numbers_from u (unsigned_abs (window.to -ℤ u)))) window.to
 
   abbrev pub run_at : ℤ → Period
   run_at u = record { from = u; to = run_end u }
 
   -- all runs, in order
   unfoldable pub runs_in : List Period
-  runs_in = map run_at (filter begins_run (instants_from window.from (unsigned_abs (window.to -ℤ window.from))))
+  runs_in = map run_at (filter begins_run (numbers_from window.from (unsigned_abs (window.to -ℤ window.from))))

@@ -1,5 +1,5 @@
 -- What a query finds where each occurrence is a result of its own, and what its reply tells of it (draft JMAP for Calendars).
-use Rattle.std.specs.Prelude.{ℕ, zero, suc, ◌^◌, ℤ, pos, ◌+ℤ◌, ◌-ℤ◌, List, [], ◌∷◌, Bool, true, Option, Some, None, Result, Ok, Err, codes, flat_map, length, map, slice_index_or, unwrap_or, if◌then◌else◌}
+use Rattle.std.specs.Prelude.{ℕ, ℤ, pos, List, [], ◌∷◌, Bool, true, Option, Some, None, Result, Ok, Err, codes, filter, flat_map, length, map, slice_index_or, unwrap_or, if◌then◌else◌}
 use Rattle.std.specs.List.{position}
 use Rattle.std.specs.Str.{bytes_eq}
 use Rattle.jiff_tz.specs.PosixText.{TzText}
@@ -29,9 +29,10 @@ use Rattle.spec_recurrence.specs.Recurrence.{override_at}
 use Rattle.spec_recurrence.specs.SeriesOf.{series_in}
 use Rattle.spec_series.specs.declared.occurrence.Occurrence.{Occurrence}
 use Rattle.spec_series.specs.declared.series.Series.{Series}
+use Rattle.spec_series.specs.Numbers.{seconds_around}
+use Rattle.spec_series.specs.Occurrences.{occurrence_with, passes_with}
 use Rattle.spec_site.specs.TimeZones.{ZoneText}
 use Rattle.spec_time.specs.LocalTimes.{local_text}
-use Rattle.spec_windows.specs.Meetings.{occurrence_with, passes_with}
 use Rattle.spec_windows.specs.Windows.{meets_window}
 use Rattle.spec_windows.specs.ZoneRules.{rule_of, rule_of_event, utc_rule}
 use Rattle.spec_windows.specs.Clocks.{instant_in}
@@ -39,14 +40,9 @@ use Rattle.spec_windows.specs.declared.window.Window.{Window}
 
 -- The occurrences of a series that meet a window.
 
--- those of so many numbers from one on that pass the test, rising
-unfoldable pub passing_from : (ℤ → Bool) → ℤ → ℕ → List ℤ
-passing_from p from zero = []
-passing_from p from (suc k) = if p from then from ∷ passing_from p (from +ℤ pos 1) k else passing_from p (from +ℤ pos 1) k
-
--- the wall seconds that pass, rising, looked for from 2 ^ 57 seconds before 1970-01-01T00:00:00 to as many after it
+-- the wall seconds that pass, rising, looked for around 1970-01-01T00:00:00
 unfoldable pub passing_seconds : (ℤ → Bool) → List ℤ
-passing_seconds p = passing_from p (pos 0 -ℤ pos (2 ^ 57)) (2 ^ 58)
+passing_seconds p = filter p (seconds_around (pos 0))
 
 -- the occurrences that meet the window, by their recurrence ids
 unfoldable pub occurrences_meeting : Series → (ℤ → Option ℤ) → Window → List Occurrence

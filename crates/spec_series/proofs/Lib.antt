@@ -1,0 +1,3 @@
+-- The lemmas, by subject.
+pub mod Numbers
+pub mod Occurrences
