@@ -16,7 +16,7 @@ use io_edge::clock::Clock;
 use io_edge::sink::{Sink, put_all};
 use io_edge::source::Source;
 use spec_batch::desk::{Desk, DeskError, Front};
-use spec_connection::served::{ConnEnd, MOST_MESSAGES, Served, end_for};
+use spec_connection::served::{ConnEnd, MAX_MESSAGES, Served, end_for};
 use session_doc::Site;
 use std::alloc::{AllocError, Global};
 
@@ -33,11 +33,11 @@ pub fn serve_connection<S: Source, K: Sink, D: Desk, C: Clock>(
     clock: &mut C,
 ) -> Served
     requires { (D.shown desk.old).accounts ≡ length site.now.accounts }
-    ensures { Serves site.now MOST_MESSAGES
+    ensures { Serves site.now MAX_MESSAGES
         (record { source = S.shown source.old; sink = K.shown sink.old; clock = C.moments clock.old; desk = D.shown desk.old })
         (record { source = S.shown source.new; sink = K.shown sink.new; clock = C.moments clock.new; desk = D.shown desk.new }) result }
 {
-    serve_at_most(alloc, MOST_MESSAGES, site, source, sink, desk, clock)
+    serve_at_most(alloc, MAX_MESSAGES, site, source, sink, desk, clock)
 }
 
 fn serve_at_most<S: Source, K: Sink, D: Desk, C: Clock>(

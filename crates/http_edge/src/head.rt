@@ -13,7 +13,7 @@ use crate::fields::{ContentLength, ascii_text, content_length, first_of, is_clos
 use httparse::Status;
 use httparse::spans::{EMPTY_HEADER_SPAN, HeaderSpan, RequestSpans, parse_request};
 use spec_core::limits::MAX_SIZE_REQUEST;
-use spec_http::limits::{MOST_FIELDS, MOST_LINES};
+use spec_http::limits::{MAX_FIELDS, MAX_LINES};
 use spec_json::text::Text;
 use std::alloc::{AllocError, Global};
 
@@ -50,10 +50,10 @@ pub fn read_head(alloc: Global, head: &[u8]) -> Result<Head, HeadError>
     ensures ok { IfOk result (λ said. (h : RequestHead) × Says head.now h said) }
     ensures err { IfErr result (λ error. IsHeadRefusal head.now error) }
 {
-    if count_feeds(head) > MOST_LINES {
+    if count_feeds(head) > MAX_LINES {
         return Err(HeadError::Refused(431));
     }
-    let mut room = [EMPTY_HEADER_SPAN; MOST_FIELDS];
+    let mut room = [EMPTY_HEADER_SPAN; MAX_FIELDS];
     let Some(spans) = parse_head(head, &mut room) else {
         return Err(HeadError::Refused(400));
     };
@@ -80,7 +80,7 @@ fn count_feeds(bytes: &[u8]) -> usize
 
 // Where the parts stand of a head that is exactly these bytes.
 fn parse_head(head: &[u8], fields: &mut [HeaderSpan]) -> Option<RequestSpans>
-    requires { length fields.old ≡ MOST_FIELDS }
+    requires { length fields.old ≡ MAX_FIELDS }
     ensures some { IfSome result (λ spans. IsRequestWithin head.now fields.new spans
         × (h : RequestHead) × IsHead head.now h × IsRequestAt head.now fields.new spans h) }
     ensures none { IfNone result ((h : RequestHead) → IsHead head.now h → ⊥) }

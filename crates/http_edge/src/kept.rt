@@ -4,12 +4,12 @@ ghost use Rattle.http_edge.specs.Reading.{StopCause, Took};
 
 use io_edge::source::Source;
 use spec_core::limits::MAX_SIZE_REQUEST;
-use spec_http::limits::{MOST_HEAD, PIECE};
+use spec_http::limits::{MAX_HEAD, PIECE};
 use std::alloc::Global;
 use std::marker::Model;
 
 /// The most bytes that are held at once, with those that were used: a head, a body, and a piece.
-pub const MOST_HELD: usize = MOST_HEAD + MAX_SIZE_REQUEST + PIECE;
+pub const MOST_HELD: usize = MAX_HEAD + MAX_SIZE_REQUEST + PIECE;
 
 /// Bytes that were read from a source and not used. Contracts see their list.
 ///
@@ -79,7 +79,7 @@ impl Kept {
     ) -> Result<(), Stop>
         requires some { 0 < length piece.old }
         requires piece { length piece.old ≤ PIECE }
-        requires few { length self.old ≤ MOST_HEAD + MAX_SIZE_REQUEST }
+        requires few { length self.old ≤ MAX_HEAD + MAX_SIZE_REQUEST }
         ensures took { Took (S.shown source.old) (S.shown source.new) self.old self.new }
         ensures more { OnOk result (length self.old < length self.new) }
         ensures most { length self.new ≤ length self.old + length piece.old }

@@ -2,7 +2,7 @@
 ghost use Rattle.std.specs.Prelude.{◌≡◌, ◌≤◌, ◌++◌, [], ℕ, List, length};
 ghost use Rattle.httparse.specs.Grammar.{IsRequestHead, RequestHead, print_request};
 ghost use Rattle.spec_http.specs.Heads.{body, fields_of, framing};
-ghost use Rattle.spec_http.specs.declared.limits.TheConstants.{MOST_FIELDS, MOST_HEAD};
+ghost use Rattle.spec_http.specs.declared.limits.TheConstants.{MAX_FIELDS, MAX_HEAD};
 ghost use Rattle.spec_http.specs.Messages.{BeginsWith, Beginning, Message, message_of, refused, whole};
 ghost use Rattle.spec_http.specs.Pipeline.{Ending, EndsAs, Reads};
 ghost use Rattle.spec_http.specs.Responses.{IsStatus};
@@ -37,6 +37,6 @@ pub fn refusals_are_answered()
 
 /// A head that is printed without an empty line before it, and a body of the length that it asks for, are that message, whatever follows.
 pub fn printed_begins()
-    ensures { (head : RequestHead) (content rest : List ℕ) → IsRequestHead head → head.blank ≡ [] → length head.fields ≤ MOST_FIELDS → length (print_request head) ≤ MOST_HEAD
+    ensures { (head : RequestHead) (content rest : List ℕ) → IsRequestHead head → head.blank ≡ [] → length head.fields ≤ MAX_FIELDS → length (print_request head) ≤ MAX_HEAD
         → framing head.method (fields_of head) ≡ body (length content) → BeginsWith (print_request head ++ content ++ rest) (whole (message_of head content) rest) }
 {}

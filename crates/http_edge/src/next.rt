@@ -9,7 +9,7 @@ use crate::message::{Message, take_message};
 use crate::search::{Search, State, go_on};
 use io_edge::source::Source;
 use spec_core::limits::MAX_SIZE_REQUEST;
-use spec_http::limits::{MOST_HEAD, PIECE};
+use spec_http::limits::{MAX_HEAD, PIECE};
 use std::alloc::Global;
 
 /// What a source gives next.
@@ -68,7 +68,7 @@ pub fn next_message<S: Source>(alloc: Global, source: &mut S, kept: &mut Kept) -
 enum HeadEnd {
     /// Behind so many bytes.
     At(usize),
-    /// Not in the first `MOST_HEAD` bytes.
+    /// Not in the first `MAX_HEAD` bytes.
     TooLong,
 }
 
@@ -82,7 +82,7 @@ fn find_head<S: Source>(
     looked: &mut usize,
 ) -> Result<HeadEnd, Stop>
     requires piece { length piece.old ≡ PIECE }
-    requires countable { looked.old + MOST_HEAD ≤ usize.MAX }
+    requires countable { looked.old + MAX_HEAD ≤ usize.MAX }
     ensures took { Took (S.shown source.old) (S.shown source.new) kept.old kept.new }
     ensures asked { AskedWhile (λ bytes. head_end bytes ≡ unended) PIECE (S.shown source.old) (S.shown source.new) kept.old kept.new }
     ensures end { IfOk result (λ end. head_end kept.new ≡ end_shown end) }
@@ -92,12 +92,12 @@ fn find_head<S: Source>(
     let mut searched = 0;
     let mut state = State::Within;
     loop {
-        let prefix = kept.as_slice().len().min(MOST_HEAD);
+        let prefix = kept.as_slice().len().min(MAX_HEAD);
         match go_on(&kept.as_slice()[..prefix], searched, state, looked) {
             Search::Ended(size) => return Ok(HeadEnd::At(size)),
             Search::Open(next) => state = next,
         }
-        if prefix == MOST_HEAD {
+        if prefix == MAX_HEAD {
             return Ok(HeadEnd::TooLong);
         }
         searched = prefix;
@@ -114,7 +114,7 @@ fn take_until<S: Source>(
     wanted: usize,
 ) -> Result<(), Stop>
     requires piece { length piece.old ≡ PIECE }
-    requires most { wanted ≤ MOST_HEAD + MAX_SIZE_REQUEST }
+    requires most { wanted ≤ MAX_HEAD + MAX_SIZE_REQUEST }
     ensures took { Took (S.shown source.old) (S.shown source.new) kept.old kept.new }
     ensures asked { AskedWhile (λ bytes. length bytes < wanted) PIECE (S.shown source.old) (S.shown source.new) kept.old kept.new }
     ensures there { OnOk result (wanted ≤ length kept.new) }

@@ -7,7 +7,7 @@ use Rattle.conn_serve.proofs.Completeness.{EndsSo, all_end, end_of, taken_end}
 use Rattle.conn_serve.specs.Complete.{IsUnharmed}
 use Rattle.spec_batch.specs.Chain.{Shown}
 use Rattle.spec_connection.specs.declared.served.ConnEnd.TheVariants as end
-use Rattle.spec_connection.specs.declared.served.TheConstants.{MOST_MESSAGES}
+use Rattle.spec_connection.specs.declared.served.TheConstants.{MAX_MESSAGES}
 use Rattle.spec_core.specs.declared.limits.TheConstants.{MAX_SIZE_REQUEST}
 use Rattle.spec_http.specs.Messages.{Message}
 use Rattle.spec_http.specs.Pipeline.{Ending, undecided, bad_head, close_asked, quota_spent}
@@ -82,10 +82,10 @@ module _ {x x' : Surroundings} {o o' : OpenerShown} (fine : NothingFailed x x' o
   pub wants_memory : r.served.end ≡ end.NoMemory → status ≡ NoMemory
   wants_memory e = some_same status NoMemory (sym r.ended ∙ ap status_of e)
 
-  status_is : {bytes : List ℕ} {ms : List Message} (e : EndsSo MOST_MESSAGES bytes ms r.served.end) → status ≡ connection_status e.ending e.left
+  status_is : {bytes : List ℕ} {ms : List Message} (e : EndsSo MAX_MESSAGES bytes ms r.served.end) → status ≡ connection_status e.ending e.left
   status_is e = some_same status (connection_status e.ending e.left) (sym r.ended ∙ (ap status_of e.is ∙ status_by e.ending e.left))
 
-  by_bytes : (config : List ℕ) (input : Option (List ℕ)) {bytes : List ℕ} {ms : List Message} → IfSome input (λ told. bytes ≡ told) → (r.served.end ≡ end.NoMemory) ⊎ EndsSo MOST_MESSAGES bytes ms r.served.end
+  by_bytes : (config : List ℕ) (input : Option (List ℕ)) {bytes : List ℕ} {ms : List Message} → IfSome input (λ told. bytes ≡ told) → (r.served.end ≡ end.NoMemory) ⊎ EndsSo MAX_MESSAGES bytes ms r.served.end
       → (status ≡ NoMemory) ⊎ GivesStatus (stdio config) input status
   by_bytes config input told (inl e) = inl (wants_memory e)
   by_bytes config input {bytes} {ms} told (inr e) = inr (bytes, told, ms, e.left, e.ending, e.holds, status_is e)

@@ -11,12 +11,12 @@ use Rattle.spec_site.specs.Configuration.{Site}
 use Rattle.spec_connection.specs.declared.served.ConnEnd.{ConnEnd}
 use Rattle.spec_connection.specs.declared.served.ConnEnd.TheVariants as end
 use Rattle.spec_connection.specs.declared.served.Served.{Served}
-use Rattle.spec_connection.specs.declared.served.TheConstants.{MOST_MESSAGES}
+use Rattle.spec_connection.specs.declared.served.TheConstants.{MAX_MESSAGES}
 use Rattle.jmapd_run.specs.declared.status.Status.{Status}
 use Rattle.jmapd_run.specs.Headline.{Surroundings}
 use Rattle.jmapd_run.specs.Runs.{RunsStdio, status_of, with_desk}
 
-module _ {site : Site} {x x' : Setting} {served : Served} (s : Serves site MOST_MESSAGES x x' served) where
+module _ {site : Site} {x x' : Setting} {served : Served} (s : Serves site MAX_MESSAGES x x' served) where
   pub few_calls : s.desk.turns ≤ x.desk.turns + 160000
   few_calls =
       let few = s.told.few in
@@ -50,12 +50,12 @@ module _ {site : Site} {x x' : Setting} {served : Served} (s : Serves site MOST_
       let bad : ⊥ = omega (arith, none, few, most) in
       bad
 
-pub served_so : {site : Site} {x x' : Surroundings} {d d' : Shown} {served : Served} {status : Status} → d ≡ fresh_desk site → IsSole d' → Serves site MOST_MESSAGES (with_desk x d) (with_desk x' d') served → status_of served.end ≡ Some status
+pub served_so : {site : Site} {x x' : Surroundings} {d d' : Shown} {served : Served} {status : Status} → d ≡ fresh_desk site → IsSole d' → Serves site MAX_MESSAGES (with_desk x d) (with_desk x' d') served → status_of served.end ≡ Some status
     → RunsStdio x x' site status
 served_so {site} {x} {x'} {d} {d'} {served} {status} fresh sole s ended = record {
   desk = d';
   served = served;
-  serves = subst (λ (y : Shown). Serves site MOST_MESSAGES (with_desk x y) (with_desk x' d') served) fresh s;
+  serves = subst (λ (y : Shown). Serves site MAX_MESSAGES (with_desk x y) (with_desk x' d') served) fresh s;
   sole = sole;
   ended = ended;
 }

@@ -20,7 +20,7 @@ use Rattle.spec_site.specs.Configuration.{Site, built_in, user_at}
 use Rattle.workload.proofs.Outputs.{one_output}
 use Rattle.spec_connection.specs.declared.served.ConnEnd.{ConnEnd}
 use Rattle.spec_connection.specs.declared.served.ConnEnd.TheVariants as end
-use Rattle.spec_connection.specs.declared.served.TheConstants.{MOST_MESSAGES}
+use Rattle.spec_connection.specs.declared.served.TheConstants.{MAX_MESSAGES}
 use Rattle.spec_site.specs.declared.field.Field.{Field}
 use Rattle.jmapd_run.specs.declared.status.Status.{Status}
 use Rattle.jmapd_run.specs.declared.status.Status.TheVariants.{Config, Cut, Done, NoMemory, OpenFault, ReadFault, Refused, Usage, WriteFault}
@@ -124,7 +124,7 @@ module _ (site : Site) (input : List ℕ) (clock : ℕ → ℤ) {x x' : Surround
   safe : IsUnharmed (with_desk x (fresh_desk site)) (with_desk x' r.desk)
   safe = unharmed fine r same
 
-  faultless : IsFaultless MOST_MESSAGES input (messages_of r.serves.exchanges) r.served.end
+  faultless : IsFaultless MAX_MESSAGES input (messages_of r.serves.exchanges) r.served.end
   faultless = record {
     site = site;
     before = with_desk x (fresh_desk site);
@@ -138,7 +138,7 @@ module _ (site : Site) (input : List ℕ) (clock : ℕ → ℤ) {x x' : Surround
     had_memory = had_memory;
   }
 
-  serves_alone : ServesAlone (fresh_desk site) site MOST_MESSAGES clock r.serves.exchanges
+  serves_alone : ServesAlone (fresh_desk site) site MAX_MESSAGES clock r.serves.exchanges
   serves_alone = record {
     fit = r.serves.fit;
     unwritten = r.serves.unwritten;
@@ -167,8 +167,8 @@ module _ (site : Site) (input : List ℕ) (clock : ℕ → ℤ) where
   same_connections : {x x' y y' : Surroundings} {o o' p p' : OpenerShown} {text other : List ℕ} {s t : Status} → Known x x' input clock text → Known y y' input clock other → NothingFailed x x' o o' → NothingFailed y y' p p'
       → RunsStdio x x' site s → RunsStdio y y' site t → s ≢ NoMemory → t ≢ NoMemory → (s ≡ t) × (text ≡ other)
   same_connections {s = s} {t = t} k l fine well a b m n =
-      let same = faultless_determined MOST_MESSAGES input _ _ a.served.end b.served.end (faultless site input clock k fine a m) (faultless site input clock l well b n) in
-      let bytes = fresh_connections_determined site MOST_MESSAGES clock a.serves.exchanges b.serves.exchanges (serves_alone site input clock k fine a m) (serves_alone site input clock l well b n) same.0 in (
+      let same = faultless_determined MAX_MESSAGES input _ _ a.served.end b.served.end (faultless site input clock k fine a m) (faultless site input clock l well b n) in
+      let bytes = fresh_connections_determined site MAX_MESSAGES clock a.serves.exchanges b.serves.exchanges (serves_alone site input clock k fine a m) (serves_alone site input clock l well b n) same.0 in (
         some_same s t (sym a.ended ∙ (ap status_of same.1 ∙ b.ended)),
         text_is site input clock k fine a m ∙ ((λ i. bytes i ++ closing (same.1 i)) ∙ sym (text_is site input clock l well b n)),
       )

@@ -4,7 +4,7 @@ use Rattle.conn_serve.specs.Complete.{Holds}
 use Rattle.io_edge.specs.Outside.{OpenerShown, Rose}
 use Rattle.spec_batch.specs.Asked.{is_refused}
 use Rattle.spec_batch.specs.Reply.{asked_in}
-use Rattle.spec_connection.specs.declared.served.TheConstants.{MOST_MESSAGES}
+use Rattle.spec_connection.specs.declared.served.TheConstants.{MAX_MESSAGES}
 use Rattle.spec_core.specs.declared.limits.TheConstants.{MAX_SIZE_REQUEST}
 use Rattle.spec_http.specs.Messages.{Message}
 use Rattle.spec_http.specs.Pipeline.{Ending, undecided, bad_head, close_asked, quota_spent}
@@ -34,7 +34,7 @@ connection_status quota_spent left = Cut
 abbrev pub GivesStatus : Command → Option (List ℕ) → Status → Type 0
 GivesStatus (batch config who) input status = (bytes : List ℕ) × IfSome input (λ told. bytes ≡ take (MAX_SIZE_REQUEST + 1) told) × (status ≡ request_status bytes)
 GivesStatus (stdio config) input status =
-    (bytes : List ℕ) × IfSome input (λ told. bytes ≡ told) × (ms : List Message) × (left : List ℕ) × (ending : Ending) × Holds MOST_MESSAGES bytes ms left ending × (status ≡ connection_status ending left)
+    (bytes : List ℕ) × IfSome input (λ told. bytes ≡ told) × (ms : List Message) × (left : List ℕ) × (ending : Ending) × Holds MAX_MESSAGES bytes ms left ending × (status ≡ connection_status ending left)
 GivesStatus (workload number size) input status = status ≡ Done
 
 -- ---- runs

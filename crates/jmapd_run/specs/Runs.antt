@@ -10,7 +10,7 @@ use Rattle.spec_site.specs.Configuration.{Site}
 use Rattle.spec_connection.specs.declared.served.ConnEnd.{ConnEnd}
 use Rattle.spec_connection.specs.declared.served.ConnEnd.TheVariants as end
 use Rattle.spec_connection.specs.declared.served.Served.{Served}
-use Rattle.spec_connection.specs.declared.served.TheConstants.{MOST_MESSAGES}
+use Rattle.spec_connection.specs.declared.served.TheConstants.{MAX_MESSAGES}
 use Rattle.jmapd_run.specs.declared.status.Status.{Status}
 use Rattle.jmapd_run.specs.declared.status.Status.TheVariants.{Config, Cut, Done, NoMemory, OpenFault, ReadFault, Refused, Usage, WriteFault}
 use Rattle.jmapd_run.specs.Starts.{IsStart, Start, batch_for, misconfigured, not_opened, stdio_of, usage, workload_by}
@@ -60,7 +60,7 @@ module _ (x x' : Surroundings) where
   pub record RunsStdio (site : Site) (status : Status) : Type 0 where
     pub desk : Shown
     pub served : Served
-    pub serves : Serves site MOST_MESSAGES (with_desk x (fresh_desk site)) (with_desk x' desk) served
+    pub serves : Serves site MAX_MESSAGES (with_desk x (fresh_desk site)) (with_desk x' desk) served
     pub sole : IsSole desk
     pub ended : status_of served.end ≡ Some status
 

@@ -18,7 +18,7 @@ use Rattle.spec_connection.specs.Serving.{Rests, Serves, Setting}
 use Rattle.spec_connection.specs.declared.served.ConnEnd.{ConnEnd}
 use Rattle.spec_connection.specs.declared.served.ConnEnd.TheVariants as end
 use Rattle.spec_connection.specs.declared.served.Served.{Served}
-use Rattle.spec_connection.specs.declared.served.TheConstants.{MOST_MESSAGES}
+use Rattle.spec_connection.specs.declared.served.TheConstants.{MAX_MESSAGES}
 use Rattle.spec_history.specs.MostTurns.{most_turns}
 use Rattle.spec_site.specs.Configuration.{Site, user_at}
 use Rattle.spec_time.specs.Moments.{clamped}
@@ -44,7 +44,7 @@ left_begun (uncalled is moments none same) = left_same same
 left_begun {site} {close} {t} {e} {u} {v} (called b) =
     (let r = b.begins in left_stop (NextMeans (user_at site b.user) r.request (clamped b.moment) r.steps r.rest) (clamped b.moment) e u v r.stops)
 
-module _ {site : Site} {x x' : Setting} {served : Served} (s : Serves site MOST_MESSAGES x x' served) where
+module _ {site : Site} {x x' : Setting} {served : Served} (s : Serves site MAX_MESSAGES x x' served) where
   left_at : (e : ConnEnd) → Rests e s.desk x'.desk → How s e → IsLeft s.desk x'.desk
   left_at end.Closed r how = left_same r
   left_at end.CloseAsked r how = left_same r
@@ -79,9 +79,9 @@ module _ {site : Site} {x x' : Setting} {served : Served} (s : Serves site MOST_
 -- ---- connections, one after the other
 
 each_more : (site : Site) (t s u : Tools) (vs : List Visit) (v : Visit) → ServesEach site t s vs
-    → Serves site MOST_MESSAGES (setting_of s v.handed.input v.handed.output) (setting_of u v.back.input v.back.output) v.back.served → ServesEach site t u (vs ++ v ∷ [])
+    → Serves site MAX_MESSAGES (setting_of s v.handed.input v.handed.output) (setting_of u v.back.input v.back.output) v.back.served → ServesEach site t u (vs ++ v ∷ [])
 each_more site t s u [] v before serves =
-    (u, subst (λ (y : Tools). Serves site MOST_MESSAGES (setting_of y v.handed.input v.handed.output) (setting_of u v.back.input v.back.output) v.back.served) before serves, refl)
+    (u, subst (λ (y : Tools). Serves site MAX_MESSAGES (setting_of y v.handed.input v.handed.output) (setting_of u v.back.input v.back.output) v.back.served) before serves, refl)
 each_more site t s u (w ∷ vs) v before serves = (before.0, before.1, each_more site before.0 s u vs v before.2 serves)
 
 pub each_accounts : (site : Site) (t u : Tools) (vs : List Visit) → ServesEach site t u vs → u.desk.accounts ≡ t.desk.accounts
@@ -121,7 +121,7 @@ pub working_start : (site : Site) (l : ListenerShown) (t : Tools) → Working si
 working_start site l t = record { visits = []; count = refl; told = told_none l.connections; serves = refl; later = omega arith }
 
 pub working_on : {site : Site} {l l0 l1 l2 : ListenerShown} {t s u : Tools} {n : ℕ} {i i' : SourceShown} {o o' : SinkShown} {served : Served} → Working site l l0 t s n
-    → l1.connections ≡ option_map (handing_out i o) l0.connections → l0.faults ≤ l1.faults → Serves site MOST_MESSAGES (setting_of s i o) (setting_of u i' o') served
+    → l1.connections ≡ option_map (handing_out i o) l0.connections → l0.faults ≤ l1.faults → Serves site MAX_MESSAGES (setting_of s i o) (setting_of u i' o') served
     → l2.connections ≡ option_map (taking_back i' o' served) l1.connections → l2.faults ≡ l1.faults → Working site l l2 t u (n + 1)
 working_on {site} {l} {l0} {l1} {l2} {t} {s} {u} {n} {i} {i'} {o} {o'} {served} w out later serves back same =
     let v : Visit = visit i i' o o' served in

@@ -7,7 +7,7 @@ use Rattle.listen_edge.specs.declared.job.WorkerEnd.{WorkerEnd}
 use Rattle.listen_edge.specs.declared.job.WorkerEnd.TheVariants.{AcceptFault, All, PassSpent}
 use Rattle.spec_batch.specs.Chain.{Shown}
 use Rattle.spec_connection.specs.Serving.{Serves, Setting}
-use Rattle.spec_connection.specs.declared.served.TheConstants.{MOST_MESSAGES}
+use Rattle.spec_connection.specs.declared.served.TheConstants.{MAX_MESSAGES}
 use Rattle.spec_history.specs.MostTurns.{most_turns}
 use Rattle.spec_site.specs.Configuration.{Site}
 
@@ -32,7 +32,7 @@ setting_of t source sink = record { source = source; sink = sink; clock = t.cloc
 abbrev pub ServesEach : Site → Tools → Tools → List Visit → Type 0
 ServesEach site t u [] = u ≡ t
 ServesEach site t u (v ∷ vs) =
-    (s : Tools) × Serves site MOST_MESSAGES (setting_of t v.handed.input v.handed.output) (setting_of s v.back.input v.back.output) v.back.served × ServesEach site s u vs
+    (s : Tools) × Serves site MAX_MESSAGES (setting_of t v.handed.input v.handed.output) (setting_of s v.back.input v.back.output) v.back.served × ServesEach site s u vs
 
 -- these were handed out and came back
 abbrev pub with_visits : List Visit → Connections → Connections

@@ -2,7 +2,7 @@
 ghost use Rattle.std.specs.Prelude.{◌≡◌, ◌≤◌, ◌↔◌, [], IsTrue, length};
 ghost use Rattle.spec_queries.specs.Comparing.{by_property, by_comparator, by_all};
 
-use spec_queries::comparator::{Comparator, MOST_COMPARATORS, Property};
+use spec_queries::comparator::{Comparator, MAX_COMPARATORS, Property};
 use spec_queries::item::Item;
 use std::cmp::Ordering;
 use std::marker::Model;
@@ -16,19 +16,19 @@ pub struct Order {
 impl Model for Order {
     ghost use Rattle.std.specs.Prelude.{List, ◌≤◌, length};
     ghost use Rattle.spec_queries.specs.declared.comparator.Comparator.{Comparator};
-    ghost use Rattle.spec_queries.specs.declared.comparator.TheConstants.{MOST_COMPARATORS};
+    ghost use Rattle.spec_queries.specs.declared.comparator.TheConstants.{MAX_COMPARATORS};
 
     ghost Value = { List Comparator };
 
     ghost view = { λ a. a.comparators.items };
 
-    ghost invariant = { λ a. length a.comparators.items ≤ MOST_COMPARATORS };
+    ghost invariant = { λ a. length a.comparators.items ≤ MAX_COMPARATORS };
 }
 
 impl Order {
     /// An order by these comparators. Takes no memory.
     pub fn new(comparators: Vec<Comparator>) -> Order
-        requires { length comparators.items ≤ MOST_COMPARATORS }
+        requires { length comparators.items ≤ MAX_COMPARATORS }
         ensures { result ≡ comparators.items }
     {
         Order { comparators }

@@ -10,7 +10,7 @@ ghost use Rattle.query_order.specs.declared.sort_argument.SortError.TheVariants.
 use crate::order::Order;
 use spec_json::text::Text;
 use spec_json::tree::Tree;
-use spec_queries::comparator::{Comparator, MOST_COMPARATORS, Property};
+use spec_queries::comparator::{Comparator, MAX_COMPARATORS, Property};
 use std::alloc::{AllocError, AllocFailed, Global};
 
 /// Why there is no order.
@@ -51,7 +51,7 @@ impl Order {
         let Some(items) = sort_items(tree) else {
             return Err(SortError::BadSort);
         };
-        if items.len() > MOST_COMPARATORS || !are_comparators(items) {
+        if items.len() > MAX_COMPARATORS || !are_comparators(items) {
             return Err(SortError::BadSort);
         }
         match comparators(alloc, items)? {

@@ -21,7 +21,7 @@ use spec_time::wall::Wall;
 use std::alloc::{AllocError, Global};
 
 /// The most rules of a series.
-const MOST_RULES: usize = 4;
+const MAX_RULES: usize = 4;
 
 /// Reads the rules of a series that starts at a wall second of the years 0 to 9999, with their implied parts filled in.
 ///
@@ -64,7 +64,7 @@ fn few_rules(alloc: Global, items: &[Tree], day: i64) -> Result<Option<Rules>, A
     ensures value { IfOk result (λ o. option_map (λ rules. map parts_of rules) o ≡ rules_of day (map data_of items.now)) }
     ensures few { IfOk result (λ o. IfSome o (λ rules. length rules ≤ 4)) }
 {
-    if items.len() <= MOST_RULES {
+    if items.len() <= MAX_RULES {
         each_rule(alloc, items, day)
     } else {
         Ok(None)

@@ -5,7 +5,7 @@ ghost use Rattle.spec_connection.specs.Serving.{end_for};
 use spec_batch::desk::{DeskError, Front};
 
 /// The most messages of a connection that are answered.
-pub const MOST_MESSAGES: u64 = 10_000;
+pub const MAX_MESSAGES: u64 = 10_000;
 
 /// How a connection ended.
 #[derive(Clone, Copy, Debug, PartialEq, Eq, Drop)]

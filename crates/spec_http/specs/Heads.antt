@@ -5,7 +5,7 @@ use Rattle.std.specs.Str.{bytes_eq}
 use Rattle.httparse.specs.Grammar.{RequestHead, ReadsRequest}
 use Rattle.httparse.specs.Spans.{name_and_value}
 use Rattle.spec_core.specs.declared.limits.TheConstants.{MAX_SIZE_REQUEST}
-use Rattle.spec_http.specs.declared.limits.TheConstants.{MOST_FIELDS, MOST_HEAD, MOST_LINES}
+use Rattle.spec_http.specs.declared.limits.TheConstants.{MAX_FIELDS, MAX_HEAD, MAX_LINES}
 use Rattle.spec_http.specs.Fields.{NamedValue, values_of, first_value, length_said, Length, absent, known, unusable}
 
 -- ---- where a head ends
@@ -34,11 +34,11 @@ pub data HeadEnd : Type 0 where
 
 abbrev pub end_at : Option ℕ → List ℕ → HeadEnd
 end_at (Some size) bytes = ended size
-end_at None bytes = if nat_le MOST_HEAD (length bytes) then too_long else unended
+end_at None bytes = if nat_le MAX_HEAD (length bytes) then too_long else unended
 
 -- the head ends within the most bytes of a head, or it is too long, or it may end yet
 abbrev pub head_end : List ℕ → HeadEnd
-head_end bytes = end_at (head_length (take MOST_HEAD bytes)) bytes
+head_end bytes = end_at (head_length (take MAX_HEAD bytes)) bytes
 
 -- ---- how it is read
 
@@ -47,11 +47,11 @@ line_feeds bytes = count_by (λ b. b == 10) bytes
 
 -- the bytes are just this head, and it has no more fields than a head may have
 abbrev pub IsHead : List ℕ → RequestHead → Type 0
-IsHead bytes head = ReadsRequest bytes head [] × (length head.fields ≤ MOST_FIELDS)
+IsHead bytes head = ReadsRequest bytes head [] × (length head.fields ≤ MAX_FIELDS)
 
 -- nor has it more line feeds
 pub record ReadsHead (bytes : List ℕ) (head : RequestHead) : Type 0 where
-  pub few_lines : line_feeds bytes ≤ MOST_LINES
+  pub few_lines : line_feeds bytes ≤ MAX_LINES
   pub is_head : IsHead bytes head
 
 -- ---- what it asks for
@@ -76,6 +76,6 @@ framing method fields = if is_some (first_value (values_of (codes "transfer-enco
 -- the bytes of a head are refused with this status
 abbrev pub RefusesHead : List ℕ → ℕ → Type 0
 RefusesHead bytes status =
-    ((status ≡ 431) × (MOST_LINES < line_feeds bytes))
-    ⊎ (((status ≡ 400) × (line_feeds bytes ≤ MOST_LINES) × ((head : RequestHead) → IsHead bytes head → ⊥))
+    ((status ≡ 431) × (MAX_LINES < line_feeds bytes))
+    ⊎ (((status ≡ 400) × (line_feeds bytes ≤ MAX_LINES) × ((head : RequestHead) → IsHead bytes head → ⊥))
     ⊎ ((head : RequestHead) × ReadsHead bytes head × (framing head.method (fields_of head) ≡ refuse status)))

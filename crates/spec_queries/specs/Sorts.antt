@@ -7,7 +7,7 @@ use Rattle.spec_json.specs.Parts.{all_some, as_list, as_text, as_truth, is_null,
 use Rattle.spec_queries.specs.declared.comparator.Property.{Property}
 use Rattle.spec_queries.specs.declared.comparator.Property.TheVariants.{Start, Uid, Title, Created, Updated}
 use Rattle.spec_queries.specs.declared.comparator.Comparator.{Comparator}
-use Rattle.spec_queries.specs.declared.comparator.TheConstants.{MOST_COMPARATORS}
+use Rattle.spec_queries.specs.declared.comparator.TheConstants.{MAX_COMPARATORS}
 
 -- a member that is absent or null, or passes
 abbrev pub is_absent_or : (Data → Bool) → Option Data → Bool
@@ -66,7 +66,7 @@ known_sort (Some cs) = by_comparators cs
 -- a comparator of another shape, or too many of them, before one whose property or collation isn't known
 abbrev pub sort_of : Option (List Data) → Sort
 sort_of None = bad_sort
-sort_of (Some ds) = if nat_le (length ds) MOST_COMPARATORS && list_all is_comparator ds then known_sort (all_some comparator_in ds) else bad_sort
+sort_of (Some ds) = if nat_le (length ds) MAX_COMPARATORS && list_all is_comparator ds then known_sort (all_some comparator_in ds) else bad_sort
 
 abbrev pub sort_in : Data → Sort
 sort_in d = sort_of (sort_items d)

@@ -1,7 +1,7 @@
 //! By what a query compares (RFC 8620 section 5.5).
 
 /// The most comparators of a query.
-pub const MOST_COMPARATORS: usize = 8;
+pub const MAX_COMPARATORS: usize = 8;
 
 /// A property by which items are compared.
 #[derive(Clone, Copy)]

@@ -25,8 +25,8 @@ returns-in-Ended-clause-end g c =
     let prefix = prefix_same c.loop-size.kept c.as_slice-in-loop-size.result.now c.min-prefix.result c.as_slice-in-loop-size.ensures len in
     prefix_end c.loop-size.kept c.in-Ended.size (ap head_length (sym prefix) ∙ c.in-Ended.ensures.finds.1)
 
-pub returns-then-prefix-eq-MOST_HEAD-clause-end : goal.returns-then-prefix-eq-MOST_HEAD-clause-end
-returns-then-prefix-eq-MOST_HEAD-clause-end g c =
+pub returns-then-prefix-eq-MAX_HEAD-clause-end : goal.returns-then-prefix-eq-MAX_HEAD-clause-end
+returns-then-prefix-eq-MAX_HEAD-clause-end g c =
     let len : c.min-prefix.result ≡ min (length c.loop-size.kept) 16384 = c.min-prefix.ensures ∙ ap (λ (l : List ℕ). min (length l) 16384) c.as_slice.ensures in
     let prefix = prefix_same c.loop-size.kept c.as_slice-in-loop-size.result.now c.min-prefix.result c.as_slice-in-loop-size.ensures len in
     let full : 16384 ≤ length c.loop-size.kept = omega (arith, len) in
