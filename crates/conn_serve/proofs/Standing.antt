@@ -3,7 +3,7 @@ use Rattle.std.proofs.Common.{◌≡◌, ℕ, ℤ, ◌+◌, ◌<◌, ◌≤◌, 
 use Rattle.std.specs.Prelude.{◌⊎◌}
 use Rattle.std.proofs.KnownBytes.{Consumes-nil, Consumes-trans}
 use Rattle.std.proofs.lemmas.Grind.{flat_map-append}
-use Rattle.std.proofs.lemmas.List.{map-append, append_cancel_left}
+use Rattle.std.proofs.lemmas.List.{map-append}
 use Rattle.std.specs.Io.KnownBytes.{Consumes}
 use Rattle.std.specs.declared.alloc.Global.{Global}
 use Rattle.io_edge.proofs.OutsideLemmas.{Grows-nil, Grows-trans}
@@ -140,14 +140,18 @@ rose_more {a} {b} {c} h r = omega arith
 pushed : (exchanges : List Exchange) (t : Exchange) (m : Message) → t.message ≡ m → messages_of exchanges ++ m ∷ [] ≡ messages_of (exchanges ++ t ∷ [])
 pushed exchanges t m is = ap (λ (x : Message). messages_of exchanges ++ x ∷ []) (sym is) ∙ sym (map-append (λ (x : Exchange). x.message) exchanges (t ∷ []))
 
+same_behind : (kept a b : List ℕ) → kept ++ a ≡ kept ++ b → a ≡ b
+same_behind [] a b e = e
+same_behind (x ∷ kept) a b e = (let rest : kept ++ a ≡ kept ++ b = cc in same_behind kept a b rest)
+
 -- more bytes came
 asked_more : {taken kept : List ℕ} {ms : List Message} {s s' : SourceShown} (more : List ℕ) → Reads taken ms kept → (taken ≡ []) ⊎ AskedLast taken ms → AskedWhile IsUndecided PIECE s s' kept (kept ++ more) → (taken ++ more ≡ []) ⊎ AskedLast (taken ++ more) ms
 asked_more {taken} {kept} {ms} more r asked (inl h) =
-    let none : more ≡ [] = append_cancel_left kept more [] (h.0 ∙ sym (append-nil kept)) in
+    let none : more ≡ [] = same_behind kept more [] (h.0 ∙ sym (append-nil kept)) in
     let same : taken ++ more ≡ taken = ap (λ (l : List ℕ). taken ++ l) none ∙ append-nil taken in
     subst (λ (l : List ℕ). (l ≡ []) ⊎ AskedLast l ms) (sym same) asked
 asked_more {taken} {kept} {ms} more r asked (inr h) =
-    let parts : more ≡ h.0 ++ h.1 = append_cancel_left kept more (h.0 ++ h.1) (h.2 ∙ append_assoc kept h.0 h.1) in
+    let parts : more ≡ h.0 ++ h.1 = same_behind kept more (h.0 ++ h.1) (h.2 ∙ append_assoc kept h.0 h.1) in
     inr (record {
       earlier = taken ++ h.0;
       last = h.1;

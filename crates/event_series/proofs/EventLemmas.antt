@@ -2,6 +2,7 @@
 use Rattle.std.proofs.Common.{◌≡◌, ◌≤◌, ℕ, ℤ, pos, List, [], ◌∷◌, Bool, true, false, not, Option, Some, None, codes, is_some, option_and_then, unwrap_or, if◌then◌else◌, arith, refl, sym, ap, ◌∙◌}
 use Rattle.std.proofs.lemmas.Bool.{and_parts}
 use Rattle.std.proofs.lemmas.Bool.Decides.{nat_tests}
+use Rattle.std.specs.Option.{option_map_or}
 use Rattle.std.specs.Str.{bytes_eq}
 use Rattle.jiff_core.proofs.SignedLemmas.{signed_arith}
 use Rattle.spec_events.specs.Events.{event_table, length_in, start_in}
@@ -19,8 +20,10 @@ use Rattle.spec_time.specs.declared.length.Length.{Length}
 use Rattle.property_table.proofs.TableLemmas.{passes}
 use Rattle.property_table.specs.Names.{has_name}
 use Rattle.property_table.specs.Table.{Table, failing_of, given, names_of, test_at}
-use Rattle.spec_json.proofs.DataLemmas.{field_is}
-use Rattle.single_event.proofs.TimeLemmas.{shows, is_short}
+
+field_is : (k : List ℕ) (d : Data) → field k d ≡ lookup k (members_in d)
+field_is k (object ms) = refl
+field_is k _ = refl
 
 -- A value that isn't null is found among the members that aren't null.
 
@@ -58,6 +61,10 @@ pub recurring_tests : (zones : List ZoneText) (d : Data) → HasTests (recurring
 unfolding event_table recurring_event_table
 recurring_tests zones d = record { has_start = refl; has_duration = refl; start = λ s. refl; duration = λ s. refl }
 
+shows : (found : Option ℤ) → option_map_or is_showing found false ≡ true → is_showing (unwrap_or found (pos 0)) ≡ true
+shows None h = cc
+shows (Some w) h = h
+
 shows_at : (t : Table) (d : Data) → HasTests t → failing_of t d ≡ [] → (found : Option Data) → field (codes "start") d ≡ found
     → is_showing (unwrap_or (option_and_then local_in (option_and_then as_text found)) (pos 0)) ≡ true
 shows_at t d tests none None e = refl
@@ -71,6 +78,10 @@ shows_at t d tests none (Some (text s)) e =
 
 pub start_shows : (t : Table) (d : Data) → HasTests t → failing_of t d ≡ [] → is_showing (start_in d) ≡ true
 start_shows t d tests none = shows_at t d tests none (field (codes "start") d) refl
+
+is_short : (found : Option Length) → option_map_or is_short_length found false ≡ true → is_short_length (unwrap_or found (length_of 0 0)) ≡ true
+is_short None h = cc
+is_short (Some l) h = h
 
 short_at : (t : Table) (d : Data) → HasTests t → failing_of t d ≡ [] → (found : Option Data) → field (codes "duration") d ≡ found
     → is_short_length (unwrap_or (option_and_then duration_in (option_and_then as_text found)) (length_of 0 0)) ≡ true

@@ -1,19 +1,21 @@
 -- A LocalDateTime that was read is written back, so two that name one wall second are the same text.
 use Rattle.std.proofs.Common.{◌≡◌, ◌≤◌, ◌<◌, ◌+◌, ◌-◌, ◌*◌, ◌/◌, ◌%◌, ◌==◌, ◌&&◌, ℕ, ℤ, pos, List, [], ◌∷◌, ◌++◌, Bool, true, false, Some, None, codes, length, nat_lt, unsigned_abs, if◌then◌else◌, arith, refl, sym, ap, ◌∙◌}
-use Rattle.std.proofs.lemmas.Bool.{and_parts, eqb-true}
+use Rattle.std.proofs.lemmas.Bool.{and_parts}
 use Rattle.std.proofs.lemmas.Bool.Decides.{nat_tests}
 use Rattle.std.proofs.lemmas.Option.{same_Some}
 use Rattle.std.specs.Char.{is_ascii_digit}
 use Rattle.civil_days.proofs.DateLemmas.{one_date}
 use Rattle.jiff_core.proofs.SignedLemmas.{signed_arith}
-use Rattle.spec_time.specs.CivilDay.{day_number, day_of_month, month_of, year_of}
+use Rattle.spec_time.specs.CivilDay.{IsDate, day_number, day_of_month, month_of, year_of}
 use Rattle.spec_time.specs.Forms.{fits_form, fits_mark, fits_marks, two}
-use Rattle.spec_time.specs.LocalTimes.{clock_text, date_text, is_date, local_in, local_text, spaced_wall, wall_of}
+use Rattle.spec_time.specs.LocalTimes.{clock_text, date_text, day_in, is_date, local_in, local_text, second_in, spaced_wall, wall_of}
 use Rattle.spec_time.specs.Walls.{day_of_wall, second_of_wall, wall_at}
-use Rattle.time_text.proofs.WrittenLemmas.{written, wall_back}
-use Rattle.time_text.proofs.DateLemmas.{facts_of}
+use Rattle.time_text.proofs.WrittenLemmas.{pair_back}
 
 -- What fits the form is seven numbers of two digits each.
+
+abbrev written : ℕ → ℕ → ℕ → ℕ → ℕ → ℕ → ℕ → List ℕ → List ℕ
+written a b m d h n c tail = two a ++ two b ++ 45 ∷ two m ++ 45 ∷ two d ++ 84 ∷ two h ++ 58 ∷ two n ++ 58 ∷ two c ++ tail
 
 record BeginsWithTwo (marks s : List ℕ) : Type 0 where
   number : ℕ
@@ -46,12 +48,15 @@ begin_two marks (a ∷ b ∷ bs) h =
     let ones : 48 + (10 * (a - 48) + (b - 48)) % 10 ≡ b = omega arith in
     record { number = 10 * (a - 48) + (b - 48); small = omega arith; rest = bs; is = rw (tens, ones) refl; fits = q.1 }
 
+mark_is : (mark b : ℕ) → (b == mark) ≡ true → b ≡ mark
+mark_is mark b h = grind (arith, nat_tests)
+
 begin_with : (mark : ℕ) (marks s : List ℕ) → (mark == 48) ≡ false → fits_marks (mark ∷ marks) s ≡ true → BeginsWith mark marks s
 unfolding fits_mark
 begin_with mark marks [] e h = cc
 begin_with mark marks (b ∷ bs) e h =
     let p = and_parts (b == mark) (fits_marks marks bs) (rw e at h) in
-    record { rest = bs; is = ap (λ c. c ∷ bs) (eqb-true b mark p.0); fits = p.1 }
+    record { rest = bs; is = ap (λ c. c ∷ bs) (mark_is mark b p.0); fits = p.1 }
 
 record IsWritten (s : List ℕ) : Type 0 where
   a : ℕ
@@ -119,6 +124,11 @@ no_tail a b m d h n c (t ∷ ts) e = absurd (omega arith)
 
 -- The wall second of these numbers, and its text.
 
+wall_back : (a b m d h n c : ℕ) (tail : List ℕ) → a < 100 → b < 100 → m < 100 → d < 100 → h < 100 → n < 100 → c < 100
+    → spaced_wall (written a b m d h n c tail) ≡ wall_of (day_in (100 * a + b) m d) (second_in h n c)
+wall_back a b m d h n c tail ha hb hm hd hh hn hc =
+    rw (pair_back a ha, pair_back b hb, pair_back m hm, pair_back d hd, pair_back h hh, pair_back n hn, pair_back c hc) refl
+
 record IsWallOf (y m d h n c : ℕ) (w : ℤ) : Type 0 where
   date : is_date y m d ≡ true
   clock : ((nat_lt h 24 && nat_lt n 60) && nat_lt c 60) ≡ true
@@ -130,6 +140,9 @@ wall_by y m d h n c w true true date clock e = record { date = date; clock = clo
 wall_by y m d h n c w true false date clock e = cc
 wall_by y m d h n c w false true date clock e = cc
 wall_by y m d h n c w false false date clock e = cc
+
+facts_of : (y m d : ℕ) → is_date y m d ≡ true → IsDate (pos y) m d
+facts_of y m d h = grind (arith, nat_tests)
 
 clock_small : (h n c : ℕ) → ((nat_lt h 24 && nat_lt n 60) && nat_lt c 60) ≡ true → (h < 24) × (n < 60) × (c < 60)
 clock_small h n c e = (grind (arith, nat_tests), grind (arith, nat_tests), grind (arith, nat_tests))
@@ -177,7 +190,7 @@ back_by_fields s w f len e =
     is ∙ written_back f.a f.b f.m f.d f.h f.n f.c w f.b_small (wall_by (100 * f.a + f.b) f.m f.d f.h f.n f.c w _ _ refl refl wall)
 
 long_as_form : (s : List ℕ) → (length s == 19) ≡ true → length s ≡ 19
-long_as_form s h = eqb-true (length s) 19 h
+long_as_form s h = mark_is 19 (length s) h
 
 text_back_by : (s : List ℕ) (w : ℤ) (fits : Bool) → fits_form (codes "0000-00-00T00:00:00") s ≡ fits → (if fits then spaced_wall s else None) ≡ Some w → s ≡ local_text w
 text_back_by s w true fits e =

@@ -1,7 +1,6 @@
 -- The series of an event is the one that tells what the event does.
-use Rattle.std.proofs.Common.{◌≡◌, ◌==◌, ℕ, List, [], Bool, true, false, Option, Some, None, length, option_and_then, if◌then◌else◌, refl, sym, ap, ◌∙◌}
-use Rattle.std.proofs.lemmas.Bool.{eqb-true}
-use Rattle.std.proofs.lemmas.List.{nil_from_length}
+use Rattle.std.proofs.Common.{◌≡◌, ◌==◌, ℕ, List, [], ◌∷◌, Bool, true, false, Option, Some, None, length, option_and_then, if◌then◌else◌, arith, refl, sym, ap, ◌∙◌}
+use Rattle.std.proofs.lemmas.Bool.Decides.{nat_tests}
 use Rattle.std.proofs.lemmas.Option.{same_Some}
 use Rattle.event_series.specs.EventSeries.{IsSeriesOf}
 use Rattle.spec_json.specs.Data.{Data}
@@ -12,6 +11,10 @@ use Rattle.spec_recurrence.specs.SeriesOf.{SeriesParts, event_parts, is_series, 
 use Rattle.spec_series.specs.declared.exception.Exception.{Exception}
 use Rattle.spec_series.specs.declared.series.Series.{Series}
 use Rattle.spec_site.specs.TimeZones.{ZoneText}
+
+no_names : (names : List (List ℕ)) → (length names == 0) ≡ true → names ≡ []
+no_names [] h = refl
+no_names (n ∷ ns) h = absurd (grind (arith, nat_tests))
 
 same_parts : (zones : List ZoneText) (d : Data) (s : Series) → IsSeriesOf zones d s → event_parts d s.exceptions ≡ series_parts s
 same_parts zones d s of = rw (sym of.rules, sym of.start, sym of.length, sym of.occupying) refl
@@ -24,7 +27,7 @@ unfolding series_in
 one_series zones d s none of = rw none (valid_back zones d s of)
 
 none_by : (names : List (List ℕ)) (o : Option Series) (is : Bool) → (length names == 0) ≡ is → (names ≡ [] → ⊥) → (if is then o else None) ≡ None
-none_by names o true e bad = absurd (bad (nil_from_length names (eqb-true _ 0 e)))
+none_by names o true e bad = absurd (bad (no_names names e))
 none_by names o false e bad = refl
 
 pub no_series : (zones : List ZoneText) (d : Data) → (bad_properties_of_event zones d ≡ [] → ⊥) → series_in zones d ≡ None
@@ -63,7 +66,7 @@ record Has (zones : List ZoneText) (d : Data) (s : Series) : Type 0 where
 
 has_by : (zones : List ZoneText) (d : Data) (s : Series) (is : Bool) → (length (bad_properties_of_event zones d) == 0) ≡ is
     → (if is then valid_series zones d else None) ≡ Some s → Has zones d s
-has_by zones d s true e h = record { valid = nil_from_length (bad_properties_of_event zones d) (eqb-true _ 0 e); series = h }
+has_by zones d s true e h = record { valid = no_names (bad_properties_of_event zones d) e; series = h }
 has_by zones d s false e h = absurd (no_some s h)
 
 has : (zones : List ZoneText) (d : Data) (s : Series) → series_in zones d ≡ Some s → Has zones d s

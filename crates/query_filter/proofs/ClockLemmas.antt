@@ -6,7 +6,6 @@ use Rattle.std.specs.Ordering.{int_eq}
 use Rattle.std.specs.Str.{bytes_eq}
 use Rattle.std.proofs.lemmas.Bool.Decides.{Decides-int_eq}
 use Rattle.std.proofs.lemmas.Slice.Eq.{bytes_eq-Decides}
-use Rattle.std.proofs.lemmas.Bool.{and_from, and_parts}
 use Rattle.jiff_core.proofs.SignedLemmas.{signed_arith}
 use Rattle.jiff_core.specs.Calendar.{IsWithin}
 use Rattle.jiff_tz.specs.declared.posix.TimeZone.{TimeZone}
@@ -16,6 +15,8 @@ use Rattle.spec_windows.specs.Clocks.{instant_in}
 use Rattle.occurrence_windows.proofs.Series.{rule_instants}
 use Rattle.query_filter.specs.TimesRead.{are_times, is_time}
 use Rattle.query_filter.specs.declared.clock.TimeRead.{TimeRead}
+use Rattle.rule_expand.proofs.Places.{and_both}
+use Rattle.rule_expand.proofs.Sets.{both_and}
 
 pub same_text : (s t : List ℕ) → bytes_eq s t ≡ true → s ≡ t
 same_text s t h = (bytes_eq-Decides s t).0 h
@@ -26,8 +27,8 @@ some_eq x (Some y) h = ap (λ z. Some z) ((Decides-int_eq x y).0 h)
 
 all_at : (rule : TzText) (ts : List TimeRead) (i : ℕ) (t : TimeRead) → are_times rule ts ≡ true → i < length ts → is_time rule (get_or ts i t) ≡ true
 all_at rule [] i t h lt = absurd (omega arith)
-all_at rule (x ∷ ts) zero t h lt = (and_parts (is_time rule x) _ h).0
-all_at rule (x ∷ ts) (suc i) t h lt = all_at rule ts i t (and_parts (is_time rule x) _ h).1 (omega arith)
+all_at rule (x ∷ ts) zero t h lt = (and_both (is_time rule x) _ h).0
+all_at rule (x ∷ ts) (suc i) t h lt = all_at rule ts i t (and_both (is_time rule x) _ h).1 (omega arith)
 
 pub time_is : (rule : TzText) (ts : List TimeRead) (i : ℕ) (t : TimeRead) (text : List ℕ) → are_times rule ts ≡ true → i < length ts → t ≡ get_or ts i t → t.text ≡ text
     → Some t.instant ≡ option_and_then (instant_in rule) (local_in text)
@@ -43,8 +44,8 @@ pub named_near : (tz : TimeZone) (text : List ℕ) (t : ℤ) → option_and_then
 named_near tz text t h = near_by tz (local_in text) t h
 
 times_more : (rule : TzText) (ts : List TimeRead) (t : TimeRead) → are_times rule ts ≡ true → option_and_then (instant_in rule) (local_in t.text) ≡ Some t.instant → are_times rule (ts ++ t ∷ []) ≡ true
-times_more rule [] t h e = and_from (is_time rule t) true (ap (λ o. option_map_or (int_eq t.instant) o false) e ∙ (Decides-int_eq t.instant t.instant).1 refl) refl
-times_more rule (x ∷ ts) t h e = let parts = and_parts (is_time rule x) (are_times rule ts) h in and_from (is_time rule x) (are_times rule (ts ++ t ∷ [])) parts.0 (times_more rule ts t parts.1 e)
+times_more rule [] t h e = both_and (is_time rule t) true (ap (λ o. option_map_or (int_eq t.instant) o false) e ∙ (Decides-int_eq t.instant t.instant).1 refl) refl
+times_more rule (x ∷ ts) t h e = let parts = and_both (is_time rule x) (are_times rule ts) h in both_and (is_time rule x) (are_times rule (ts ++ t ∷ [])) parts.0 (times_more rule ts t parts.1 e)
 
 -- whether or not there was memory for one more
 pub times_pushed : (rule : TzText) (ts : List TimeRead) (t : TimeRead) (b : Bool) → are_times rule ts ≡ true → option_and_then (instant_in rule) (local_in t.text) ≡ Some t.instant → are_times rule (if b then ts ++ t ∷ [] else ts) ≡ true
