@@ -15,7 +15,7 @@ use Rattle.spec_series.specs.declared.by_part.End.TheVariants.{Never, Count, Unt
 use Rattle.spec_series.specs.declared.by_part.NDay.{NDay}
 use Rattle.spec_series.specs.declared.rule.Rule.{Rule}
 use Rattle.spec_series.specs.RuleLimits.{is_end, is_month, is_nday, is_nth, is_place_to}
-use Rattle.spec_series.specs.RuleObjects.{RuleParts, all_read, count_data, each_in, end_in, filled, frequency_in, frequency_named, frequency_text, interval_in, is_empty, is_rule_object, is_settled, month_data, month_in, month_of_number, nday_data, nday_in, nth_data, nth_in, parts_of, place_in, present, rule_data, rule_in, settled_rule, thousand_of, until_data, present_at, readings_of, week_start_in, weekday_named, weekday_text, where_read}
+use Rattle.spec_series.specs.RuleObjects.{RuleParts, count_data, each_in, end_in, filled, frequency_in, frequency_named, frequency_text, interval_in, is_empty, is_rule_object, is_settled, month_data, month_in, month_of_number, nday_data, nday_in, nth_data, nth_in, parts_of, place_in, present, rule_data, rule_in, settled_rule, thousand_of, until_data, present_at, week_start_in, weekday_named, weekday_text, with_lists, with_members}
 use Rattle.time_text.proofs.NumberLemmas.{decimal_back}
 use Rattle.time_text.proofs.WrittenLemmas.{read_back as local_back}
 
@@ -135,21 +135,49 @@ made_by : (n : ℤ) (q p : RuleParts) (b : Bool) → (if b then Some (filled n q
 made_by n q p true h = (q, same_Some (filled n q) p h)
 made_by n q p false h = absurd (none-some p h)
 
-made_where : (n : ℤ) (p : RuleParts) (o : Option RuleParts) → option_and_then (settled_rule n) o ≡ Some p → Made n p
-made_where n p None h = absurd (none-some p h)
-made_where n p (Some q) h = made_by n q p (is_settled q) h
+lists_by : (n : ℤ) (f : Freq) (i w : ℕ) (e : End) (p : RuleParts) (ds : Option (List NDay)) (md m s : Option (List ℤ))
+    → option_and_then (λ by_day. option_and_then (λ by_month_day. option_and_then (λ by_month. option_and_then (λ by_set.
+    settled_rule n (record { frequency = f; interval = i; week_start = w; by_day = by_day; by_month_day = by_month_day; by_month = by_month; by_set = by_set; end = e })) s) m) md) ds ≡ Some p
+    → Made n p
+lists_by n f i w e p None md m s h = absurd (none-some p h)
+lists_by n f i w e p (Some ds) None m s h = absurd (none-some p h)
+lists_by n f i w e p (Some ds) (Some md) None s h = absurd (none-some p h)
+lists_by n f i w e p (Some ds) (Some md) (Some m) None h = absurd (none-some p h)
+lists_by n f i w e p (Some ds) (Some md) (Some m) (Some s) h =
+    made_by n (record { frequency = f; interval = i; week_start = w; by_day = ds; by_month_day = md; by_month = m; by_set = s; end = e }) p
+    (is_settled (record { frequency = f; interval = i; week_start = w; by_day = ds; by_month_day = md; by_month = m; by_set = s; end = e })) h
 
-made_if : (n : ℤ) (d : Data) (p : RuleParts) (b : Bool) → (if b then option_and_then (settled_rule n) (all_read (readings_of d)) else None) ≡ Some p → Made n p
-made_if n d p true h = made_where n p (all_read (readings_of d)) h
-made_if n d p false h = absurd (none-some p h)
+made_with_lists : (n : ℤ) (d : Data) (f : Freq) (i w : ℕ) (e : End) (p : RuleParts) → with_lists n d f i w e ≡ Some p → Made n p
+unfolding with_lists
+made_with_lists n d f i w e p h =
+    lists_by n f i w e p (each_in (nday_in f) (present_at (codes "byDay") d)) (each_in (place_in 31) (present_at (codes "byMonthDay") d))
+    (each_in month_in (present_at (codes "byMonth") d)) (each_in (place_in 366) (present_at (codes "bySetPosition") d)) h
+
+members_by : (n : ℤ) (d : Data) (f : Freq) (p : RuleParts) (i w : Option ℕ) (e : Option End)
+    → option_and_then (λ interval. option_and_then (λ week_start. option_and_then (λ end. with_lists n d f interval week_start end) e) w) i ≡ Some p → Made n p
+members_by n d f p None w e h = absurd (none-some p h)
+members_by n d f p (Some i) None e h = absurd (none-some p h)
+members_by n d f p (Some i) (Some w) None h = absurd (none-some p h)
+members_by n d f p (Some i) (Some w) (Some e) h = made_with_lists n d f i w e p h
+
+made_with_members : (n : ℤ) (d : Data) (f : Freq) (p : RuleParts) → with_members n d f ≡ Some p → Made n p
+unfolding with_members
+made_with_members n d f p h =
+    members_by n d f p (interval_in (present_at (codes "interval") d)) (week_start_in (present_at (codes "firstDayOfWeek") d))
+    (end_in (present_at (codes "count") d) (present_at (codes "until") d)) h
+
+made_if : (n : ℤ) (d : Data) (p : RuleParts) (b : Bool) (o : Option Freq) → (if b then option_and_then (with_members n d) o else None) ≡ Some p → Made n p
+made_if n d p true None h = absurd (none-some p h)
+made_if n d p true (Some f) h = made_with_members n d f p h
+made_if n d p false o h = absurd (none-some p h)
 
 made : (n : ℤ) (d : Data) (p : RuleParts) → rule_in n d ≡ Some p → Made n p
 unfolding rule_in
-made n d p h = made_if n d p (is_rule_object d) h
+made n d p h = made_if n d p (is_rule_object d) (option_and_then frequency_in (present_at (codes "frequency") d)) h
 
 -- a rule whose implied parts are filled in is read back
 filled_back : (r : Rule) (n : ℤ) → is_settled (parts_of r) ≡ true → filled n (parts_of r) ≡ parts_of r → rule_in n (rule_data (parts_of r)) ≡ Some (parts_of r)
-unfolding rule_in rule_data where_read
+unfolding rule_in rule_data with_members with_lists
 filled_back r n still same =
     let f = r.frequency in
     let a = and_parts (list_all (is_nday f) r.by_day) _ r.by_parts_in in

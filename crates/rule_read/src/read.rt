@@ -3,8 +3,7 @@ ghost use Rattle.std.specs.Prelude.{◌≡◌, ◌≤◌, ◌<◌, ◌^◌, Some
 ghost use Rattle.spec_json.specs.Parts.{all_some};
 ghost use Rattle.spec_json.specs.TreeData.{data_of};
 ghost use Rattle.spec_series.specs.RuleLimits.{are_by_parts};
-ghost use Rattle.spec_series.specs.RuleObjects.{filled, frequency_in, parts_of, rule_in, rules_in, rules_of, settled_rule};
-ghost use Rattle.rule_read.specs.Steps.{with_lists, with_members};
+ghost use Rattle.spec_series.specs.RuleObjects.{filled, frequency_in, parts_of, rule_in, rules_in, rules_of, settled_rule, with_lists, with_members};
 ghost use Rattle.spec_time.specs.Walls.{day_of_wall, is_in_years};
 ghost use Rattle.rule_read.specs.declared.error.RulesError.TheVariants.{BadRules};
 
@@ -89,7 +88,7 @@ fn each_rule(alloc: Global, items: &[Tree], day: i64) -> Result<Option<Rules>, A
 }
 
 // The rule that a value is, for a series whose start's day is given.
-#[tactic(auto, unfolding(spec_series::specs::RuleObjects::rule_in, spec_series::specs::RuleObjects::where_read, crate::specs::Steps::with_members))]
+#[tactic(auto, unfolding(spec_series::specs::RuleObjects::rule_in))]
 fn rule(alloc: Global, tree: &Tree, day: i64) -> Result<Option<Rule>, AllocError>
     requires { unsigned_abs day < 2 ^ 42 }
     ensures { IfOk result (λ o. option_map parts_of o ≡ rule_in day (data_of tree.now)) }
@@ -112,7 +111,7 @@ fn frequency_at(value: Option<&Tree>) -> Option<Freq>
     }
 }
 
-#[tactic(auto, unfolding(crate::specs::Steps::with_members, crate::specs::Steps::with_lists, spec_series::specs::RuleObjects::where_read))]
+#[tactic(auto, unfolding(spec_series::specs::RuleObjects::with_members))]
 fn with_members(
     alloc: Global,
     tree: &Tree,
@@ -140,7 +139,7 @@ fn with_members(
     with_lists(alloc, tree, day, frame)
 }
 
-#[tactic(auto, unfolding(crate::specs::Steps::with_lists, spec_series::specs::RuleObjects::where_read))]
+#[tactic(auto, unfolding(spec_series::specs::RuleObjects::with_lists))]
 fn with_lists(
     alloc: Global,
     tree: &Tree,

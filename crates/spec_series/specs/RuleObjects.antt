@@ -214,48 +214,27 @@ is_rule_object _ = false
 abbrev pub settled_rule : ℤ → RuleParts → Option RuleParts
 settled_rule n p = if is_settled p then Some (filled n p) else None
 
--- what each member of a rule says; none where it says nothing that a rule may have
-pub record RuleReadings : Type 0 where
-  pub frequency : Option Freq
-  pub interval : Option ℕ
-  pub week_start : Option ℕ
-  pub end : Option End
-  pub by_day : Option (List NDay)
-  pub by_month_day : Option (List ℤ)
-  pub by_month : Option (List ℤ)
-  pub by_set : Option (List ℤ)
+-- its lists, behind the other members
+unfoldable pub with_lists : ℤ → Data → Freq → ℕ → ℕ → End → Option RuleParts
+with_lists n d f interval week_start end =
+    option_and_then (λ by_day. option_and_then (λ by_month_day. option_and_then (λ by_month. option_and_then (λ by_set.
+    settled_rule n (record { frequency = f; interval = interval; week_start = week_start; by_day = by_day; by_month_day = by_month_day; by_month = by_month; by_set = by_set; end = end }))
+    (each_in (place_in 366) (present_at (codes "bySetPosition") d)))
+    (each_in month_in (present_at (codes "byMonth") d)))
+    (each_in (place_in 31) (present_at (codes "byMonthDay") d)))
+    (each_in (nday_in f) (present_at (codes "byDay") d))
 
-abbrev pub frequency_of : Data → Option Freq
-frequency_of d = option_and_then frequency_in (present_at (codes "frequency") d)
-
--- which days of the week there may be depends on the frequency
-abbrev pub by_day_of : Data → Option Freq → Option (List NDay)
-by_day_of d frequency = option_and_then (λ f. each_in (nday_in f) (present_at (codes "byDay") d)) frequency
-
-abbrev pub readings_of : Data → RuleReadings
-readings_of d = record {
-  frequency = frequency_of d;
-  interval = interval_in (present_at (codes "interval") d);
-  week_start = week_start_in (present_at (codes "firstDayOfWeek") d);
-  end = end_in (present_at (codes "count") d) (present_at (codes "until") d);
-  by_day = by_day_of d (frequency_of d);
-  by_month_day = each_in (place_in 31) (present_at (codes "byMonthDay") d);
-  by_month = each_in month_in (present_at (codes "byMonth") d);
-  by_set = each_in (place_in 366) (present_at (codes "bySetPosition") d);
-}
-
--- the members, where each is read
-unfoldable pub where_read : Option Freq → Option ℕ → Option ℕ → Option End → Option (List NDay) → Option (List ℤ) → Option (List ℤ) → Option (List ℤ) → Option RuleParts
-where_read (Some f) (Some i) (Some w) (Some e) (Some ds) (Some md) (Some m) (Some s) =
-    Some (record { frequency = f; interval = i; week_start = w; by_day = ds; by_month_day = md; by_month = m; by_set = s; end = e })
-where_read _ _ _ _ _ _ _ _ = None
-
-abbrev pub all_read : RuleReadings → Option RuleParts
-all_read r = where_read r.frequency r.interval r.week_start r.end r.by_day r.by_month_day r.by_month r.by_set
+unfoldable pub with_members : ℤ → Data → Freq → Option RuleParts
+with_members n d f =
+    option_and_then (λ interval. option_and_then (λ week_start. option_and_then (λ end. with_lists n d f interval week_start end)
+    (end_in (present_at (codes "count") d) (present_at (codes "until") d)))
+    (week_start_in (present_at (codes "firstDayOfWeek") d)))
+    (interval_in (present_at (codes "interval") d))
 
 -- the rule that an object means, for a series whose start's day is n
 unfoldable pub rule_in : ℤ → Data → Option RuleParts
-rule_in n d = if is_rule_object d then option_and_then (settled_rule n) (all_read (readings_of d)) else None
+rule_in n d =
+    if is_rule_object d then option_and_then (with_members n d) (option_and_then frequency_in (present_at (codes "frequency") d)) else None
 
 -- `recurrenceRules`: a list of at most 4 rules, for a series that starts at this wall second
 abbrev pub rules_of : ℤ → List Data → Option (List RuleParts)
