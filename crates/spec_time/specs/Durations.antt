@@ -20,27 +20,27 @@ abbrev pub Form : Type 0
 Form = List ℕ → Option Length
 
 -- two lengths together, where there are both
-abbrev pub both : Option Length → Option Length → Option Length
-both a b = option_and_then (λ x. option_map (λ y. length_of (x.days + y.days) (x.seconds + y.seconds)) b) a
+abbrev pub joined : Option Length → Option Length → Option Length
+joined a b = option_and_then (λ x. option_map (λ y. length_of (x.days + y.days) (x.seconds + y.seconds)) b) a
 
 -- a text of the one form and then one of the other; the first ends before a byte or goes on with it
 unfoldable pub followed_by : Form → Form → Form
-followed_by f g [] = both (f []) (g [])
-followed_by f g (b ∷ bs) = option_or (both (f []) (g (b ∷ bs))) (followed_by (λ rest. f (b ∷ rest)) g bs)
+followed_by f g [] = joined (f []) (g [])
+followed_by f g (b ∷ bs) = option_or (joined (f []) (g (b ∷ bs))) (followed_by (λ rest. f (b ∷ rest)) g bs)
 
 -- a text of either form
 abbrev pub either : Form → Form → Form
 either f g s = option_or (f s) (g s)
 
 -- nothing, or a text of the form
-abbrev pub optional : Form → Form
-optional f [] = Some (length_of 0 0)
-optional f (b ∷ bs) = f (b ∷ bs)
+abbrev pub or_nothing : Form → Form
+or_nothing f [] = Some (length_of 0 0)
+or_nothing f (b ∷ bs) = f (b ∷ bs)
 
 -- a letter and then a text of the form
-abbrev pub behind : ℕ → Form → Form
-behind letter f [] = None
-behind letter f (b ∷ bs) = if b == letter then f bs else None
+abbrev pub after_letter : ℕ → Form → Form
+after_letter letter f [] = None
+after_letter letter f (b ∷ bs) = if b == letter then f bs else None
 
 -- a number of 1 to 9 digits
 abbrev pub is_number : List ℕ → Bool
@@ -62,21 +62,21 @@ abbrev pub dur_second : Form
 dur_second = part 83 (λ n. length_of 0 n)
 
 abbrev pub dur_minute : Form
-dur_minute = followed_by (part 77 (λ n. length_of 0 (60 * n))) (optional dur_second)
+dur_minute = followed_by (part 77 (λ n. length_of 0 (60 * n))) (or_nothing dur_second)
 
 abbrev pub dur_hour : Form
-dur_hour = followed_by (part 72 (λ n. length_of 0 (3600 * n))) (optional (either dur_minute dur_second))
+dur_hour = followed_by (part 72 (λ n. length_of 0 (3600 * n))) (or_nothing (either dur_minute dur_second))
 
 -- `T`, and then hours, minutes and seconds
 abbrev pub dur_time : Form
-dur_time = behind 84 (either dur_hour (either dur_minute dur_second))
+dur_time = after_letter 84 (either dur_hour (either dur_minute dur_second))
 
 abbrev pub dur_day : Form
-dur_day = followed_by (part 68 (λ n. length_of n 0)) (optional dur_time)
+dur_day = followed_by (part 68 (λ n. length_of n 0)) (or_nothing dur_time)
 
 abbrev pub dur_week : Form
-dur_week = followed_by (part 87 (λ n. length_of (7 * n) 0)) (optional (either dur_day dur_time))
+dur_week = followed_by (part 87 (λ n. length_of (7 * n) 0)) (or_nothing (either dur_day dur_time))
 
 -- the length that a Duration names: `P`, and then weeks, days and the time
 unfoldable pub duration_in : List ℕ → Option Length
-duration_in = behind 80 (either dur_week (either dur_day dur_time))
+duration_in = after_letter 80 (either dur_week (either dur_day dur_time))
