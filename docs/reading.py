@@ -24,8 +24,7 @@ ROOTS = ["crates/spec_connection/specs/Serving.antt", "crates/jmapd_run/specs/Ru
 RESTATED = {
     "spec_series/Shared": (
         "bookings_clash_where_two_would_cover_a_second",
-        "is_second_of span_covers replaced_covers own_second own_covers days_down own_rids replaced_rids days_back covering_rids has_some has_two covers"
-        " covers_twice first_from first_second first_shared_second first_self_shared_second",
+        "is_over covers covers_beside covers_twice first_second first_shared_second first_self_shared_second",
     ),
     "spec_bookings/Clashes": (
         "bookings_clash_where_two_would_cover_a_second", "IsClash any_covers is_clash IsClear first_covering clash_at first_clash",
