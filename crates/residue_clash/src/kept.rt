@@ -6,9 +6,9 @@ ghost use Rattle.spec_series.specs.Places.{empty_or_any};
 ghost use Rattle.spec_series.specs.RuleSets.{is_kept};
 
 use civil_days::{civil, weekday};
+use rule_expand::kept_on;
 use spec_series::by_part::NDay;
 use spec_series::rule::Rule;
-use rule_expand::kept_on;
 
 // Whether an item is the month.
 fn names_month(months: &[i32], month: u8) -> bool

@@ -8,10 +8,10 @@ ghost use Rattle.rule_expand.specs.Walk.{periods};
 ghost use Rattle.rule_expand.specs.Repeats.{is_of_weekdays, repeats_after};
 ghost use Rattle.residue_clash.specs.Repeats.{periods_after};
 
-use spec_series::by_part::Freq;
-use spec_series::rule::Rule;
 use residue_solve::Cong;
 use rule_expand::period;
+use spec_series::by_part::Freq;
+use spec_series::rule::Rule;
 
 // What a number leaves.
 fn remainder(number: i64, interval: u32) -> u32

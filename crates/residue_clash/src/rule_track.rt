@@ -7,9 +7,9 @@ ghost use Rattle.rule_expand.specs.Repeats.{repeats_after};
 use crate::kept::is_kept_on;
 use crate::phase::{is_phase_day, looks_at_weekdays, phase_of};
 use crate::track::Track;
-use spec_series::rule::Rule;
 use residue_solve::Cong;
 use rule_expand::unkept_days;
+use spec_series::rule::Rule;
 
 /// The days of a rule after the start's.
 #[derive(Drop)]

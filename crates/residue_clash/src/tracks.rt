@@ -7,10 +7,10 @@ ghost use Rattle.residue_clash.specs.Repeats.{limit_of};
 
 use crate::outline::Outline;
 use crate::rule_track::RuleTrack;
+use rule_expand::{Bound, last_day};
 use spec_series::rule::Rule;
 use spec_series::series::Series;
 use spec_time::wall::Wall;
-use rule_expand::{Bound, last_day};
 
 // The day of a start.
 fn day_of(start: Wall) -> i64

@@ -219,7 +219,7 @@ abbrev level : ℕ → (ℕ → Length) → Form → Form
 level c lengths rest = either (followed_by (part c lengths) (or_nothing rest)) rest
 
 module _ (c : ℕ) (above : 0 < c) (no_digit : is_ascii_digit c ≡ false) (lengths : ℕ → Length) (none : lengths 0 ≡ length_of 0 0)
-  (rest : Form) (differ : (s : List ℕ) → has_part c s ≡ true → rest s ≡ None) where
+    (rest : Form) (differ : (s : List ℕ) → has_part c s ≡ true → rest s ≡ None) where
   level_with : (s : List ℕ) → has_part c s ≡ true → level c lengths rest s ≡ joined (Some (lengths (amount c s))) (or_nothing rest (behind_part c s))
   level_with s h = rw (with_part c above no_digit lengths (or_nothing rest) s h, differ s h) (or_none _)
 
