@@ -10,8 +10,9 @@ use Rattle.spec_bookings.specs.BookedResources.{booked_in, bookings_of}
 use Rattle.spec_bookings.specs.Resources.{is_resource, zone_of_resource}
 use Rattle.spec_bookings.specs.Bookings.{without_booking}
 use Rattle.spec_site.specs.TimeZones.{ZoneText}
-use Rattle.spec_bookings.proofs.Folded.{from_more}
-use Rattle.spec_bookings.specs.HistoryBookings.{booked_by, with_booked}
+use Rattle.spec_bookings.proofs.Folded.{change_more}
+use Rattle.spec_bookings.specs.AfterChange.{with_booked}
+use Rattle.spec_bookings.specs.HistoryBookings.{booked_by}
 
 abbrev pub change : Kind → ℕ → Option Tree → Change
 change kind id o = record { kind = kind; id = id; object = o }
@@ -32,7 +33,7 @@ event_leaves_resources cs id o n = ap (λ p. is_some (option_and_then zone_of_re
 
 pub event_bookings : (zones : List ZoneText) (cs : List Change) (id : ℕ) (o : Option Tree) (n : ℕ)
     → bookings_of zones (cs ++ change Event id o ∷ []) n ≡ with_booked id (booked_by (booked_in zones n) o) (without_booking id (bookings_of zones cs n))
-event_bookings zones cs id o n = from_more (booked_in zones n) [] cs (change Event id o)
+event_bookings zones cs id o n = change_more (booked_in zones n) cs (change Event id o)
 
 pub calendar_now : (cs : List Change) (id : ℕ) (o : Option Tree) (n : ℕ) → live_object (cs ++ change Calendar id o ∷ []) Calendar n ≡ (if n == id then o else live_object cs Calendar n)
 calendar_now cs id o n = object_more cs (change Calendar id o) None Calendar n
@@ -48,7 +49,7 @@ pub resource_now : (cs : List Change) (id : ℕ) (o : Option Tree) (n : ℕ) →
 resource_now cs id o n = ap is_of_resource (calendar_now cs id o n) ∙ choose (n == id) o (live_object cs Calendar n)
 
 pub calendar_bookings : (zones : List ZoneText) (cs : List Change) (id : ℕ) (o : Option Tree) (n : ℕ) → bookings_of zones (cs ++ change Calendar id o ∷ []) n ≡ bookings_of zones cs n
-calendar_bookings zones cs id o n = from_more (booked_in zones n) [] cs (change Calendar id o)
+calendar_bookings zones cs id o n = change_more (booked_in zones n) cs (change Calendar id o)
 
 -- a number that was given adds nothing
 pub with_known : (ids : List ℕ) (id : ℕ) → is_in ids id ≡ true → with_id ids id ≡ ids

@@ -27,10 +27,11 @@ use Rattle.spec_bookings.specs.Bookings.{without_booking}
 use Rattle.spec_bookings.specs.declared.booking.Booking.{Booking}
 use Rattle.spec_site.specs.TimeZones.{ZoneText}
 use Rattle.spec_bookings.proofs.Doubles.{double-with, double-without}
-use Rattle.spec_bookings.proofs.Folded.{each_is}
+use Rattle.spec_bookings.proofs.Listed.{live_booked}
 use Rattle.spec_bookings.proofs.Tables.{by_test, number_same, same_number}
 use Rattle.spec_bookings.specs.Free.{IsFree}
-use Rattle.spec_bookings.specs.HistoryBookings.{booked_by, with_booked}
+use Rattle.spec_bookings.specs.AfterChange.{with_booked}
+use Rattle.spec_bookings.specs.HistoryBookings.{booked_by}
 use Rattle.spec_bookings.specs.Rising.{series_booked}
 
 -- Rooms.
@@ -169,7 +170,7 @@ event_follows zones cs id o rs h fit = record {
 
 -- an event that books in a calendar is in it
 not_booked : (zones : List ZoneText) (cs : List Change) (n : ℕ) → has_event cs n ≡ false → (m : ℕ) → series_booked m (bookings_of zones cs n) ≡ None
-not_booked zones cs n none m = each_is (booked_in zones n) cs m ∙ by_cases (live_object cs Event m) refl
+not_booked zones cs n none m = live_booked (booked_in zones n) cs m ∙ by_cases (live_object cs Event m) refl
   where
     listed : (t : Tree) → live_object cs Event m ≡ Some t → names_calendar n (data_of t) ≡ true → has_event cs n ≡ true
     listed t e named = any_object (live_object cs Event) (λ t. names_calendar n (data_of t)) (ids_at cs Event) m t (live_is_numbered cs Event m (ap is_some e)) e named

@@ -16,7 +16,7 @@ use Rattle.spec_series.specs.Shared.{covers}
 use Rattle.spec_series.specs.declared.series.Series.{Series}
 use Rattle.spec_site.specs.TimeZones.{ZoneText}
 use Rattle.residue_clash.proofs.Covering.{covers_is}
-use Rattle.spec_bookings.proofs.Folded.{bookings_rise, each_is}
+use Rattle.spec_bookings.proofs.Listed.{live_booked, live_rise}
 use Rattle.spec_bookings.proofs.Placed.{in_again_other, in_again_same, rise_again}
 use Rattle.spec_bookings.proofs.Tables.{by_test, number_same, other_number, same_number}
 use Rattle.spec_bookings.specs.HistoryBookings.{booked_by}
@@ -93,14 +93,14 @@ module _ (zones : List ZoneText) (cs : List Change) (event calendar : ℕ) where
   others = other_bookings zones cs event calendar
 
   abbrev all_rise : Rise (bookings_of zones cs calendar)
-  all_rise = bookings_rise (booked_in zones calendar) cs
+  all_rise = live_rise (booked_in zones calendar) cs
 
   others_rise : Rise others
   others_rise = rise_again event None (bookings_of zones cs calendar) all_rise
 
   -- what is booked of a number is the series of the other live event
   booked_to : (n : ℕ) (t : Series) → series_booked n others ≡ Some t → ((n ≡ event) → ⊥) × (booked_by (booked_in zones calendar) (live_object cs Event n) ≡ Some t)
-  booked_to n t h = (other, sym (each_is (booked_in zones calendar) cs n) ∙ sym (in_again_other n event None (bookings_of zones cs calendar) (other_number event n (λ e. other (sym e)))) ∙ h)
+  booked_to n t h = (other, sym (live_booked (booked_in zones calendar) cs n) ∙ sym (in_again_other n event None (bookings_of zones cs calendar) (other_number event n (λ e. other (sym e)))) ∙ h)
     where
       other : (n ≡ event) → ⊥
       other e =
@@ -109,7 +109,7 @@ module _ (zones : List ZoneText) (cs : List Change) (event calendar : ℕ) where
           cc (gone, there)
 
   to_booked : (n : ℕ) (t : Series) → ((n ≡ event) → ⊥) → booked_by (booked_in zones calendar) (live_object cs Event n) ≡ Some t → series_booked n others ≡ Some t
-  to_booked n t other h = in_again_other n event None (bookings_of zones cs calendar) (other_number event n (λ e. other (sym e))) ∙ each_is (booked_in zones calendar) cs n ∙ h
+  to_booked n t other h = in_again_other n event None (bookings_of zones cs calendar) (other_number event n (λ e. other (sym e))) ∙ live_booked (booked_in zones calendar) cs n ∙ h
 
   live_to : (n : ℕ) (x : ℤ) (t : Series) (o : Option Tree) → live_object cs Event n ≡ o → booked_by (booked_in zones calendar) o ≡ Some t → IsCoveredBy t x → Occupies zones cs calendar n x
   live_to n x t None e h c = absurd (cc h)

@@ -14,7 +14,8 @@ use Rattle.spec_bookings.specs.Resources.{zone_of_resource}
 use Rattle.spec_series.specs.Lengths.{IsWeekLong}
 use Rattle.spec_series.specs.declared.series.Series.{Series}
 use Rattle.spec_site.specs.TimeZones.{ZoneText}
-use Rattle.spec_bookings.specs.HistoryBookings.{booked_by, with_booked}
+use Rattle.spec_bookings.specs.AfterChange.{with_booked}
+use Rattle.spec_bookings.specs.HistoryBookings.{booked_by}
 use Rattle.spec_bookings.specs.Bookings.{without_booking}
 
 -- with a room that has no bookings, where the calendar has none

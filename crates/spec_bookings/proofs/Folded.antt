@@ -1,17 +1,24 @@
--- The bookings at a history are those of its live events.
-use Rattle.std.proofs.Common.{◌≡◌, ℕ, ◌==◌, List, [], ◌∷◌, ◌++◌, Bool, true, false, ◌&&◌, Option, None, refl, ◌∙◌, if◌then◌else◌}
+-- The bookings that changes make one after the other, and that they are those of the live events.
+use Rattle.std.proofs.Common.{◌≡◌, ℕ, ◌==◌, List, [], ◌∷◌, ◌++◌, Bool, true, false, ◌&&◌, Option, None, refl, sym, ap, ◌∙◌, if◌then◌else◌}
 use Rattle.spec_json.specs.declared.tree.Tree.{Tree}
 use Rattle.spec_history.specs.declared.entry.Change.{Change}
 use Rattle.spec_history.specs.declared.entry.Kind.{Kind}
 use Rattle.spec_history.specs.declared.entry.Kind.TheVariants.{Calendar, Event}
-use Rattle.spec_history.specs.History.{is_kind, names, object_from, live_object}
+use Rattle.spec_history.specs.History.{is_kind, names, object_from}
 use Rattle.spec_series.specs.declared.series.Series.{Series}
 use Rattle.spec_bookings.specs.declared.booking.Booking.{Booking}
 use Rattle.spec_bookings.specs.Bookings.{without_booking}
-use Rattle.spec_bookings.specs.HistoryBookings.{booked_by, with_booked, after_change, bookings_from, bookings_at}
+use Rattle.spec_bookings.specs.AfterChange.{after_change, with_booked}
+use Rattle.spec_bookings.specs.HistoryBookings.{booked_by, bookings_at}
+use Rattle.spec_bookings.proofs.Listed.{live_booked, live_rise, same_bookings}
 use Rattle.spec_bookings.specs.Rising.{Rise, series_booked}
 use Rattle.spec_bookings.proofs.Tables.{same_number, turned}
 use Rattle.spec_bookings.proofs.Placed.{rise_again, in_again_same, in_again_other}
+
+-- the bookings after some changes, each of which makes a step
+abbrev pub bookings_from : (Tree → Option Series) → List Booking → List Change → List Booking
+bookings_from books bs [] = bs
+bookings_from books bs (c ∷ cs) = bookings_from books (after_change books c bs) cs
 
 module _ (books : Tree → Option Series) where
   abbrev changed : Kind → ℕ → Option Tree → List Booking → List Booking
@@ -34,12 +41,15 @@ module _ (books : Tree → Option Series) where
       let p = one m c.kind c.id c.object before bs r h in
       all cs m (if names Event m c then c.object else before) (after_change books c bs) p.0 p.1
 
-  pub bookings_rise : (cs : List Change) → Rise (bookings_at books cs)
-  bookings_rise cs = (all cs 0 None [] tt refl).0
-
-  pub each_is : (cs : List Change) (n : ℕ) → series_booked n (bookings_at books cs) ≡ booked_by books (live_object cs Event n)
-  each_is cs n = (all cs n None [] tt refl).1
-
-  pub from_more : (bs : List Booking) (cs : List Change) (c : Change) → bookings_from books bs (cs ++ c ∷ []) ≡ after_change books c (bookings_from books bs cs)
+  from_more : (bs : List Booking) (cs : List Change) (c : Change) → bookings_from books bs (cs ++ c ∷ []) ≡ after_change books c (bookings_from books bs cs)
   from_more bs [] c = refl
   from_more bs (d ∷ ds) c = from_more (after_change books d bs) ds c
+
+  -- change by change they come out as the live events book
+  pub folded_are : (cs : List Change) → bookings_from books [] cs ≡ bookings_at books cs
+  folded_are cs =
+      same_bookings (bookings_from books [] cs) (bookings_at books cs) (all cs 0 None [] tt refl).0 (live_rise books cs)
+      (λ n. (all cs n None [] tt refl).1 ∙ sym (live_booked books cs n))
+
+  pub change_more : (cs : List Change) (c : Change) → bookings_at books (cs ++ c ∷ []) ≡ after_change books c (bookings_at books cs)
+  change_more cs c = sym (folded_are (cs ++ c ∷ [])) ∙ from_more [] cs c ∙ ap (after_change books c) (folded_are cs)

@@ -5,10 +5,10 @@ use Rattle.spec_series.specs.declared.series.Series.{Series}
 use Rattle.spec_bookings.specs.declared.booking.Booking.{Booking}
 use Rattle.spec_bookings.specs.Bookings.{without_booking, with_booking}
 use Rattle.spec_bookings.specs.Rising.{AreAbove, Rise, series_booked}
-use Rattle.spec_bookings.specs.HistoryBookings.{with_booked}
+use Rattle.spec_bookings.specs.AfterChange.{with_booked}
 use Rattle.spec_bookings.proofs.Tables.{by_test, same_number, number_same, other_number, lt_true}
 
-above_less : (m n : ℕ) (bs : List Booking) → m ≤ n → AreAbove n bs → AreAbove m bs
+pub above_less : (m n : ℕ) (bs : List Booking) → m ≤ n → AreAbove n bs → AreAbove m bs
 above_less m n [] le h = tt
 above_less m n (b ∷ bs) le h = (omega (arith, le, h.0), above_less m n bs le h.1)
 
@@ -47,7 +47,7 @@ rise_with n s (b ∷ bs) h g =
     over : (b.number == n) ≡ false → nat_lt n b.number ≡ false → b.number < n
     over p e = grind (arith, nat_tests)
 
-in_above : (m n : ℕ) (bs : List Booking) → m ≤ n → AreAbove n bs → series_booked m bs ≡ None
+pub in_above : (m n : ℕ) (bs : List Booking) → m ≤ n → AreAbove n bs → series_booked m bs ≡ None
 in_above m n [] le h = refl
 in_above m n (b ∷ bs) le h = rw (other_number b.number m (λ e. omega (arith, e, le, h.0))) (in_above m n bs le h.1)
 

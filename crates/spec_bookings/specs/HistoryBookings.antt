@@ -1,30 +1,22 @@
--- The bookings that the changes of a history make in a resource. `books` gives the series that an event's object books there, if it does.
-use Rattle.std.specs.Prelude.{ℕ, List, [], ◌∷◌, Option, Some, None, if◌then◌else◌}
+-- The bookings that the live events of a history make in a resource. `books` gives the series that an event's object books there, if it does.
+use Rattle.std.specs.Prelude.{ℕ, List, [], ◌∷◌, Option, Some, None, flat_map, nat_lt, option_and_then}
+use Rattle.spec_json.specs.InOrder.{in_order}
 use Rattle.spec_json.specs.declared.tree.Tree.{Tree}
 use Rattle.spec_history.specs.declared.entry.Change.{Change}
 use Rattle.spec_history.specs.declared.entry.Kind.TheVariants.{Event}
-use Rattle.spec_history.specs.History.{is_kind}
+use Rattle.spec_history.specs.History.{ids_at, live_object}
 use Rattle.spec_series.specs.declared.series.Series.{Series}
 use Rattle.spec_bookings.specs.declared.booking.Booking.{Booking}
-use Rattle.spec_bookings.specs.Bookings.{without_booking, with_booking}
 
 -- the series that an event books, where it is live
 abbrev pub booked_by : (Tree → Option Series) → Option Tree → Option Series
-booked_by books None = None
-booked_by books (Some t) = books t
+booked_by books o = option_and_then books o
 
--- with what an event books, if it does
-abbrev pub with_booked : ℕ → Option Series → List Booking → List Booking
-with_booked n None bs = bs
-with_booked n (Some s) bs = with_booking n s bs
+-- the booking under a number, where a series is booked
+abbrev pub booking_of : ℕ → Option Series → List Booking
+booking_of n None = []
+booking_of n (Some s) = record { number = n; series = s } ∷ []
 
--- a change of an event takes its booking out, and books what the event books from now on
-abbrev pub after_change : (Tree → Option Series) → Change → List Booking → List Booking
-after_change books c bs = if is_kind Event c.kind then with_booked c.id (booked_by books c.object) (without_booking c.id bs) else bs
-
-abbrev pub bookings_from : (Tree → Option Series) → List Booking → List Change → List Booking
-bookings_from books bs [] = bs
-bookings_from books bs (c ∷ cs) = bookings_from books (after_change books c bs) cs
-
+-- what each live event books, in order of their numbers, which is that of creation
 abbrev pub bookings_at : (Tree → Option Series) → List Change → List Booking
-bookings_at books cs = bookings_from books [] cs
+bookings_at books cs = flat_map (λ n. booking_of n (booked_by books (live_object cs Event n))) (in_order nat_lt (ids_at cs Event))

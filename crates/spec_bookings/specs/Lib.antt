@@ -1,6 +1,7 @@
 pub mod Bookings
 pub mod Clashes
 pub mod HistoryBookings
+pub mod AfterChange
 pub mod Rising
 pub mod Free
 pub mod Resources

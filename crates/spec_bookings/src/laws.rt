@@ -8,7 +8,8 @@ ghost use Rattle.spec_series.specs.declared.series.Series.{Series};
 ghost use Rattle.spec_bookings.specs.declared.booking.Booking.{Booking};
 ghost use Rattle.spec_bookings.specs.Bookings.{without_booking, with_booking};
 ghost use Rattle.spec_bookings.specs.Clashes.{IsClear};
-ghost use Rattle.spec_bookings.specs.HistoryBookings.{booked_by, after_change, bookings_at};
+ghost use Rattle.spec_bookings.specs.AfterChange.{after_change};
+ghost use Rattle.spec_bookings.specs.HistoryBookings.{booked_by, bookings_at};
 ghost use Rattle.spec_bookings.specs.Rising.{Rise, series_booked};
 ghost use Rattle.spec_bookings.specs.Free.{IsFree};
 
