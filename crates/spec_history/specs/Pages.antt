@@ -1,7 +1,8 @@
 -- Pages of changes: what was created, updated and destroyed between two states of a kind (RFC 8620 section 5.2).
-use Rattle.std.specs.Prelude.{ℕ, zero, suc, ◌+◌, ◌-◌, List, [], ◌∷◌, ◌==◌, ◌&&◌, not, Bool, true, false, Option, Some, None, length, take, drop, map, filter, fold, if◌then◌else◌, nat_le, is_some}
+use Rattle.std.specs.Prelude.{ℕ, zero, suc, ◌+◌, ◌-◌, List, [], ◌∷◌, ◌==◌, ◌&&◌, not, Bool, true, false, Option, Some, None, length, take, drop, map, filter, if◌then◌else◌, nat_le, is_some}
 use Rattle.std.specs.List.{list_any}
-use Rattle.spec_history.specs.History.{is_kind, with_id}
+use Rattle.std.specs.Option.{option_map_or, option_or}
+use Rattle.spec_history.specs.History.{is_kind}
 use Rattle.spec_history.specs.declared.entry.Change.{Change}
 use Rattle.spec_history.specs.declared.entry.Kind.{Kind}
 
@@ -13,18 +14,21 @@ pub record Mention : Type 0 where
 abbrev pub mention_of : Change → Mention
 mention_of c = record { id = c.id; puts = is_some c.object }
 
--- the mentions of one kind, so that a state counts the first of them
+-- the mentions of one kind, so that a state counts the first of them (RFC 8620 section 5.1)
 abbrev pub mentions : Kind → List Change → List Mention
 mentions kind cs = map mention_of (filter (λ c. is_kind kind c.kind) cs)
 
--- the last mention of an id decides whether it is live; `before` says whether it was
-abbrev pub live_from : Bool → List Mention → ℕ → Bool
-live_from before [] id = before
-live_from before (m ∷ ms) id = live_from (if m.id == id then m.puts else before) ms id
+abbrev pub last : {X : Type 0} → List X → Option X
+last [] = None
+last (x ∷ xs) = option_or (last xs) (Some x)
+
+-- the last mention of an id puts an object
+abbrev pub is_put_last : List Mention → ℕ → Bool
+is_put_last ms id = option_map_or (λ m. m.puts) (last (filter (λ m. m.id == id) ms)) false
 
 -- an id is live at state k
 abbrev pub is_live : List Mention → ℕ → ℕ → Bool
-is_live ms k id = live_from false (take k ms) id
+is_live ms k id = is_put_last (take k ms) id
 
 -- an id is mentioned after state k and up to state j
 abbrev pub is_touched : List Mention → ℕ → ℕ → ℕ → Bool
@@ -42,9 +46,14 @@ is_destroyed ms k j id = is_live ms k id && not (is_live ms j id)
 abbrev pub is_in : List ℕ → ℕ → Bool
 is_in ids id = list_any (λ n. n == id) ids
 
--- the different ids, in order of creation, which is that of their first mention
+-- each of these numbers once, where it comes first
+abbrev pub distinct : List ℕ → List ℕ
+distinct [] = []
+distinct (n ∷ ns) = n ∷ filter (λ m. not (m == n)) (distinct ns)
+
+-- the ids that are mentioned, in order of creation, which is that of their first mention
 abbrev pub ids_of : List Mention → List ℕ
-ids_of ms = fold (λ ids m. with_id ids m.id) [] ms
+ids_of ms = distinct (map (λ m. m.id) ms)
 
 abbrev pub created : List Mention → ℕ → ℕ → List ℕ
 created ms k j = filter (λ id. is_created ms k j id) (ids_of ms)

@@ -1,10 +1,11 @@
 -- What is live at an earlier state.
 use Rattle.std.proofs.Common.{◌≡◌, ℕ, zero, suc, List, [], ◌∷◌, Bool, true, false, cond, is_some, take, map, filter, refl, sym, ap, ◌∙◌, None}
 use Rattle.spec_history.specs.History.{is_kind, live_object}
-use Rattle.spec_history.specs.Pages.{is_live, live_from, mention_of, mentions}
+use Rattle.spec_history.specs.Pages.{is_live, mention_of, mentions}
 use Rattle.spec_history.specs.declared.entry.Change.{Change}
 use Rattle.spec_history.specs.declared.entry.Kind.{Kind}
 use Rattle.state_log.proofs.LawLemmas.{live_objects}
+use Rattle.state_log.proofs.MentionLemmas.{live_from}
 
 take_map : (k : ℕ) (cs : List Change) → take k (map mention_of cs) ≡ map mention_of (take k cs)
 take_map zero cs = refl

@@ -1,4 +1,5 @@
 pub mod MentionLemmas
+pub mod IdLemmas
 pub mod StandingLemmas
 pub mod SizeLemmas
 pub mod EndLemmas

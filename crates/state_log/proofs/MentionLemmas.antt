@@ -1,10 +1,11 @@
 -- One more mention: what is live and touched after it.
-use Rattle.std.proofs.Common.{◌≡◌, ◌≤◌, ◌<◌, ◌+◌, ◌==◌, ℕ, zero, suc, List, [], ◌∷◌, ◌++◌, ◌||◌, Bool, true, false, cond, if◌then◌else◌, length, take, drop, get_or, arith, refl, sym, ap, ◌∙◌, eq-eqb}
+use Rattle.std.proofs.Common.{◌≡◌, ◌≤◌, ◌<◌, ◌+◌, ◌==◌, ℕ, zero, suc, List, [], ◌∷◌, ◌++◌, ◌||◌, Bool, true, false, cond, Option, Some, None, filter, length, take, drop, get_or, arith, refl, sym, ap, ◌∙◌, eq-eqb}
 use Rattle.std.proofs.lemmas.Bool.{or_parts, or_right}
 use Rattle.std.proofs.lemmas.List.{take_more, take-append-drop, drop-append-le, length-take-le}
 use Rattle.std.proofs.lemmas.List.Folds.{list_any-append}
 use Rattle.std.specs.List.{list_any}
-use Rattle.spec_history.specs.Pages.{Mention, live_from, is_live, is_touched}
+use Rattle.std.specs.Option.{option_map_or}
+use Rattle.spec_history.specs.Pages.{Mention, is_live, is_touched, last}
 use Rattle.state_log.specs.Standing.{is_named_after}
 
 -- an id is mentioned
@@ -15,19 +16,34 @@ pub or_none : (b : Bool) → (b || false) ≡ b
 or_none true = refl
 or_none false = refl
 
+-- whether the last mention of an id puts an object, or else what was before them
+abbrev pub live_from : Bool → List Mention → ℕ → Bool
+live_from before ms id = option_map_or (λ m. m.puts) (last (filter (λ m. m.id == id) ms)) before
+
+-- which each mention, one after the other, decides anew
+pub live_from-cons : (m : Mention) (ms : List Mention) (before : Bool) (id : ℕ) → live_from before (m ∷ ms) id ≡ live_from (cond (m.id == id) m.puts before) ms id
+live_from-cons m ms before id = by_cases (m.id == id) (last (filter (λ n. n.id == id) ms)) refl
+  where
+    by_cases : (same : Bool) (o : Option Mention) → last (filter (λ n. n.id == id) ms) ≡ o
+        → option_map_or (λ n. n.puts) (last (cond same (m ∷ filter (λ n. n.id == id) ms) (filter (λ n. n.id == id) ms))) before ≡ live_from (cond same m.puts before) ms id
+    by_cases false o e = refl
+    by_cases true None e = rw e refl
+    by_cases true (Some n) e = rw e refl
+
 pub live_from-append : (ms ns : List Mention) (before : Bool) (id : ℕ) → live_from before (ms ++ ns) id ≡ live_from (live_from before ms id) ns id
 live_from-append [] ns before id = refl
-live_from-append (m ∷ ms) ns before id = live_from-append ms ns (if m.id == id then m.puts else before) id
+live_from-append (m ∷ ms) ns before id =
+    live_from-cons m (ms ++ ns) before id ∙ live_from-append ms ns (cond (m.id == id) m.puts before) id ∙ ap (λ b. live_from b ns id) (sym (live_from-cons m ms before id))
 
 -- an id that isn't mentioned is as before
 pub live_from_unnamed : (ms : List Mention) (before : Bool) (id : ℕ) → is_named ms id ≡ false → live_from before ms id ≡ before
 live_from_unnamed [] before id h = refl
 live_from_unnamed (m ∷ ms) before id h =
     let parts = or_parts (m.id == id) (is_named ms id) h in
-    rw parts.0 (live_from_unnamed ms before id parts.1)
+    live_from-cons m ms before id ∙ rw parts.0 (live_from_unnamed ms before id parts.1)
 
 pub is_live_more : (ms : List Mention) (i : ℕ) (d : Mention) (id : ℕ) → i < length ms → is_live ms (i + 1) id ≡ cond ((get_or ms i d).id == id) (get_or ms i d).puts (is_live ms i id)
-is_live_more ms i d id h = rw (take_more ms i d h) (live_from-append (take i ms) (get_or ms i d ∷ []) false id)
+is_live_more ms i d id h = rw (take_more ms i d h) (live_from-append (take i ms) (get_or ms i d ∷ []) false id ∙ live_from-cons (get_or ms i d) [] (is_live ms i id) id)
 
 pub is_touched_more : (ms : List Mention) (k j : ℕ) (d : Mention) (id : ℕ) → k ≤ j → j < length ms → is_touched ms k (j + 1) id ≡ (is_touched ms k j id || ((get_or ms j d).id == id))
 is_touched_more ms k j d id le h =

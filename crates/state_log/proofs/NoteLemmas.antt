@@ -12,8 +12,9 @@ use Rattle.indexmap.specs.IndexMap.{insert_entry}
 use Rattle.indexmap.specs.IndexSet.{insert_key}
 use Rattle.indexmap.proofs.SetLemmas.{inserted_at, keys_insert_entry}
 use Rattle.spec_history.specs.History.{with_id}
-use Rattle.spec_history.specs.Pages.{Mention, ids_of, is_live, is_touched, live_from}
-use Rattle.state_log.proofs.MentionLemmas.{is_live_untouched, live_from-append, or_none, is_named}
+use Rattle.spec_history.specs.Pages.{Mention, ids_of, is_live, is_touched}
+use Rattle.state_log.proofs.MentionLemmas.{is_live_untouched, live_from, live_from-append, live_from-cons, or_none, is_named}
+use Rattle.state_log.proofs.IdLemmas.{ids_folded}
 use Rattle.state_log.proofs.SizeLemmas.{eqb_sym}
 use Rattle.state_log.proofs.StandingLemmas.{standing_begun}
 use Rattle.state_log.specs.Standing.{begun, is_named_after, only_if, standing}
@@ -40,7 +41,7 @@ length-said ns = length-map ns mention_in
 -- ---- one more mention
 
 ids_of_more : (ms : List Mention) (m : Mention) → ids_of (ms ++ m ∷ []) ≡ with_id (ids_of ms) m.id
-ids_of_more ms m = fold-append (λ ids (n : Mention). with_id ids n.id) [] ms (m ∷ [])
+ids_of_more ms m = ids_folded (ms ++ m ∷ []) ∙ fold-append (λ ids (n : Mention). with_id ids n.id) [] ms (m ∷ []) ∙ ap (λ ids. with_id ids m.id) (sym (ids_folded ms))
 
 stays : (b : Bool) (ids : List ℕ) (id r x : ℕ) → slice_get ids r ≡ Some x → slice_get (cond b ids (ids ++ id ∷ [])) r ≡ Some x
 stays true ids id r x h = h
@@ -82,7 +83,7 @@ kept_or_put true p o x h = refl
 kept_or_put false p o x h = h
 
 pub live_more : (live after : ℕ → Option Bool) (ms : List Mention) (m : Mention) → AreLive live ms → ((q : ℕ) → after q ≡ cond (nat_eq m.id q) (Some m.puts) (live q)) → AreLive after (ms ++ m ∷ [])
-live_more live after ms m h puts = λ q. ap (λ o. unwrap_or o false) (puts q) ∙ kept_or_put (nat_eq m.id q) m.puts (live q) (live_from false ms q) (h q) ∙ sym (live_from-append ms (m ∷ []) false q)
+live_more live after ms m h puts = λ q. ap (λ o. unwrap_or o false) (puts q) ∙ kept_or_put (nat_eq m.id q) m.puts (live q) (live_from false ms q) (h q) ∙ sym (live_from-append ms (m ∷ []) false q ∙ live_from-cons m [] (live_from false ms q) q)
 
 -- ---- the keys of the map
 

@@ -2,7 +2,7 @@
 use Rattle.std.specs.Prelude.{◌≡◌, ◌==◌, ℕ, Bool, false, List, map, Option, Some, slice_get, unwrap_or}
 use Rattle.std.specs.List.{list_any}
 use Rattle.std.specs.List.Sorted.{IsStrictlyIncreasing}
-use Rattle.spec_history.specs.Pages.{Mention, ids_of, is_in, is_live, live_from}
+use Rattle.spec_history.specs.Pages.{Mention, ids_of, is_in, is_live, is_put_last}
 use Rattle.state_log.specs.declared.change_index.Note.{Note}
 
 -- what a note says, without what it adds
@@ -22,7 +22,7 @@ AreNotes ns = (i : ℕ) (n : Note) → slice_get ns i ≡ Some n → IsNote (sai
 
 -- a map tells which ids are live after all mentions
 abbrev pub AreLive : (ℕ → Option Bool) → List Mention → Type 0
-AreLive live ms = (id : ℕ) → unwrap_or (live id) false ≡ live_from false ms id
+AreLive live ms = (id : ℕ) → unwrap_or (live id) false ≡ is_put_last ms id
 
 abbrev pub has_rank : List Note → ℕ → Bool
 has_rank ns r = list_any (λ n. n.rank == r) ns

@@ -3,7 +3,7 @@ use Rattle.std.proofs.lemmas.Result.{IfOk-at_ok}
 use Rattle.std.specs.List.{position_or_len}
 use Rattle.std.specs.Map.{keys_of}
 use Rattle.indexmap.specs.IndexMap.{get, keys}
-use Rattle.spec_history.specs.Pages.{Mention, ids_of, live_from}
+use Rattle.spec_history.specs.Pages.{Mention, ids_of, is_put_last}
 use Rattle.state_log.proofs.NoteLemmas.{noted_more, live_more, ordered_more, rank_found, said_more}
 use Rattle.state_log.specs.Notes.{AreLive, AreNotes, said}
 use Rattle.state_log.specs.declared.change_index.Note.{Note}
@@ -20,7 +20,7 @@ invariant_of-self c =
     let index = IfOk-at_ok _ c.unwrap-rank.ensures c.insert_full.ensures.index in
     let before = IfOk-at_ok _ c.unwrap-rank.ensures c.insert_full.ensures.old in
     let ordered : keys c.insert_full.new.self ≡ ids_of (said ns ++ m ∷ []) = ordered_more t.live.entries c.insert_full.new.self.entries (said ns) m c.args.puts t.ordered entries in
-    let was : n.was_live ≡ live_from false (said ns) m.id = c.unwrap_or.ensures ∙ ap (λ o. unwrap_or o false) before ∙ t.known m.id in
+    let was : n.was_live ≡ is_put_last (said ns) m.id = c.unwrap_or.ensures ∙ ap (λ o. unwrap_or o false) before ∙ t.known m.id in
     let rank : slice_get (ids_of (said ns ++ m ∷ [])) n.rank ≡ Some m.id =
     ap (λ l. slice_get l n.rank) (sym ordered) ∙ ap (λ j. slice_get (keys c.insert_full.new.self) j) index ∙ ap (λ es. slice_get (keys_of es) (position_or_len (nat_eq m.id) (keys_of t.live.entries))) entries ∙ rank_found t.live.entries m.id c.args.puts in
     record {
