@@ -31,7 +31,7 @@ RESTATED = {
         "bookings_clash_where_two_would_cover_a_second", "IsClash any_covers is_clash IsClear first_covering clash_at first_clash",
     ),
     "spec_bookings/BookedResources": ("bookings_clash_where_two_would_cover_a_second", "clash_in first_clash_in clash_of_event"),
-    "spec_bookings/HistoryBookings": ("bookings_are_of_live_events", "with_booked after_change bookings_from bookings_at"),
+    "spec_bookings/HistoryBookings": ("bookings_are_of_live_events", "booking_of bookings_at"),
     "spec_recurrence/SeriesOf": ("events_have_one_series", ""),
     "spec_windows/Meetings": ("meetings_are_found", "has_passing has_meeting"),
     "spec_availability/BusyInstants": ("events_take_up_their_occurrences", "is_occupied"),

@@ -3,3 +3,4 @@ mod EventLemmas
 mod ExceptionLemmas
 mod OccurrenceLemmas
 pub mod SeriesLemmas
+mod ValidLemmas

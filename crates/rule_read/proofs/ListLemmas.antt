@@ -94,7 +94,7 @@ day_by : (o : Option (List ℕ)) (w : ℕ) → option_and_then weekday_named o �
 day_by None w h = cc
 day_by (Some s) w h = weekday_bound s w h
 
-day_pass : (o : Option Data) (w : ℕ) → option_and_then weekday_in o ≡ Some w → nat_lt w 7 ≡ true
+pub day_pass : (o : Option Data) (w : ℕ) → option_and_then weekday_in o ≡ Some w → nat_lt w 7 ≡ true
 day_pass None w h = cc
 day_pass (Some d) w h = day_by (as_text d) w h
 

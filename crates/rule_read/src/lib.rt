@@ -12,6 +12,6 @@ mod words;
 mod write;
 
 pub use error::RulesError;
-pub use laws::written_rules_are_read;
+pub use laws::{read_rules_are_meant, written_rules_are_read};
 pub use read::read_rules;
 pub use write::rule_tree;
