@@ -1,6 +1,6 @@
 -- The laws of refusals.
 use Rattle.account_rooms.proofs.Outcomes.{clashes_are_exact, clashes_are_first, clashes_are_of_storing, others_are_stored}
-use Rattle.account_rooms.proofs.laws.bookings_clash_where_two_would_cover_a_second.Goals as goal
+use Rattle.account_rooms.proofs.clash_laws.bookings_clash_where_two_would_cover_a_second.Goals as goal
 
 pub returns-clause-exact : goal.returns-clause-exact
 returns-clause-exact c = clashes_are_exact
