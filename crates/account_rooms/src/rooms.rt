@@ -14,11 +14,11 @@ use crate::slot::{
     slot_of, undo_all,
 };
 use event_series::read::series_of;
+use resource_book::Room;
+use spec_bookings::clash::Clash;
 use spec_history::entry::{Change, Kind};
 use spec_json::tree::Tree;
-use spec_bookings::clash::Clash;
 use spec_series::series::Series;
-use resource_book::Room;
 use std::alloc::{AllocError, Global};
 use std::marker::Model;
 use zone_table::Zones;

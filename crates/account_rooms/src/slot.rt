@@ -6,10 +6,10 @@ ghost use Rattle.account_rooms.specs.Slots.{booked, closed, kept_slot, retired, 
 ghost use Rattle.spec_json.specs.TreeData.{data_of};
 ghost use Rattle.spec_series.specs.Lengths.{IsWeekLong};
 
-use spec_json::tree::Tree;
-use spec_series::series::Series;
 use resource_book::Room;
 use single_event::calendars::names_calendar;
+use spec_json::tree::Tree;
+use spec_series::series::Series;
 use std::alloc::{AllocError, Global};
 
 /// A resource calendar with its room.

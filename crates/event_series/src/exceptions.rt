@@ -8,9 +8,9 @@ ghost use Rattle.spec_recurrence.specs.Recurrence.{bad_properties_of_event};
 ghost use Rattle.overrides.specs.declared.exceptions.OverrideError.TheVariants.{NoMemory};
 ghost use Rattle.spec_series.specs.SeriesLimits.{are_distinct, are_in_years, are_short};
 
+use overrides::exceptions::{OverrideError, exceptions};
 use spec_json::tree::{Member, Tree};
 use spec_series::exception::Exceptions;
-use overrides::exceptions::{OverrideError, exceptions};
 use std::alloc::{AllocError, Global};
 use zone_table::Zones;
 

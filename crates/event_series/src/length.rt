@@ -5,9 +5,9 @@ ghost use Rattle.spec_json.specs.TreeData.{data_of};
 ghost use Rattle.spec_recurrence.specs.Recurrence.{bad_properties_of_event};
 ghost use Rattle.spec_series.specs.SeriesLimits.{wall_seconds};
 
+use single_event::parts::given_length;
 use spec_json::tree::Tree;
 use spec_time::length::Length;
-use single_event::parts::given_length;
 use zone_table::Zones;
 
 /// How long an event lasts that has no bad properties.

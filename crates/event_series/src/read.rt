@@ -9,9 +9,9 @@ use crate::exceptions::exceptions_of;
 use crate::length::length_of;
 use event_model::names::bad_event_names;
 use event_model::rules::rules_of_event;
+use single_event::parts::{is_occupying, start_of};
 use spec_json::tree::Tree;
 use spec_series::series::Series;
-use single_event::parts::{is_occupying, start_of};
 use std::alloc::{AllocError, Global};
 use zone_table::Zones;
 
