@@ -7,9 +7,9 @@ ghost use Rattle.cal_model.specs.Gets.{is_asked_for};
 ghost use Rattle.spec_json.specs.Data.{Data};
 ghost use Rattle.property_table.specs.Names.{has_name};
 
+use object_outcomes::texts::copies;
 use spec_json::lists::Texts;
 use spec_json::text::Text;
-use object_outcomes::texts::copies;
 use std::alloc::{AllocError, Global};
 use std::collections::BTreeSet;
 use std::marker::Model;

@@ -7,6 +7,7 @@ ghost use Rattle.spec_queries.specs.States.{is_maximum};
 
 use crate::ledger::Ledger;
 use crate::reply::{refusal, reply};
+use query_methods::ids::id_list;
 use spec_calls::call::{ChangesArguments, MethodError, Reply};
 use spec_core::numbers::MAX_UNSIGNED_INT;
 use spec_history::entry::Kind;
@@ -14,7 +15,6 @@ use spec_json::lists::Pairs;
 use spec_json::num::Num;
 use spec_json::text::Text;
 use spec_json::tree::Tree;
-use query_methods::ids::id_list;
 use state_log::{ChangesError, Page};
 use std::alloc::{AllocError, Global};
 use time_text::{read_state, state_text};

@@ -12,11 +12,11 @@ use crate::asked::Asked;
 use crate::occurrences::occurrence_of_id;
 use crate::properties::select;
 use account_store::Store;
+use set_methods::asked_ids::asked_ids;
 use spec_history::entry::Kind;
 use spec_json::lists::Texts;
 use spec_json::text::Text;
 use spec_json::tree::Tree;
-use set_methods::asked_ids::asked_ids;
 use std::alloc::{AllocError, Global};
 use time_text::read_object_id;
 

@@ -12,22 +12,18 @@ use crate::ledger::Ledger;
 use crate::properties::are_properties;
 use crate::reply::{refusal, reply};
 use account_store::Store;
+use object_outcomes::texts::text_list;
 use spec_calls::call::{GetArguments, MethodError, Reply};
 use spec_core::limits::MAX_OBJECTS_IN_GET;
 use spec_history::entry::Kind;
 use spec_json::lists::{Pairs, Texts};
 use spec_json::text::Text;
 use spec_json::tree::{Tree, TreeList};
-use object_outcomes::texts::text_list;
 use std::alloc::{AllocError, Global};
 use time_text::state_text;
 
 /// Answers a get of objects of a kind. A name that no property of the kind has is told before too many objects.
-pub fn get(
-    ledger: &Ledger,
-    arguments: &GetArguments,
-    created: &Pairs,
-) -> Result<Reply, AllocError>
+pub fn get(ledger: &Ledger, arguments: &GetArguments, created: &Pairs) -> Result<Reply, AllocError>
     ensures { IfOk result (λ r. r ≡ get_answer (base ledger.now).account_id (ledger_entries ledger.now) created.now arguments.now) }
 {
     let kind = arguments.kind;

@@ -12,7 +12,8 @@ use crate::reply::{refusal, reply};
 use expanded_query::expanded_query;
 use query_methods::error::QueryError;
 use spec_calls::call::{
-    AvailabilityArguments, Criteria, MethodError, Paging, QueryArguments, QueryChangesArguments, Reply,
+    AvailabilityArguments, Criteria, MethodError, Paging, QueryArguments, QueryChangesArguments,
+    Reply,
 };
 use spec_json::lists::Pairs;
 use spec_json::tree::Tree;
@@ -29,11 +30,7 @@ pub fn query(ledger: &Ledger, arguments: &QueryArguments) -> Result<Reply, Alloc
     }
 }
 
-fn find_events(
-    ledger: &Ledger,
-    criteria: &Criteria,
-    paging: &Paging,
-) -> Result<Reply, AllocError>
+fn find_events(ledger: &Ledger, criteria: &Criteria, paging: &Paging) -> Result<Reply, AllocError>
     ensures { IfOk result (λ r. r ≡ query_answer (base ledger.now) (ledger_entries ledger.now) (events_asked criteria.now paging.now)) }
 {
     let found = query_methods::query::query(
@@ -74,10 +71,7 @@ pub fn query_changes(
 }
 
 /// Answers when the owner of the account is busy (draft JMAP for Calendars).
-pub fn availability(
-    ledger: &Ledger,
-    arguments: &AvailabilityArguments,
-) -> Result<Reply, AllocError>
+pub fn availability(ledger: &Ledger, arguments: &AvailabilityArguments) -> Result<Reply, AllocError>
     ensures { IfOk result (λ r. r ≡ availability_answer (base ledger.now) (ledger_entries ledger.now) arguments.now) }
 {
     let alloc = ledger.alloc;

@@ -10,13 +10,13 @@ ghost use Rattle.set_methods.specs.Requests.{ground_at, objects_in};
 
 use crate::ledger::Ledger;
 use crate::reply::{refusal, reply};
+use set_methods::plan::plan;
+use set_methods::planned::PlanError;
+use set_methods::request::SetRequest;
 use spec_calls::call::{Reply, SetArguments};
 use spec_history::stamp::Stamp;
 use spec_json::lists::Pairs;
 use spec_time::moment::Moment;
-use set_methods::plan::plan;
-use set_methods::planned::PlanError;
-use set_methods::request::SetRequest;
 use std::alloc::AllocError;
 
 /// Answers a set of objects of a kind, and adds its entries. After running out of memory the entries are as before.

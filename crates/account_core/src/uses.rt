@@ -8,9 +8,9 @@ ghost use Rattle.spec_history.specs.declared.entry.Kind.TheVariants.{Event as ev
 
 use crate::ledger::Ledger;
 use cal_model::view::AccountView;
+use single_event::calendars::names_calendar;
 use spec_history::entry::{Change, Kind};
 use spec_json::tree::Tree;
-use single_event::calendars::names_calendar;
 
 /// Whether a live event is in a calendar. Takes no memory, and time with the number of events.
 pub(crate) fn has_event(ledger: &Ledger, calendar: u64) -> bool

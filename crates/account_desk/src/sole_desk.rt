@@ -4,11 +4,11 @@ ghost use Rattle.account_desk.specs.SoleDesk.{fresh_account, of_desk, shown_of};
 ghost use Rattle.account_desk.specs.FreshDesk.{IsSole, fresh_desk};
 
 use account_core::account::Account;
+use session_doc::Site;
 use spec_batch::desk::{Desk, DeskError};
 use spec_calls::call::{Call, Reply};
 use spec_history::book::Book;
 use spec_time::moment::Moment;
-use session_doc::Site;
 use std::alloc::{AllocError, Global};
 use std::marker::Model;
 use std::sync::Arc;

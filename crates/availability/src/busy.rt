@@ -9,11 +9,11 @@ ghost use Rattle.spec_windows.specs.Clocks.{instant_in};
 
 use crate::periods::{add_period, common_of, is_empty};
 use jiff_tz::posix::TimeZone;
+use occurrence_windows::{expanded, span_of};
 use spec_series::occurrence::Occurrence;
 use spec_series::series::Series;
 use spec_windows::period::Period;
 use spec_windows::window::Window;
-use occurrence_windows::{expanded, span_of};
 use std::alloc::{AllocError, Global};
 
 /// The busy periods of a window: the maximal runs of its instants at which an occurrence takes up time, in order.

@@ -7,8 +7,8 @@ ghost use Rattle.spec_batch.specs.Meaning.{grant_of};
 ghost use Rattle.spec_json.specs.Parts.{as_object, as_text, as_texts};
 
 use spec_calls::call::{
-    Asks, AvailabilityArguments, Call, ChangesArguments, Criteria, GetArguments, Paging, QueryArguments,
-    QueryChangesArguments, SetArguments,
+    Asks, AvailabilityArguments, Call, ChangesArguments, Criteria, GetArguments, Paging,
+    QueryArguments, QueryChangesArguments, SetArguments,
 };
 use spec_calls::method::Method;
 use spec_core::user::{Grant, Grants};

@@ -7,6 +7,7 @@ ghost use Rattle.batch_exec.specs.Judgements.{account_is_below, created_with, me
 
 use crate::arguments::are_well_given;
 use crate::call::{call_from, grant_of};
+use result_refs::{ReferenceError, resolve};
 use spec_batch::method_response::MethodResponse;
 use spec_calls::call::{Call, MethodError};
 use spec_calls::method::Method;
@@ -14,7 +15,6 @@ use spec_core::user::User;
 use spec_json::lists::Pairs;
 use spec_json::text::Text;
 use spec_json::tree::TreeObject;
-use result_refs::{ReferenceError, resolve};
 use std::alloc::{AllocError, Global};
 
 /// What an invocation means. Its arguments have the values of the references.

@@ -2,9 +2,9 @@
 ghost use Rattle.std.specs.Prelude.{◌≡◌};
 ghost use Rattle.cal_model.specs.SetErrors.{set_error_type};
 
+use spec_bookings::clash::Clash;
 use spec_json::lists::Texts;
 use spec_json::text::Text;
-use spec_bookings::clash::Clash;
 
 /// Why one object of a set was refused (RFC 8620 section 5.3). It changed nothing.
 #[derive(Drop)]

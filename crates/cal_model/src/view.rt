@@ -13,9 +13,9 @@ ghost use Rattle.spec_bookings.specs.Resources.{is_resource, resources_at};
 ghost use Rattle.spec_bookings.specs.Clashes.{IsClear, first_clash};
 ghost use Rattle.spec_series.specs.Lengths.{IsWeekLong};
 
+use spec_bookings::clash::Clash;
 use spec_history::entry::{Change, Kind};
 use spec_json::tree::Tree;
-use spec_bookings::clash::Clash;
 use spec_series::series::Series;
 use std::alloc::{AllocError, Global};
 

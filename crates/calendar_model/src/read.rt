@@ -8,12 +8,12 @@ ghost use Rattle.spec_json.specs.TreeData.{data_of};
 
 use crate::calendar::Calendar;
 use crate::table::CalendarTable;
+use property_table::table::failing_names;
 use spec_events::values::copy_at;
 use spec_json::lists::Texts;
 use spec_json::num::Num;
 use spec_json::text::Text;
 use spec_json::tree::Tree;
-use property_table::table::failing_names;
 use std::alloc::{AllocError, Global};
 use zone_table::Zones;
 

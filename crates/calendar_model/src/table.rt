@@ -6,10 +6,10 @@ ghost use Rattle.spec_site.specs.TimeZones.{has_zone};
 ghost use Rattle.property_table.specs.Table.{test_at};
 ghost use Rattle.property_table.specs.Values.{is_text_that};
 
-use spec_history::entry::Kind;
-use spec_json::tree::Tree;
 use property_table::table::PropertyTable;
 use property_table::values::{is_name, is_text, is_truth, is_unsigned_int};
+use spec_history::entry::Kind;
+use spec_json::tree::Tree;
 use std::alloc::AllocError;
 use time_text::read_object_id;
 use zone_table::Zones;

@@ -10,9 +10,9 @@ use crate::route::{Route, route_of, success, with_problem};
 use http_edge::message::Message;
 use http_edge::response::response_bytes;
 use io_edge::clock::Clock;
+use session_doc::Site;
 use spec_batch::desk::{Desk, DeskError, Front};
 use spec_time::moment::Moment;
-use session_doc::Site;
 use std::alloc::{AllocError, Global};
 
 /// The bytes of the response to a message, behind which the connection ends or doesn't.

@@ -12,9 +12,9 @@ use http_edge::bytes::Bytes;
 use http_edge::message::Message;
 use http_edge::response::Response;
 use json_edge::write::tree_text;
+use session_doc::Site;
 use spec_json::text::Text;
 use spec_json::tree::Tree;
-use session_doc::Site;
 use std::alloc::{AllocError, Global};
 
 /// Where the session object is (RFC 8620 section 2.2).

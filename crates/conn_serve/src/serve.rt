@@ -15,9 +15,9 @@ use http_edge::response::{Response, response_bytes};
 use io_edge::clock::Clock;
 use io_edge::sink::{Sink, put_all};
 use io_edge::source::Source;
+use session_doc::Site;
 use spec_batch::desk::{Desk, DeskError, Front};
 use spec_connection::served::{ConnEnd, MAX_MESSAGES, Served, end_for};
-use session_doc::Site;
 use std::alloc::{AllocError, Global};
 
 /// Answers the messages of a connection for the users of a site, in order (RFC 9112, RFC 8620 section 3).

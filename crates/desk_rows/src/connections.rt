@@ -4,8 +4,8 @@ use conn_serve::serve::serve_connection;
 use io_edge::memory_clock::StillClock;
 use io_edge::memory_sink::SureSink;
 use io_edge::memory_source::SureSource;
-use spec_json::text::Text;
 use session_doc::Site;
+use spec_json::text::Text;
 use std::alloc::{AllocError, Global};
 
 /// A site with two accounts, of which the user has the first.

@@ -6,10 +6,10 @@ mod batches;
 mod connections;
 mod pair_desk;
 
-use spec_json::tree::Tree;
 use row_table::line::{tree_in, unrolled};
 use row_table::row::Row;
 use row_table::trial::{NOT_READ, Trial, try_rows, unless_answered};
+use spec_json::tree::Tree;
 use std::alloc::{AllocError, Global};
 use std::io;
 

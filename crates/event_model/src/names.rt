@@ -4,9 +4,9 @@ ghost use Rattle.spec_json.specs.TreeData.{data_of};
 ghost use Rattle.spec_recurrence.specs.Recurrence.{bad_properties_of_event};
 
 use crate::table::RecurringEventTable;
+use property_table::table::failing_names;
 use spec_json::text::Text;
 use spec_json::tree::Tree;
-use property_table::table::failing_names;
 use std::alloc::{AllocError, Global};
 use zone_table::Zones;
 

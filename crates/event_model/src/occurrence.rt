@@ -11,14 +11,14 @@ ghost use Rattle.spec_time.specs.Walls.{is_in_years};
 use crate::dates::{day_of, second_of};
 use crate::ids::occurrence_id_text;
 use crate::rules::{is_day, rules_of_event};
+use overrides::occurrence::occurrence_tree;
+use single_event::parts::start_of;
+use single_event::recurrence::has_recurrence;
 use spec_history::entry::Kind;
 use spec_json::text::Text;
 use spec_json::tree::{Tree, TreeObject};
 use spec_recurrence::limits::MAX_OVERRIDES;
 use spec_time::wall::Wall;
-use overrides::occurrence::occurrence_tree;
-use single_event::parts::start_of;
-use single_event::recurrence::has_recurrence;
 use std::alloc::{AllocError, Global};
 use time_text::{local_text, object_id_text};
 

@@ -8,13 +8,13 @@ ghost use Rattle.spec_series.specs.RuleSets.{is_in_set};
 ghost use Rattle.spec_time.specs.Walls.{is_in_years};
 
 use crate::dates::day_of;
+use rule_expand::occurs_on;
+use rule_read::{RulesError, read_rules};
+use single_event::parts::start_of;
 use spec_json::tree::Tree;
 use spec_series::rule::Rule;
 use spec_series::rules::Rules;
 use spec_time::wall::Wall;
-use rule_expand::occurs_on;
-use rule_read::{RulesError, read_rules};
-use single_event::parts::start_of;
 use std::alloc::{AllocError, Global};
 
 /// The rules of an event (RFC 8984 section 4.3.3), none where it may not have them. Takes memory for them.

@@ -6,13 +6,13 @@ ghost use Rattle.spec_recurrence.specs.Overrides.{exceptions_in};
 ghost use Rattle.spec_recurrence.specs.Recurrence.{are_overrides, are_rules, recurring_event_table};
 ghost use Rattle.property_table.specs.Table.{test_at};
 
-use spec_json::tree::Tree;
 use overrides::exceptions::{OverrideError, exceptions};
 use property_table::table::PropertyTable;
 use rule_read::{RulesError, read_rules};
 use single_event::depth::is_shallow;
 use single_event::parts::start_of;
 use single_event::table::EventTable;
+use spec_json::tree::Tree;
 use std::alloc::{AllocError, Global};
 use zone_table::Zones;
 

@@ -17,14 +17,14 @@ use crate::matches::expanded_matches;
 use crate::sight::OccurrenceSight;
 use account_store::Store;
 use event_store::StoredEvents;
-use spec_calls::call::{MethodError, Paging};
-use spec_json::text::Text;
-use spec_json::tree::{Tree, TreeList};
-use spec_queries::window::{Anchor, Cut};
 use query_methods::error::QueryError;
 use query_methods::found::{Part, cut_asked, cut_out, window_tree};
 use query_order::order::Order;
 use query_order::result::result;
+use spec_calls::call::{MethodError, Paging};
+use spec_json::text::Text;
+use spec_json::tree::{Tree, TreeList};
+use spec_queries::window::{Anchor, Cut};
 use std::alloc::{AllocError, Global};
 
 /// The arguments of the reply to a query that has these ids as its result. `Method` tells that its anchor isn't one of them.

@@ -5,11 +5,11 @@ ghost use Rattle.spec_queries.specs.Expanded.{result_id};
 ghost use Rattle.spec_time.specs.Walls.{is_in_years};
 
 use event_model::ids::occurrence_id_text;
+use single_event::recurrence::has_recurrence;
 use spec_history::entry::Kind;
 use spec_json::text::Text;
 use spec_json::tree::Tree;
 use spec_time::wall::Wall;
-use single_event::recurrence::has_recurrence;
 use std::alloc::{AllocError, Global};
 use time_text::object_id_text;
 

@@ -11,13 +11,13 @@ ghost use Rattle.spec_windows.specs.Clocks.{instant_in};
 
 use event_model::occurrence::override_at;
 use jiff_tz::posix::TimeZone;
+use overrides::occurrence::occurrence_tree;
+use query_methods::item::{text_or_empty, utc_moment};
 use spec_json::text::Text;
 use spec_json::tree::{Tree, TreeObject};
 use spec_queries::item::Item;
 use spec_series::occurrence::Occurrence;
 use spec_time::wall::Wall;
-use overrides::occurrence::occurrence_tree;
-use query_methods::item::{text_or_empty, utc_moment};
 use std::alloc::{AllocError, Global};
 use time_text::local_text;
 use zone_instants::instant;

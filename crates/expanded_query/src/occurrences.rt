@@ -7,10 +7,10 @@ ghost use Rattle.spec_windows.specs.Clocks.{instant_in};
 ghost use Rattle.occurrence_windows.specs.Bounds.{AreNear};
 
 use jiff_tz::posix::TimeZone;
+use occurrence_windows::expanded;
 use spec_series::occurrence::Occurrence;
 use spec_series::series::Series;
 use spec_windows::window::Window;
-use occurrence_windows::expanded;
 use std::alloc::{AllocError, Global};
 
 /// The occurrences of a series that meet a window, by their recurrence ids.

@@ -8,11 +8,11 @@ ghost use Rattle.query_methods.specs.Reports.{Reports};
 use crate::found::{expanded_ids, found};
 use crate::terms::read_terms;
 use event_store::StoredEvents;
+use query_methods::error::QueryError;
+use query_methods::numbers::is_paging;
 use spec_calls::call::{Criteria, MethodError, Paging};
 use spec_json::text::Text;
 use spec_json::tree::Tree;
-use query_methods::error::QueryError;
-use query_methods::numbers::is_paging;
 use std::alloc::Global;
 
 /// The arguments of the reply to a query of the events of an account, each of whose occurrences is a result of its own. `Method` tells why

@@ -5,10 +5,10 @@ ghost use Rattle.spec_queries.specs.Criteria.{criteria_refusal, filter_or_all, o
 ghost use Rattle.query_methods.specs.Reports.{Reports};
 
 use crate::sight::OccurrenceSight;
-use spec_calls::call::{Criteria, MethodError};
 use query_methods::criteria::filter_and_order;
 use query_methods::error::QueryError;
 use query_order::order::Order;
+use spec_calls::call::{Criteria, MethodError};
 use std::alloc::Global;
 use zone_instants::rule_of;
 use zone_table::Zones;

@@ -8,12 +8,12 @@ ghost use Rattle.jmapd_listen.specs.Listens.{WorksWhole};
 ghost use Rattle.listen_workers.specs.Passes.{fresh_passes};
 
 use account_desk::shared_desk::{GatedAccounts, SharedDesk};
-use listen_workers::worker::worker;
 use io_edge::clock::Clock;
 use listen_edge::job::{Finished, Job, WorkerDone};
 use listen_edge::listener::ThreadListener;
-use session_doc::Site;
 use listen_workers::accounts::Hand;
+use listen_workers::worker::worker;
+use session_doc::Site;
 use std::alloc::Global;
 use std::sync::{Arc, Wait};
 

@@ -14,13 +14,13 @@ use jmapd_run::status::Status;
 use listen_edge::host::{Host, HostError};
 use listen_edge::listener::ThreadListener;
 use listen_edge::spawner::Spawner;
-use session_doc::Site;
 use listen_workers::accounts::{Hand, Office, open_office};
+use listen_workers::crew::{join_all, start_all};
+use listen_workers::listeners::open_listeners;
+use session_doc::Site;
 use std::alloc::{AllocError, Global};
 use std::mem;
 use std::sync::{Arc, Wait};
-use listen_workers::crew::{join_all, start_all};
-use listen_workers::listeners::open_listeners;
 
 /// Runs the command `listen` that `words` ask for, which are the program's words without its own name: workers share the accounts of a site, and each serves
 /// one connection of its listener after the other, until each has served as many as the words say.

@@ -12,10 +12,10 @@ use io_edge::clock::Clock;
 use io_edge::sink::{Sink, put_all};
 use io_edge::source::{InputError, Source, read_up_to};
 use json_edge::write::tree_text;
+use session_doc::Site;
 use spec_batch::desk::DeskError;
 use spec_core::limits::MAX_SIZE_REQUEST;
 use spec_time::moment::Moment;
-use session_doc::Site;
 use std::alloc::{AllocError, Global};
 
 /// A text that answers a request.

@@ -7,8 +7,8 @@ use crate::status::Status;
 use command_line::command::{Command, read_command};
 use command_line::workload::Workload;
 use io_edge::opener::{LoadError, Opener};
-use spec_site::limits::MAX_CONFIGURATION_BYTES;
 use session_doc::{ConfigurationError, Site};
+use spec_site::limits::MAX_CONFIGURATION_BYTES;
 use std::alloc::Global;
 
 /// What is to be run.

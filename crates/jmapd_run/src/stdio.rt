@@ -9,8 +9,8 @@ use conn_serve::serve::serve_connection;
 use io_edge::clock::Clock;
 use io_edge::sink::Sink;
 use io_edge::source::Source;
-use spec_connection::served::ConnEnd;
 use session_doc::Site;
+use spec_connection::served::ConnEnd;
 use std::alloc::Global;
 
 /// Serves one connection over fresh accounts.

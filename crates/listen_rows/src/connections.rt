@@ -2,8 +2,8 @@
 use io_edge::memory_sink::MemSink;
 use io_edge::memory_source::MemSource;
 use listen_edge::memory_listener::MemConnection;
-use spec_json::tree::Tree;
 use row_table::files::bytes_of;
+use spec_json::tree::Tree;
 use std::alloc::{AllocError, Global};
 use std::fmt::Write;
 

@@ -6,13 +6,13 @@ mod sites;
 mod workers;
 
 use io_edge::memory_opener::MemOpener;
-use spec_json::tree::Tree;
 use row_table::files::{Files, files_in};
 use row_table::line::{tree_in, unrolled};
 use row_table::row::Row;
 use row_table::table::read_rows;
 use row_table::tally::RowTally;
 use row_table::trial::NOT_READ;
+use spec_json::tree::Tree;
 use std::alloc::{AllocError, Global};
 use std::io;
 use std::sync::Wait;

@@ -3,13 +3,13 @@
 use crate::connections::{connections_of, failing, tell_output};
 use account_desk::gate::Gate;
 use account_desk::shared_desk::SharedDesk;
-use listen_workers::worker::worker;
 use io_edge::memory_clock::StillClock;
 use listen_edge::memory_listener::MemListener;
-use spec_json::tree::Tree;
+use listen_workers::accounts::{Office, open_office};
+use listen_workers::worker::worker;
 use row_table::files::bytes_of;
 use session_doc::Site;
-use listen_workers::accounts::{Office, open_office};
+use spec_json::tree::Tree;
 use std::alloc::{AllocError, Global};
 use std::sync::Wait;
 

@@ -4,6 +4,7 @@ ghost use Rattle.std.specs.Arc.{arc_value};
 ghost use Rattle.account_desk.specs.FreshDesk.{bases};
 ghost use Rattle.listen_workers.specs.Passes.{fresh_passes};
 
+use crate::hands::{deal, empty_hands};
 use account_desk::gate::Gate;
 use account_desk::gated::Gated;
 use account_desk::shared_desk::GatedAccounts;
@@ -13,7 +14,6 @@ use account_lock::pass::Pass;
 use session_doc::Site;
 use std::alloc::{AllocError, Global};
 use std::sync::Arc;
-use crate::hands::{deal, empty_hands};
 
 /// The passes of a worker: one of each account, in their order.
 pub type Hand = Vec<Pass<Gated>>;

@@ -6,9 +6,9 @@ use conn_serve::serve::serve_connection;
 use io_edge::clock::Clock;
 use listen_edge::job::{WorkerDone, WorkerEnd};
 use listen_edge::listener::Listener;
+use session_doc::Site;
 use spec_batch::desk::Desk;
 use spec_connection::served::ConnEnd;
-use session_doc::Site;
 use std::alloc::Global;
 
 /// Accepts so many connections of a listener, one after the other, serves each for the users of a site, and hands it back.

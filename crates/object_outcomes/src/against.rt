@@ -14,9 +14,9 @@ ghost use Rattle.spec_series.specs.Lengths.{IsWeekLong};
 
 use cal_model::view::AccountView;
 use event_series::read::series_of;
-use spec_json::tree::Tree;
-use spec_bookings::limits::is_full;
 use spec_bookings::clash::Clash;
+use spec_bookings::limits::is_full;
+use spec_json::tree::Tree;
 use spec_series::series::Series;
 use std::alloc::{AllocError, Global};
 use zone_table::Zones;

@@ -12,12 +12,12 @@ ghost use Rattle.spec_series.specs.SeriesLimits.{wall_seconds};
 
 use crate::resources::resource_zone;
 use cal_model::view::AccountView;
+use overrides::exceptions::{OverrideError, exceptions};
+use single_event::parts::given_length;
 use spec_json::text::Text;
 use spec_json::tree::Tree;
 use spec_series::exception::{Exception, Span};
 use spec_time::length::Length;
-use overrides::exceptions::{OverrideError, exceptions};
-use single_event::parts::given_length;
 use std::alloc::{AllocError, Global};
 use zone_table::Zones;
 

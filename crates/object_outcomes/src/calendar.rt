@@ -7,20 +7,20 @@ ghost use Rattle.spec_json.specs.SameData.{same_data};
 ghost use Rattle.spec_json.specs.TreeData.{data_of};
 ghost use Rattle.object_outcomes.specs.Judging.{IsAllowed, IsBefore, ground_in};
 
+use crate::against::Against;
 use crate::given::{note_if, refused_for, with_own_id};
 use crate::quota::within_quota;
 use crate::setting::{Judged, Setting};
 use crate::texts::copies;
-use crate::against::Against;
 use cal_model::set_error::SetError;
 use cal_model::view::AccountView;
 use calendar_model::calendar::Calendar;
 use calendar_model::read::{CalendarError, read_calendar};
+use spec_bookings::limits::MAX_RESOURCES;
 use spec_history::entry::{Change, Kind};
 use spec_json::lists::Texts;
 use spec_json::text::Text;
 use spec_json::tree::{Tree, TreeObject};
-use spec_bookings::limits::MAX_RESOURCES;
 use std::alloc::{AllocError, Global};
 
 /// What comes of storing a calendar of this number in place of what it was before. `names_id` says whether the client gives an id that

@@ -16,13 +16,13 @@ ghost use Rattle.spec_time.specs.LocalTimes.{utc_text};
 ghost use Rattle.property_table.specs.Table.{given};
 ghost use Rattle.object_outcomes.specs.Judging.{HasNumber, IsAllowed, ground_in};
 
+use crate::against::stands_against;
+use crate::booking_rules::{has_long_override, is_in_other_zone, is_long_booking};
 use crate::given::{note_if, refused_for};
 use crate::quota::within_quota;
+use crate::resources::resources_of;
 use crate::setting::{Judged, Setting};
 use crate::uid::supplied_uid;
-use crate::against::stands_against;
-use crate::resources::resources_of;
-use crate::booking_rules::{has_long_override, is_in_other_zone, is_long_booking};
 use cal_model::view::AccountView;
 use event_model::names::bad_event_names;
 use spec_history::entry::{Change, Kind};

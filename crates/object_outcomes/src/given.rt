@@ -10,11 +10,11 @@ ghost use Rattle.property_table.specs.Table.{given};
 
 use crate::setting::Judged;
 use cal_model::set_error::SetError;
+use property_table::names::put_name;
 use spec_history::entry::Kind;
 use spec_json::lists::Texts;
 use spec_json::text::Text;
 use spec_json::tree::{Tree, TreeObject};
-use property_table::names::put_name;
 use std::alloc::{AllocError, Global};
 use time_text::object_id_text;
 

@@ -9,6 +9,7 @@ ghost use Rattle.spec_json.specs.Patch.{patched};
 ghost use Rattle.spec_json.specs.TreeData.{data_of};
 ghost use Rattle.object_outcomes.specs.Judging.{IsAllowed, IsBefore, ground_in, operation_in};
 
+use crate::against::Against;
 use crate::calendar::calendar_outcome;
 use crate::created_ids::CreatedIds;
 use crate::event::event_outcome;
@@ -18,13 +19,12 @@ use crate::operation::Operation;
 use crate::quota::within_quota;
 use crate::resolved::{resolved_object, resolved_patch};
 use crate::setting::{Judged, Setting};
-use crate::against::Against;
 use cal_model::set_error::SetError;
 use cal_model::view::AccountView;
+use patch_object::{PatchError, apply};
 use spec_history::entry::{Change, Kind};
 use spec_json::text::Text;
 use spec_json::tree::{Tree, TreeObject};
-use patch_object::{PatchError, apply};
 use std::alloc::{AllocError, Global};
 use time_text::read_object_id;
 

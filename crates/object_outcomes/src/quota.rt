@@ -5,8 +5,8 @@ ghost use Rattle.cal_model.specs.Operations.{within_quota};
 ghost use Rattle.cal_model.specs.Quota.{exceeds_quota, size_of_object};
 ghost use Rattle.object_outcomes.specs.Judging.{HasNumber, IsAllowed};
 
-use crate::setting::Judged;
 use crate::against::Against;
+use crate::setting::Judged;
 use cal_model::limits::{MAX_ENTRIES, MAX_OBJECT_BYTES};
 use cal_model::outcome::Outcome;
 use cal_model::set_error::SetError;

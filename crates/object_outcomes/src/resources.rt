@@ -5,10 +5,10 @@ ghost use Rattle.spec_json.specs.TreeData.{data_of};
 ghost use Rattle.spec_bookings.specs.Resources.{resource_zone, resources_of};
 
 use cal_model::view::AccountView;
+use single_event::calendars::names_calendar;
 use spec_history::entry::Kind;
 use spec_json::text::Text;
 use spec_json::tree::Tree;
-use single_event::calendars::names_calendar;
 use std::alloc::{AllocError, Global};
 
 /// The numbers of the resource calendars that an event is in, in order of creation. Takes memory for them.

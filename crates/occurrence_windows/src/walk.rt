@@ -13,12 +13,12 @@ ghost use Rattle.rule_expand.specs.Later.{IsFirstOf};
 use crate::lengths::longest;
 use crate::span::span_of;
 use jiff_tz::posix::TimeZone;
+use rule_expand::next_from;
 use spec_events::limits::{FIRST_START, LAST_START};
 use spec_series::occurrence::Occurrence;
 use spec_series::series::Series;
 use spec_time::wall::Wall;
 use spec_windows::window::Window;
-use rule_expand::next_from;
 use std::alloc::{AllocError, Global};
 
 /// The most seconds between a wall second and its instant, by any rule that `jiff` reads.

@@ -2,10 +2,10 @@
 ghost use Rattle.std.specs.Prelude.{◌≡◌, [], ◌∷◌, IfOk, true, false};
 ghost use Rattle.spec_queries.specs.declared.comparator.Property.TheVariants.{Start, Title};
 
+use query_order::order::Order;
 use spec_json::text::Text;
 use spec_queries::comparator::{Comparator, Property};
 use spec_queries::item::Item;
-use query_order::order::Order;
 use std::alloc::{AllocError, Global};
 
 /// How many different titles there are.

@@ -1,9 +1,9 @@
 //! How often each part of the work is done.
 use crate::events::Events;
-use spec_history::ids::Ids;
-use spec_queries::delta::Delta;
 use query_order::change::{changes_of, splice};
 use query_order::result::result;
+use spec_history::ids::Ids;
+use spec_queries::delta::Delta;
 use std::alloc::{AllocError, Global};
 
 /// How often the result is made, the changes are found, and the changes are applied.

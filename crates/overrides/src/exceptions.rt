@@ -12,13 +12,13 @@ ghost use Rattle.overrides.specs.declared.exceptions.OverrideError.TheVariants.{
 use crate::fixed::touches_fixed;
 use crate::occurrence::{changed_at, patch_changes, single};
 use crate::part::{are_needed, firsts_of, part_of};
+use single_event::read::{EventError, bad_event_names, read_event};
 use spec_events::limits::{FIRST_START, LAST_START};
 use spec_json::text::Text;
 use spec_json::tree::{Member, Tree, TreeObject};
 use spec_recurrence::limits::MAX_OVERRIDES;
 use spec_series::exception::{Exception, Exceptions, Span};
 use spec_time::wall::Wall;
-use single_event::read::{EventError, bad_event_names, read_event};
 use std::alloc::{AllocError, AllocFailed, Global};
 use time_text::read_local;
 use zone_table::Zones;

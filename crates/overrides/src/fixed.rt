@@ -6,10 +6,10 @@ ghost use Rattle.spec_json.specs.Pointer.{parts};
 ghost use Rattle.spec_json.specs.TreeData.{pair_of};
 ghost use Rattle.spec_recurrence.specs.Overrides.{first_is_fixed, touches_fixed};
 
-use spec_json::text::Text;
-use spec_json::tree::Member;
 use patch_object::{Pointer, PointerError};
 use property_table::names::has_name;
+use spec_json::text::Text;
+use spec_json::tree::Member;
 use std::alloc::{AllocError, Global};
 
 /// Whether one of these changes touches what is fixed.

@@ -6,9 +6,9 @@ ghost use Rattle.spec_json.specs.TreeData.{data_of};
 ghost use Rattle.spec_recurrence.specs.Overrides.{changed_at, patch_changes, occurrence_in, single};
 ghost use Rattle.overrides.specs.Reports.{IsPatched};
 
+use patch_object::{PatchError, apply};
 use spec_json::text::Text;
 use spec_json::tree::{Tree, TreeObject};
-use patch_object::{PatchError, apply};
 use std::alloc::{AllocError, Global};
 
 /// The object of the occurrence of an event with a recurrence id, where this is the patch of its override.

@@ -6,10 +6,10 @@ ghost use Rattle.spec_json.specs.TreeData.{data_of, pair_of};
 ghost use Rattle.property_table.specs.Names.{has_name as is_name_of};
 ghost use Rattle.overrides.specs.Parts.{always_needed, are_all_needed, first_part, firsts_of, is_needed, part_with, with_member, with_each_member};
 
-use spec_json::text::Text;
-use spec_json::tree::{Member, Tree, TreeObject};
 use patch_object::{Pointer, PointerError};
 use property_table::names::has_name;
+use spec_json::text::Text;
+use spec_json::tree::{Member, Tree, TreeObject};
 use std::alloc::{AllocError, Global};
 
 /// The first parts of the keys of a patch.

@@ -7,11 +7,11 @@ ghost use Rattle.spec_json.specs.TreeData.{data_of, pair_of};
 ghost use Rattle.property_table.specs.Table.{test_at};
 ghost use Rattle.property_table.specs.Values.{is_text};
 
+use property_table::table::{PropertyTable, failing_names};
+use property_table::values::is_text;
 use spec_events::limits::MAX_PARTICIPANTS;
 use spec_events::values::{is_one_of, is_true};
 use spec_json::tree::{Member, Tree};
-use property_table::table::{PropertyTable, failing_names};
-use property_table::values::is_text;
 use std::alloc::{AllocError, Global};
 use time_text::read_id;
 

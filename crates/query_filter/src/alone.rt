@@ -4,12 +4,12 @@ ghost use Rattle.spec_series.specs.SeriesLimits.{wall_seconds};
 ghost use Rattle.spec_time.specs.Walls.{is_in_years};
 ghost use Rattle.query_filter.specs.Refusals.{is_alone, may_meet, widest};
 
+use occurrence_windows::FARTHEST;
 use spec_series::series::Series;
 use spec_time::length::Length;
 use spec_time::wall::Wall;
 use spec_windows::period::Period;
 use spec_windows::window::Window;
-use occurrence_windows::FARTHEST;
 
 /// Whether an event with this series may meet the window, as far as that can be told without the rule of its zone. Takes no memory.
 pub(crate) fn may_meet(series: Option<&Series>, window: Window) -> bool

@@ -14,10 +14,10 @@ use crate::needles::Needles;
 use crate::sought::asks_time;
 use crate::texts::{has_uid, is_in_calendar};
 use jiff_tz::posix::TimeZone;
+use occurrence_windows::matches_window;
 use spec_json::tree::{Tree, TreeObject};
 use spec_series::series::Series;
 use spec_windows::window::Window;
-use occurrence_windows::matches_window;
 use std::alloc::{AllocError, Global};
 
 /// An event, by which conditions are tested.

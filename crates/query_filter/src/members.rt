@@ -7,10 +7,10 @@ ghost use Rattle.property_table.specs.OnePass.{fails_given};
 ghost use Rattle.property_table.specs.Table.{test_at};
 ghost use Rattle.property_table.specs.Values.{is_text_that};
 
-use spec_json::tree::{Member, Tree, TreeObject};
 use property_table::names::has_name;
 use property_table::values::is_text;
 use single_event::times::is_start as names_start;
+use spec_json::tree::{Member, Tree, TreeObject};
 
 /// The members of a condition.
 pub(crate) const CONDITION_NAMES: [&str; 8] = [

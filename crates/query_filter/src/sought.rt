@@ -7,9 +7,9 @@ ghost use Rattle.query_filter.specs.SoughtKinds.{sought_of};
 
 use crate::conditions::conditions_of;
 use crate::members::{CONDITION_NAMES, OPERATOR_NAMES, given, has_bad_member, has_other_than};
+use property_table::values::is_text;
 use spec_filters::operator::is_operator;
 use spec_json::tree::{Tree, TreeObject};
-use property_table::values::is_text;
 
 /// What is looked for in a filter and in the conditions of its operators.
 #[derive(Clone, Copy, Debug, PartialEq, Eq, Drop)]

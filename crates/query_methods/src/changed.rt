@@ -18,14 +18,14 @@ use crate::sight::Sight;
 use crate::touched::touched_since;
 use account_store::Store;
 use event_store::StoredEvents;
+use query_order::change::changes_of;
+use query_order::order::Order;
 use spec_calls::call::{MethodError, QueryChangesArguments};
 use spec_history::entry::Kind;
 use spec_json::num::Num;
 use spec_json::text::Text;
 use spec_json::tree::{Tree, TreeList};
 use spec_queries::delta::{Delta, Place};
-use query_order::change::changes_of;
-use query_order::order::Order;
 use std::alloc::{AllocError, Global};
 use time_text::{object_id_text, state_text};
 

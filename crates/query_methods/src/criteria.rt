@@ -9,12 +9,12 @@ ghost use Rattle.query_order.specs.Reports.{Reports as ReportsSort};
 
 use crate::error::QueryError;
 use crate::sight::Sight;
-use spec_calls::call::{Criteria, MethodError};
-use spec_json::tree::{Tree, TreeObject};
-use spec_queries::limits::MAX_EXPANDED_SECONDS;
 use query_filter::{Filter, FilterError};
 use query_order::order::Order;
 use query_order::sort_argument::SortError;
+use spec_calls::call::{Criteria, MethodError};
+use spec_json::tree::{Tree, TreeObject};
+use spec_queries::limits::MAX_EXPANDED_SECONDS;
 use std::alloc::Global;
 use zone_instants::rule_of;
 use zone_table::Zones;

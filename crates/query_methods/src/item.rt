@@ -5,10 +5,10 @@ ghost use Rattle.spec_json.specs.TreeData.{data_of};
 ghost use Rattle.spec_queries.specs.Items.{item_of, utc_moment, start_instant, text_or_empty};
 ghost use Rattle.spec_time.specs.LocalTimes.{utc_in};
 
+use single_event::parts::start_of;
 use spec_json::text::Text;
 use spec_json::tree::Tree;
 use spec_queries::item::Item;
-use single_event::parts::start_of;
 use std::alloc::{AllocError, Global};
 use time_text::read_utc;
 use zone_instants::{instant, rule_of_event};

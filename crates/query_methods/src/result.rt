@@ -11,11 +11,11 @@ ghost use Rattle.query_methods.specs.Sights.{seen_by};
 
 use crate::sight::Sight;
 use event_store::StoredEvents;
-use spec_history::entry::Kind;
-use spec_queries::item::Item;
 use query_order::change::numbers_among;
 use query_order::order::Order;
 use query_order::result::{numbers_at, result};
+use spec_history::entry::Kind;
+use spec_queries::item::Item;
 use std::alloc::{AllocError, Global};
 
 /// The numbers of the events in the result of a query, in its order (RFC 8620 section 5.5).

@@ -8,10 +8,10 @@ ghost use Rattle.spec_bookings.specs.Clashes.{IsClash, IsClear, first_clash, sec
 ghost use Rattle.resource_book.specs.Meetings.{meets_booking, earlier_of, IsEarliestOf, clash_of};
 
 use crate::places::place_but;
+use residue_clash::{Shared, first_self_shared, first_shared};
 use spec_bookings::booking::Booking;
 use spec_bookings::clash::Clash;
 use spec_series::series::Series;
-use residue_clash::{Shared, first_self_shared, first_shared};
 
 // A second that a series shares, and the number of the first booking that covers it, if one does.
 #[derive(Clone, Copy, Drop)]

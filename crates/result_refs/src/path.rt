@@ -6,9 +6,9 @@ ghost use Rattle.spec_json.specs.TreeData.{data_of};
 ghost use Rattle.result_refs.specs.Steps.{all_items, named_by};
 
 use crate::behind_sign::behind;
+use patch_object::{Pointer, PointerError};
 use spec_json::text::Text;
 use spec_json::tree::{Tree, TreeList};
-use patch_object::{Pointer, PointerError};
 use std::alloc::{AllocError, Global};
 use time_text::read_number;
 

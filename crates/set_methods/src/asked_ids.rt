@@ -3,8 +3,8 @@ ghost use Rattle.std.specs.Prelude.{◌≡◌, IfOk, map};
 ghost use Rattle.cal_model.specs.CreatedIds.{different, resolved_id};
 
 use indexmap::IndexSet;
-use spec_json::text::Text;
 use object_outcomes::created_ids::CreatedIds;
+use spec_json::text::Text;
 use std::alloc::{AllocError, Global};
 
 /// The ids asked for, where `#key` stands for the created id of that key, each once in order of first mention.

@@ -18,10 +18,10 @@ use crate::request::SetRequest;
 use crate::run::{Creates, run, run_creates};
 use crate::told::Told;
 use cal_model::view::AccountView;
-use spec_json::lists::Pairs;
-use spec_json::tree::Tree;
 use object_outcomes::created_ids::CreatedIds;
 use object_outcomes::setting::Setting;
+use spec_json::lists::Pairs;
+use spec_json::tree::Tree;
 use std::alloc::{AllocError, Global};
 
 /// Carries out a set that isn't refused: creates, then updates, then destroys (RFC 8620 section 5.3).

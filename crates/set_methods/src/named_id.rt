@@ -2,8 +2,8 @@
 ghost use Rattle.std.specs.Prelude.{◌≡◌, IfOk, []};
 ghost use Rattle.cal_model.specs.Sets.{ids_named, names_id};
 
-use spec_json::text::Text;
 use object_outcomes::created_ids::CreatedIds;
+use spec_json::text::Text;
 use std::alloc::{AllocError, Global};
 use std::marker::Model;
 

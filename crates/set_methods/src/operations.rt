@@ -6,9 +6,9 @@ ghost use Rattle.spec_json.specs.TreeData.{pair_of};
 ghost use Rattle.object_outcomes.specs.Judging.{operation_in};
 
 use crate::named_id::{NamedId, names_id};
-use spec_json::tree::Member;
 use object_outcomes::created_ids::CreatedIds;
 use object_outcomes::operation::Operation;
+use spec_json::tree::Member;
 use std::alloc::{AllocError, Global};
 
 /// The updates of a set, each with whether its object is among those to be destroyed, and whether one before it names the

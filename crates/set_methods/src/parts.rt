@@ -3,8 +3,8 @@ ghost use Rattle.std.specs.Prelude.{◌≡◌, IfOk, map};
 ghost use Rattle.cal_model.specs.SetReply.{list_or_null, object_or_null};
 ghost use Rattle.spec_json.specs.TreeData.{data_of, pair_of};
 
-use spec_json::tree::{Member, Tree, TreeList};
 use object_outcomes::objects::object_of;
+use spec_json::tree::{Member, Tree, TreeList};
 use std::alloc::{AllocError, Global};
 
 /// An object of these members, which may stand in any order, or null where there are none.

@@ -10,10 +10,10 @@ use crate::planned::{Plan, PlanError};
 use crate::refusal::refusal;
 use crate::request::SetRequest;
 use cal_model::view::AccountView;
+use object_outcomes::setting::Setting;
 use spec_json::lists::Pairs;
 use spec_json::text::Text;
 use spec_time::moment::Moment;
-use object_outcomes::setting::Setting;
 use std::alloc::Global;
 use zone_table::Zones;
 

@@ -14,12 +14,12 @@ use crate::named_id::NamedId;
 use crate::parts::object_or_null;
 use cal_model::outcome::Outcome;
 use cal_model::set_error::SetError;
+use object_outcomes::texts::{copies, text_list};
+use spec_bookings::clash::Clash;
 use spec_history::entry::Kind;
 use spec_json::num::Num;
 use spec_json::text::Text;
 use spec_json::tree::{Member, Tree};
-use spec_bookings::clash::Clash;
-use object_outcomes::texts::{copies, text_list};
 use std::alloc::{AllocError, Global};
 use time_text::object_id_text;
 

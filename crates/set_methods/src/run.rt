@@ -8,13 +8,13 @@ ghost use Rattle.object_outcomes.specs.Judging.{IsAllowed, ground_in, operation_
 
 use cal_model::outcome::Outcome;
 use cal_model::view::AccountView;
-use spec_history::entry::Change;
-use spec_json::text::Text;
-use spec_json::tree::Member;
 use object_outcomes::created_ids::CreatedIds;
 use object_outcomes::judge::{judge, judge_create};
 use object_outcomes::operation::Operation;
 use object_outcomes::setting::{Judged, Setting};
+use spec_history::entry::Change;
+use spec_json::text::Text;
+use spec_json::tree::Member;
 use std::alloc::{AllocError, Global};
 use time_text::object_id_text;
 

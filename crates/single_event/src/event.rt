@@ -2,10 +2,10 @@
 ghost use Rattle.std.specs.Prelude.{◌≡◌, option_map, true};
 ghost use Rattle.spec_events.specs.Values.{is_short_length, is_showing};
 
+use participants::people::People;
 use spec_json::text::Text;
 use spec_time::length::Length;
 use spec_time::wall::Wall;
-use participants::people::People;
 use std::marker::Model;
 
 /// What an event says of when and whose it is. Contracts see its properties.

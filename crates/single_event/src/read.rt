@@ -10,15 +10,15 @@ use crate::calendars::calendars_of;
 use crate::event::Event;
 use crate::parts::{given_length, is_occupying, start_of};
 use crate::table::EventTable;
+use participants::people::People;
+use participants::read::people_in;
+use property_table::table::failing_names;
 use spec_events::values::copy_at;
 use spec_json::lists::Texts;
 use spec_json::text::Text;
 use spec_json::tree::Tree;
 use spec_time::length::Length;
 use spec_time::wall::Wall;
-use participants::people::People;
-use participants::read::people_in;
-use property_table::table::failing_names;
 use std::alloc::{AllocError, Global};
 use zone_table::Zones;
 

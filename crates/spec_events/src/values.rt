@@ -4,9 +4,9 @@ ghost use Rattle.spec_events.specs.Values.{is_one_of, is_true};
 ghost use Rattle.spec_json.specs.Parts.{text_at};
 ghost use Rattle.spec_json.specs.TreeData.{data_of};
 
+use property_table::names::has_name;
 use spec_json::text::Text;
 use spec_json::tree::Tree;
-use property_table::names::has_name;
 use std::alloc::AllocError;
 
 /// Whether this is `true`. Takes no memory.
