@@ -21,7 +21,6 @@ use std::alloc::{AllocError, Global};
 /// The numbers of the events in the result of a query, in its order (RFC 8620 section 5.5).
 ///
 /// Takes memory for them, and where there are comparators for the items of all of them. Time grows with the number of events.
-#[tactic(auto, using(crate::proofs::ResultLemmas::result_now))]
 pub(crate) fn current_result(
     alloc: Global,
     events: &StoredEvents<'_>,

@@ -27,7 +27,7 @@ returns-in-Some-clause-answered c =
     let q = c.args.arguments.now in
     let known : Some c.in-Some.state ≡ (if is_known_state Event cs q.since then state_in q.since else None) = sym c.in-Some.is ∙ c.known_state.ensures.value in
     let told : query_changes_refusal c.args.events.now.zones.now cs q ≡ size_refusal (seen_by c.in_ok-terms.terms.sight) c.in_ok-terms.terms.order cs q c.in-Some.state =
-    by_size c.args.events.now.zones.now cs q c.in-Some.state (sym c.is_maximum.ensures ∙ c.if-not-is_maximum.false) c.in_ok-terms.ensures.known c.if-not-expand.true known
+    by_size c.args.events.now.zones.now cs q c.in-Some.state (sym c.is_maximum.ensures ∙ c.if-not-is_maximum.false) c.in_ok-terms.ensures.known c.if-not-arguments.true known
     ∙ (λ i. size_refusal (sym c.in_ok-terms.ensures.sight i) (sym c.in_ok-terms.ensures.order i) cs q c.in-Some.state) in
     on_ok_weaker c.changed.result (λ none. told ∙ none) c.changed.ensures.few
 
@@ -37,6 +37,6 @@ returns-in-Some-clause-refused c =
     let q = c.args.arguments.now in
     let known : Some c.in-Some.state ≡ (if is_known_state Event cs q.since then state_in q.since else None) = sym c.in-Some.is ∙ c.known_state.ensures.value in
     let told : query_changes_refusal c.args.events.now.zones.now cs q ≡ size_refusal (seen_by c.in_ok-terms.terms.sight) c.in_ok-terms.terms.order cs q c.in-Some.state =
-    by_size c.args.events.now.zones.now cs q c.in-Some.state (sym c.is_maximum.ensures ∙ c.if-not-is_maximum.false) c.in_ok-terms.ensures.known c.if-not-expand.true known
+    by_size c.args.events.now.zones.now cs q c.in-Some.state (sym c.is_maximum.ensures ∙ c.if-not-is_maximum.false) c.in_ok-terms.ensures.known c.if-not-arguments.true known
     ∙ (λ i. size_refusal (sym c.in_ok-terms.ensures.sight i) (sym c.in_ok-terms.ensures.order i) cs q c.in-Some.state) in
     IfErr-weaker c.changed.result _ _ (λ e reports. subst (Reports e) (sym told) reports) c.changed.ensures.refused
