@@ -122,6 +122,20 @@ pub takes_none : (zones : List ZoneText) (cs : List Change) (n : ℕ) (d : Data)
 takes_none zones cs n d none calendar named resource =
     absurd (false≢true (ap (λ ns. is_in ns calendar) (sym none) ∙ resource_is_found cs d calendar resource named))
 
+-- Where one of these passes a test, some do; one that fails it is passed over.
+
+any_first : (p : ℕ → Bool) (n : ℕ) (ns : List ℕ) → true ≡ p n → true ≡ list_any p (n ∷ ns)
+any_first p n ns is = rw (sym is) refl
+
+pub is_found : (p : ℕ → Bool) (ns : List ℕ) (i : ℕ) → i < length ns → true ≡ p (get_or ns i 0) → true ≡ list_any p (drop i ns)
+is_found p ns i there is = any_first p (get_or ns i 0) (drop (i + 1) ns) is ∙ sym (at_drop_more (list_any p) ns i 0 there)
+
+any_rest : (p : ℕ → Bool) (n : ℕ) (ns : List ℕ) → false ≡ p n → list_any p ns ≡ list_any p (n ∷ ns)
+any_rest p n ns is = rw (sym is) refl
+
+pub is_passed : (p : ℕ → Bool) (ns : List ℕ) (i : ℕ) → i < length ns → false ≡ p (get_or ns i 0) → list_any p (drop (i + 1) ns) ≡ list_any p (drop i ns)
+is_passed p ns i there is = any_rest p (get_or ns i 0) (drop (i + 1) ns) is ∙ sym (at_drop_more (list_any p) ns i 0 there)
+
 -- a calendar in which nothing clashes is passed over
 pub passed_over : (zones : List ZoneText) (cs : List Change) (n : ℕ) (s : Series) (ns : List ℕ) (i : ℕ) → i < length ns → None ≡ first_clash (other_bookings zones cs n (get_or ns i 0)) s
     → first_clash_in zones cs n s (drop (i + 1) ns) ≡ first_clash_in zones cs n s (drop i ns)
