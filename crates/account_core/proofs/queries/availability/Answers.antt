@@ -17,7 +17,7 @@ returns-in-Some c =
     let lent : Base = record { account_id = l.id; zones = events.zones.now } in
     let refusal = availability_refusal lent q in
     let response = availability_response lent (changes_of (entries events.store.now)) q in
-    let found = subst (λ r. MatchOption r (refusal ≡ Some InvalidArguments) (λ t. (refusal ≡ None) × (t ≡ response))) c.in-Some.is c.in_ok-availability.ensures in
+    let found = subst (λ r. MatchOption r (refusal ≡ Some InvalidArguments) (λ t. (refusal ≡ None) × (t ≡ response))) c.in-Some.is c.in_ok-periods.ensures in
     let told = subst₂ (λ zs s. (availability_refusal (record { account_id = l.id; zones = zs }) q ≡ None)
     × (c.in-Some.periods ≡ availability_response (record { account_id = l.id; zones = zs }) (changes_of (entries s)) q))
     c.events.ensures.zones c.events.ensures.store found in
