@@ -14,6 +14,7 @@ use Rattle.spec_history.specs.declared.entry.Kind.TheVariants.{Calendar}
 use Rattle.spec_history.specs.declared.stamp.Stamp.{Stamp}
 use Rattle.spec_bookings.specs.BookedResources.{bookings_of}
 use Rattle.spec_bookings.specs.Resources.{is_resource, resources_at}
+use Rattle.spec_bookings.specs.SeriesPut.{series_put}
 use Rattle.spec_site.specs.TimeZones.{ZoneText}
 
 -- where nothing is staged
@@ -25,9 +26,9 @@ same_rooms zones cs ds rs qs h same_changes same = subst (AreRooms zones ds) (sy
 
 -- one change more is staged
 pub one_staged : (zones : List ZoneText) (cs staged more : List Change) (c : Change) (rs qs : List BookedRoom) → AreRooms zones (cs ++ staged) rs → IsFit zones (cs ++ staged) c
-    → is_in (ids_at (cs ++ staged) Calendar) (next_number (cs ++ staged) Calendar) ≡ false → more ≡ staged ++ c ∷ [] → qs ≡ rooms_after zones c rs → AreRooms zones (cs ++ more) qs
+    → is_in (ids_at (cs ++ staged) Calendar) (next_number (cs ++ staged) Calendar) ≡ false → more ≡ staged ++ c ∷ [] → qs ≡ rooms_after c (series_put zones c) rs → AreRooms zones (cs ++ more) qs
 one_staged zones cs staged more c rs qs h fit new is after =
-    same_rooms zones ((cs ++ staged) ++ c ∷ []) (cs ++ more) (rooms_after zones c rs) qs (rooms_more zones (cs ++ staged) c rs h fit new) (ap (λ ds. cs ++ ds) is ∙ sym (append_assoc cs staged (c ∷ []))) after
+    same_rooms zones ((cs ++ staged) ++ c ∷ []) (cs ++ more) (rooms_after c (series_put zones c) rs) qs (rooms_more zones (cs ++ staged) c rs h fit new) (ap (λ ds. cs ++ ds) is ∙ sym (append_assoc cs staged (c ∷ []))) after
 
 -- the staged changes are part of the history
 pub rooms_committed : (zones : List ZoneText) (h h' : List Entry) (s : Stamp) (cs : List Change) (rs qs : List BookedRoom) → AreRooms zones (changes_of h ++ cs) rs → h' ≡ h ++ entries_from s 0 cs → qs ≡ rs

@@ -3,7 +3,7 @@ use Rattle.std.proofs.Common.{◌≡◌, ℕ, List, [], ◌∷◌, ◌++◌, Opt
 use Rattle.std.proofs.lemmas.List.{map-append}
 use Rattle.account_core.proofs.Committing.{changes_committed}
 use Rattle.cal_model.specs.Answer.{entries_from}
-use Rattle.event_store.specs.SeriesPut.{series_put}
+use Rattle.spec_bookings.specs.SeriesPut.{series_put}
 use Rattle.spec_history.specs.History.{changes_of}
 use Rattle.spec_history.specs.declared.entry.Change.{Change}
 use Rattle.spec_history.specs.declared.entry.Entry.{Entry}

@@ -1,5 +1,5 @@
 -- What a ledger shows.
-use Rattle.std.specs.Prelude.{List}
+use Rattle.std.specs.Prelude.{List, ◌++◌}
 use Rattle.std.specs.Arc.{arc_value}
 use Rattle.account_core.specs.declared.ledger.Ledger.{Ledger}
 use Rattle.account_store.specs.Store.{entries}
@@ -22,3 +22,7 @@ history l = changes_of (ledger_entries l)
 -- the changes that a call makes and that aren't entries yet
 abbrev pub staged : Ledger → List Change
 staged l = l.staged.items
+
+-- the changes of the history and then those that a call makes
+abbrev pub changes : Ledger → List Change
+changes l = history l ++ staged l

@@ -8,7 +8,7 @@ ghost use Rattle.account_rooms.specs.Covered.{AreCoveredOnce};
 ghost use Rattle.account_rooms.specs.Rooms.{AreFree, AreRooms};
 ghost use Rattle.account_store.specs.Store.{entries, spare};
 ghost use Rattle.cal_model.specs.Answer.{entries_from};
-ghost use Rattle.event_store.specs.SeriesPut.{series_put};
+ghost use Rattle.spec_bookings.specs.SeriesPut.{series_put};
 ghost use Rattle.spec_history.specs.History.{changes_of};
 ghost use Rattle.spec_bookings.specs.BookedResources.{other_bookings};
 ghost use Rattle.spec_bookings.specs.Resources.{is_resource};
@@ -60,7 +60,7 @@ pub struct Ledger {
 }
 
 impl Ledger {
-    ghost use Rattle.account_core.specs.Ledger.{base, history, ledger_entries, staged};
+    ghost use Rattle.account_core.specs.Ledger.{base, changes, history, ledger_entries, staged};
 
     /// A ledger of an account of this id, with these zones and no entries. Takes no memory.
     pub fn new(alloc: Global, id: Text, zones: Arc<Zones>) -> Ledger
@@ -127,36 +127,36 @@ impl Ledger {
 
     /// The first clash of a series with itself or with the bookings of others in a live resource calendar. Takes no memory.
     pub fn first_clash(&self, calendar: u64, event: u64, series: &Series) -> Option<Clash>
-        requires resource { is_resource (history self.now ++ staged self.now) calendar ≡ true }
+        requires resource { is_resource (changes self.now) calendar ≡ true }
         requires week { IsWeekLong series.now }
-        ensures exact { result ≡ first_clash (other_bookings (base self.now).zones (history self.now ++ staged self.now) event calendar) series.now }
-        ensures clear { IfNone result (IsClear (other_bookings (base self.now).zones (history self.now ++ staged self.now) event calendar) series.now) }
-        ensures least { IsLeastOf (IsClash (other_bookings (base self.now).zones (history self.now ++ staged self.now) event calendar) series.now) (option_map second_of result) }
+        ensures exact { result ≡ first_clash (other_bookings (base self.now).zones (changes self.now) event calendar) series.now }
+        ensures clear { IfNone result (IsClear (other_bookings (base self.now).zones (changes self.now) event calendar) series.now) }
+        ensures least { IsLeastOf (IsClash (other_bookings (base self.now).zones (changes self.now) event calendar) series.now) (option_map second_of result) }
     {
         self.rooms.clash(calendar, event, series)
     }
 }
 
-// Takes memory for one staged change more, which the rooms follow and whose series is read.
+// Takes memory for one staged change more, which the rooms follow and whose series stands beside it.
 fn follow(
     staged: &mut Vec<Change>,
-    series: &mut SeriesLog,
+    log: &mut SeriesLog,
     rooms: &mut Rooms,
-    zones: &Zones,
     change: &Change,
+    series: Option<Series>,
 ) -> Result<(), AllocError>
-    requires { MayChange zones.now rooms.old.rooms change.now.kind change.now.object }
+    requires { MayChange rooms.old.rooms change.now.kind change.now.object series }
     ensures staged { staged.new.items ≡ staged.old.items }
     ensures len { vec_len staged.new ≡ vec_len staged.old }
     ensures place { OnOk result (vec_len staged.new < vec_capacity staged.new) }
-    ensures series { OnOk result (series.new ≡ series.old ++ series_put zones.now change.now ∷ []) }
-    ensures unread { OnErr result (series.new ≡ series.old) }
-    ensures rooms { OnOk result (rooms.new.rooms ≡ rooms_after zones.now change.now rooms.old.rooms) }
+    ensures series { OnOk result (log.new ≡ log.old ++ series ∷ []) }
+    ensures unread { OnErr result (log.new ≡ log.old) }
+    ensures rooms { OnOk result (rooms.new.rooms ≡ rooms_after change.now series rooms.old.rooms) }
     ensures kept { rooms.new.kept ≡ rooms.old.kept }
 {
     staged.reserve(1)?;
-    rooms.follow(zones, change)?;
-    series.read(zones, change)
+    rooms.follow(change, series.as_ref())?;
+    log.push(series)
 }
 
 // Puts the entries of these changes at the end.
@@ -179,15 +179,13 @@ fn push_all(store: &mut Store, stamp: &Stamp, changes: Vec<Change>)
 }
 
 impl AccountView for Ledger {
-    ghost use Rattle.account_core.specs.Ledger.{base, history, ledger_entries, staged};
+    ghost use Rattle.account_core.specs.Ledger.{base, changes, ledger_entries};
 
     ghost base = { base };
 
     ghost entries = { ledger_entries };
 
-    ghost history = { history };
-
-    ghost staged = { staged };
+    ghost changes = { changes };
 
     #[tactic(auto, using(crate::proofs::Committing::object_from_append))]
     fn live(&self, kind: Kind, id: u64) -> Option<&Tree> {
@@ -239,13 +237,18 @@ impl AccountView for Ledger {
         self.tally.size
     }
 
-    fn stage(&mut self, change: Change, size: usize) -> Result<(), AllocError> {
+    fn stage(
+        &mut self,
+        change: Change,
+        size: usize,
+        series: Option<Series>,
+    ) -> Result<(), AllocError> {
         match follow(
             &mut self.staged,
             &mut self.series,
             &mut self.rooms,
-            &self.zones,
             &change,
+            series,
         ) {
             Ok(()) => {
                 self.tally.count(change.kind, change.id, size);

@@ -4,15 +4,14 @@ ghost use Rattle.account_core.specs.Ledger.{base, ledger_entries, history, stage
 ghost use Rattle.account_store.specs.Store.{spare};
 ghost use Rattle.cal_model.specs.Answer.{answered, entries_from, set_added, set_answer};
 ghost use Rattle.cal_model.specs.SetReply.{set_arguments};
-ghost use Rattle.cal_model.specs.Sets.{new_ids, set_changes, set_refusal};
+ghost use Rattle.cal_model.specs.Sets.{new_ids, objects_of, set_changes, set_refusal};
 ghost use Rattle.set_methods.specs.Reports.{Reports};
-ghost use Rattle.set_methods.specs.Requests.{ground_at, objects_in};
+ghost use Rattle.set_methods.specs.Grounds.{ground_at};
 
 use crate::ledger::Ledger;
 use crate::reply::{refusal, reply};
 use set_methods::plan::plan;
 use set_methods::planned::PlanError;
-use set_methods::request::SetRequest;
 use spec_calls::call::{Reply, SetArguments};
 use spec_history::stamp::Stamp;
 use spec_json::lists::Pairs;
@@ -35,15 +34,7 @@ pub fn set(
     ensures staged { staged ledger.new ≡ [] }
     ensures base { base ledger.new ≡ base ledger.old }
 {
-    let request = SetRequest {
-        kind: arguments.kind,
-        if_in_state: &arguments.if_in_state,
-        create: &arguments.create,
-        update: &arguments.update,
-        destroy: &arguments.destroy,
-        remove_events: arguments.remove_events,
-    };
-    match prepare(ledger, stamp.moment, &request, created) {
+    match prepare(ledger, stamp.moment, arguments, created) {
         Ok(reply) => {
             ledger.commit(stamp);
             Ok(reply)
@@ -57,18 +48,18 @@ pub fn set(
 fn prepare(
     ledger: &mut Ledger,
     moment: Moment,
-    request: &SetRequest<'_>,
+    arguments: &SetArguments,
     created: &Pairs,
 ) -> Result<Reply, PlanError>
     requires { staged ledger.old ≡ [] }
-    ensures carried_out { OnOk result (set_refusal request.now.kind (history ledger.old) (objects_in request.now) request.now.if_in_state.now request.now.remove_events ≡ None) }
+    ensures carried_out { OnOk result (set_refusal arguments.now.kind (history ledger.old) (objects_of arguments.now) arguments.now.if_in_state arguments.now.remove_events ≡ None) }
     ensures reply { IfOk result (λ r. r ≡ answered (ledger_entries ledger.old)
-        (set_arguments (ground_at (base ledger.old) moment) request.now.kind created.now (history ledger.old) (objects_in request.now))
-        (new_ids (ground_at (base ledger.old) moment) request.now.kind created.now (history ledger.old) (objects_in request.now))) }
+        (set_arguments (ground_at (base ledger.old) moment) arguments.now.kind created.now (history ledger.old) (objects_of arguments.now))
+        (new_ids (ground_at (base ledger.old) moment) arguments.now.kind created.now (history ledger.old) (objects_of arguments.now))) }
     ensures staged { OnOk result (staged ledger.new
-        ≡ set_changes (ground_at (base ledger.old) moment) request.now.kind created.now (history ledger.old) (objects_in request.now)) }
+        ≡ set_changes (ground_at (base ledger.old) moment) arguments.now.kind created.now (history ledger.old) (objects_of arguments.now)) }
     ensures spare { OnOk result (length (staged ledger.new) ≤ spare ledger.new.store) }
-    ensures refused { IfErr result (λ e. Reports e (set_refusal request.now.kind (history ledger.old) (objects_in request.now) request.now.if_in_state.now request.now.remove_events)) }
+    ensures refused { IfErr result (λ e. Reports e (set_refusal arguments.now.kind (history ledger.old) (objects_of arguments.now) arguments.now.if_in_state arguments.now.remove_events)) }
     ensures forgotten { OnErr result (staged ledger.new ≡ []) }
     ensures entries { ledger_entries ledger.new ≡ ledger_entries ledger.old }
     ensures base { base ledger.new ≡ base ledger.old }
@@ -81,7 +72,7 @@ fn prepare(
         &zones,
         &account,
         moment,
-        request,
+        arguments,
         created,
     )?;
     ledger.reserve()?;

@@ -1,6 +1,6 @@
 //! Which calendars live events are in.
-ghost use Rattle.std.specs.Prelude.{◌≡◌, ◌++◌, option_map};
-ghost use Rattle.account_core.specs.Ledger.{history, staged};
+ghost use Rattle.std.specs.Prelude.{◌≡◌, option_map};
+ghost use Rattle.account_core.specs.Ledger.{changes, staged};
 ghost use Rattle.account_core.specs.Uses.{has_staged_event, is_object_in_calendar};
 ghost use Rattle.cal_model.specs.EventObject.{has_event};
 ghost use Rattle.spec_history.specs.History.{live_object};
@@ -14,7 +14,7 @@ use spec_json::tree::Tree;
 
 /// Whether a live event is in a calendar. Takes no memory, and time with the number of events.
 pub(crate) fn has_event(ledger: &Ledger, calendar: u64) -> bool
-    ensures { result ≡ has_event (history ledger.now ++ staged ledger.now) calendar }
+    ensures { result ≡ has_event (changes ledger.now) calendar }
 {
     let is_staged = has_staged_event(&ledger.staged);
     for before in 0..ledger.tally.events {
@@ -29,7 +29,7 @@ pub(crate) fn has_event(ledger: &Ledger, calendar: u64) -> bool
 // changes aren't gone over for each event.
 fn is_in_calendar(ledger: &Ledger, is_staged: bool, number: u64, calendar: u64) -> bool
     requires { is_staged ≡ has_staged_event (staged ledger.now) }
-    ensures { result ≡ is_object_in_calendar calendar (live_object (history ledger.now ++ staged ledger.now) event_kind number) }
+    ensures { result ≡ is_object_in_calendar calendar (live_object (changes ledger.now) event_kind number) }
 {
     match live_event(ledger, is_staged, number) {
         Some(event) => names_calendar(event, calendar),
@@ -40,7 +40,7 @@ fn is_in_calendar(ledger: &Ledger, is_staged: bool, number: u64, calendar: u64) 
 #[tactic(auto, using(crate::proofs::LiveEvents::live_before))]
 fn live_event(ledger: &Ledger, is_staged: bool, number: u64) -> Option<&Tree>
     requires { is_staged ≡ has_staged_event (staged ledger.now) }
-    ensures { option_map (λ t. t.now) result ≡ live_object (history ledger.now ++ staged ledger.now) event_kind number }
+    ensures { option_map (λ t. t.now) result ≡ live_object (changes ledger.now) event_kind number }
 {
     if is_staged {
         ledger.live(Kind::Event, number)

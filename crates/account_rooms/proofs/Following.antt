@@ -1,12 +1,12 @@
 -- The rooms of an account after a change that fits.
-use Rattle.std.proofs.Common.{◌≡◌, ◌≤◌, ◌⊎◌, inl, inr, ◌==◌, ◌&&◌, ◌||◌, Bool, true, false, not, cond, ℕ, List, [], ◌∷◌, ◌++◌, Option, None, Some, filter, is_some, length, map, if◌then◌else◌, arith, refl, sym, ap, subst, ◌∙◌, append-nil}
+use Rattle.std.proofs.Common.{◌≡◌, ◌≤◌, ◌⊎◌, inl, inr, ◌==◌, ◌&&◌, ◌||◌, Bool, true, false, not, cond, ℕ, List, [], ◌∷◌, ◌++◌, Option, None, Some, filter, is_some, length, map, option_and_then, if◌then◌else◌, arith, refl, sym, ap, subst, ◌∙◌, append-nil}
 use Rattle.std.proofs.lemmas.Bool.{false≢true}
 use Rattle.std.proofs.lemmas.List.Elements.{filter-append}
 use Rattle.std.specs.List.{list_all}
 use Rattle.account_rooms.proofs.Changes.{calendar_bookings, calendar_now, change, event_bookings, event_leaves_calendars, event_leaves_resources, ids_from-push, is_of_resource, resource_now, with_known, with_new}
 use Rattle.account_rooms.proofs.Counts.{length-with, length-without}
 use Rattle.account_rooms.proofs.Numbers.{any_object, filter_gone, filter_same, filter_without, not_in_filter}
-use Rattle.account_rooms.specs.RoomChanges.{MayChange, booked_again, rooms_after, rooms_by, with_room, without_room}
+use Rattle.account_rooms.specs.RoomChanges.{MayChange, booked_again, booked_with, rooms_after, rooms_by, with_room, without_room}
 use Rattle.account_rooms.specs.Rooms.{AreFree, AreRooms, BookedRoom, bookings_in, has_room, room_at, rooms_at}
 use Rattle.cal_model.specs.EventObject.{has_event, names_missing_calendar}
 use Rattle.cal_model.specs.Fits.{IsFit, IsObjectFit}
@@ -19,6 +19,8 @@ use Rattle.spec_history.specs.declared.entry.Kind.TheVariants.{Calendar, Event}
 use Rattle.spec_json.specs.TreeData.{data_of}
 use Rattle.spec_json.specs.declared.tree.Tree.{Tree}
 use Rattle.spec_recurrence.specs.SeriesOf.{series_in}
+use Rattle.spec_bookings.specs.SeriesPut.{series_put}
+use Rattle.spec_series.specs.declared.series.Series.{Series}
 use Rattle.spec_bookings.proofs.Numbered.{in_filter, numbered_if_live, resource_is_live}
 use Rattle.spec_bookings.specs.BookedResources.{booked_in, bookings_of}
 use Rattle.spec_bookings.specs.Resources.{is_resource, resources_at, zone_of_resource}
@@ -44,10 +46,18 @@ same_rooms : (zones : List ZoneText) (cs ds : List Change) (ns : List ℕ) → (
 same_rooms zones cs ds [] h = refl
 same_rooms zones cs ds (n ∷ ns) h = rw (h n, same_rooms zones cs ds ns h) refl
 
+-- the series of what is put of an event
+abbrev put_series : List ZoneText → Option Tree → Option Series
+put_series zones o = option_and_then (λ t. series_in zones (data_of t)) o
+
+same_books : (zones : List ZoneText) (n : ℕ) (o : Option Tree) → booked_by (booked_with (put_series zones o) n) o ≡ booked_by (booked_in zones n) o
+same_books zones n None = refl
+same_books zones n (Some t) = refl
+
 rooms_booked : (zones : List ZoneText) (cs : List Change) (id : ℕ) (o : Option Tree) (ns : List ℕ)
-    → map (booked_again zones id o) (map (room_at zones cs) ns) ≡ map (room_at zones (cs ++ change Event id o ∷ [])) ns
+    → map (booked_again id o (put_series zones o)) (map (room_at zones cs) ns) ≡ map (room_at zones (cs ++ change Event id o ∷ [])) ns
 rooms_booked zones cs id o [] = refl
-rooms_booked zones cs id o (n ∷ ns) = rw (event_bookings zones cs id o n, rooms_booked zones cs id o ns) refl
+rooms_booked zones cs id o (n ∷ ns) = rw (same_books zones n o, event_bookings zones cs id o n, rooms_booked zones cs id o ns) refl
 
 rooms_without : (zones : List ZoneText) (cs : List Change) (id : ℕ) (ns : List ℕ) → without_room id (map (room_at zones cs) ns) ≡ map (room_at zones cs) (filter (λ n. not (n == id)) ns)
 rooms_without zones cs id [] = refl
@@ -92,7 +102,7 @@ module _ (zones : List ZoneText) (cs : List Change) (id : ℕ) (o : Option Tree)
   abbrev bookings_after : ℕ → List Booking
   bookings_after n = with_booked id (booked_by (booked_in zones n) o) (without_booking id (bookings_of zones cs n))
 
-event_rooms : (zones : List ZoneText) (cs : List Change) (id : ℕ) (o : Option Tree) → map (booked_again zones id o) (rooms_at zones cs) ≡ rooms_at zones (event_after zones cs id o)
+event_rooms : (zones : List ZoneText) (cs : List Change) (id : ℕ) (o : Option Tree) → map (booked_again id o (put_series zones o)) (rooms_at zones cs) ≡ rooms_at zones (event_after zones cs id o)
 event_rooms zones cs id o =
     rooms_booked zones cs id o (resources_at cs)
     ∙ ap (map (room_at zones (event_after zones cs id o))) (sym (filter_same (is_resource (event_after zones cs id o)) (is_resource cs) (ids_at cs Calendar) (event_leaves_resources cs id o))
@@ -154,9 +164,9 @@ event_none zones cs id (Some t) fit n gone none =
     (booked_by_cases (λ bs. bs ≡ []) zones n id t [] (λ named. absurd (named_is_live cs t n fit.calendars named gone)) refl)
 
 event_follows : (zones : List ZoneText) (cs : List Change) (id : ℕ) (o : Option Tree) (rs : List BookedRoom) → AreRooms zones cs rs → IsObjectFit zones cs Event id o
-    → AreRooms zones (event_after zones cs id o) (map (booked_again zones id o) rs)
+    → AreRooms zones (event_after zones cs id o) (map (booked_again id o (put_series zones o)) rs)
 event_follows zones cs id o rs h fit = record {
-  rooms = ap (map (booked_again zones id o)) h.rooms ∙ event_rooms zones cs id o;
+  rooms = ap (map (booked_again id o (put_series zones o))) h.rooms ∙ event_rooms zones cs id o;
   free = λ n r. subst IsFree (sym (event_bookings zones cs id o n)) (event_free zones cs id o h.free fit n (sym (event_leaves_resources cs id o n) ∙ r));
   few = λ n r.
       let was : is_resource cs n ≡ true = sym (event_leaves_resources cs id o n) ∙ r in
@@ -239,7 +249,7 @@ with_room_by id rs there h = rw h refl
 
 -- a calendar that is created
 created_rooms : (zones : List ZoneText) (cs : List Change) (id : ℕ) (t : Tree) → bookings_of zones cs id ≡ [] → is_in (ids_at cs Calendar) id ≡ false
-    → rooms_by zones Calendar id (Some t) (rooms_at zones cs) ≡ rooms_at zones (calendar_after cs id (Some t))
+    → rooms_by Calendar id (Some t) None (rooms_at zones cs) ≡ rooms_at zones (calendar_after cs id (Some t))
 created_rooms zones cs id t none new = by_cases (is_some (zone_of_resource t)) refl ∙ sym (calendar_rooms zones cs id (Some t) ∙ ap (map (room_at zones cs)) listed)
   where
     listed : resources_at (calendar_after cs id (Some t)) ≡ resources_at cs ++ filter (is_resource_after cs id (Some t)) (id ∷ [])
@@ -253,7 +263,7 @@ created_rooms zones cs id t none new = by_cases (is_some (zone_of_resource t)) r
     tested n z e f = rw (e, f) refl
 
     by_cases : (z : Bool) → is_some (zone_of_resource t) ≡ z
-        → rooms_by zones Calendar id (Some t) (rooms_at zones cs) ≡ map (room_at zones cs) (resources_at cs ++ filter (is_resource_after cs id (Some t)) (id ∷ []))
+        → rooms_by Calendar id (Some t) None (rooms_at zones cs) ≡ map (room_at zones cs) (resources_at cs ++ filter (is_resource_after cs id (Some t)) (id ∷ []))
     by_cases true e =
         ap (λ z. if z then with_room id (rooms_at zones cs) else rooms_at zones cs) e
         ∙ with_room_by id (rooms_at zones cs) false (no_room zones cs id (no_resource cs id (not_live cs id new)))
@@ -265,7 +275,7 @@ created_rooms zones cs id t none new = by_cases (is_some (zone_of_resource t)) r
 
 -- a calendar that is there, and is of a resource as before or is not as before
 updated_rooms : (zones : List ZoneText) (cs : List Change) (id : ℕ) (t : Tree) → is_in (ids_at cs Calendar) id ≡ true → is_some (zone_of_resource t) ≡ is_resource cs id
-    → rooms_by zones Calendar id (Some t) (rooms_at zones cs) ≡ rooms_at zones (calendar_after cs id (Some t))
+    → rooms_by Calendar id (Some t) None (rooms_at zones cs) ≡ rooms_at zones (calendar_after cs id (Some t))
 updated_rooms zones cs id t known same = by_cases (is_resource cs id) refl ∙ sym (calendar_rooms zones cs id (Some t) ∙ ap (map (room_at zones cs)) listed)
   where
     tested : (n : ℕ) → is_resource_after cs id (Some t) n ≡ is_resource cs n
@@ -277,7 +287,7 @@ updated_rooms zones cs id t known same = by_cases (is_resource cs id) refl ∙ s
         ∙ ap (filter (is_resource_after cs id (Some t))) (with_known (ids_at cs Calendar) id known)
         ∙ filter_same (is_resource_after cs id (Some t)) (is_resource cs) (ids_at cs Calendar) tested
 
-    by_cases : (z : Bool) → is_resource cs id ≡ z → rooms_by zones Calendar id (Some t) (rooms_at zones cs) ≡ rooms_at zones cs
+    by_cases : (z : Bool) → is_resource cs id ≡ z → rooms_by Calendar id (Some t) None (rooms_at zones cs) ≡ rooms_at zones cs
     by_cases true e =
         ap (λ z. if z then with_room id (rooms_at zones cs) else rooms_at zones cs) (same ∙ e)
         ∙ with_room_by id (rooms_at zones cs) true (room_of_resource zones cs id e)
@@ -320,23 +330,23 @@ calendar_none zones cs id o none fit n gone = calendar_bookings zones cs id o n 
 
 put_rooms : (zones : List ZoneText) (cs : List Change) (rs : List BookedRoom) (id : ℕ) (o : Option Tree) → AreRooms zones cs rs → IsObjectFit zones cs Calendar id o
     → (id ≡ next_number cs Calendar) ⊎ (is_some (live_object cs Calendar id) ≡ true) → is_in (ids_at cs Calendar) (next_number cs Calendar) ≡ false
-    → rooms_by zones Calendar id o (rooms_at zones cs) ≡ rooms_at zones (calendar_after cs id o)
+    → rooms_by Calendar id o None (rooms_at zones cs) ≡ rooms_at zones (calendar_after cs id o)
 put_rooms zones cs rs id None h fit number new = removed_rooms zones cs id
 put_rooms zones cs rs id (Some t) h fit number new = elim number [ inl next ↦ created (ap (is_in (ids_at cs Calendar)) next ∙ new) | inr live ↦ there live fit ]
   where
-    created : is_in (ids_at cs Calendar) id ≡ false → rooms_by zones Calendar id (Some t) (rooms_at zones cs) ≡ rooms_at zones (calendar_after cs id (Some t))
+    created : is_in (ids_at cs Calendar) id ≡ false → rooms_by Calendar id (Some t) None (rooms_at zones cs) ≡ rooms_at zones (calendar_after cs id (Some t))
     created unknown = created_rooms zones cs id t (h.none id (not_live cs id unknown)) unknown
 
     there : is_some (live_object cs Calendar id) ≡ true → (id ≡ next_number cs Calendar) ⊎ (is_some (zone_of_resource t) ≡ is_resource cs id)
-        → rooms_by zones Calendar id (Some t) (rooms_at zones cs) ≡ rooms_at zones (calendar_after cs id (Some t))
+        → rooms_by Calendar id (Some t) None (rooms_at zones cs) ≡ rooms_at zones (calendar_after cs id (Some t))
     there live (inl next) = created (ap (is_in (ids_at cs Calendar)) next ∙ new)
     there live (inr same) = updated_rooms zones cs id t (live_is_numbered cs Calendar id live) same
 
 calendar_follows : (zones : List ZoneText) (cs : List Change) (id : ℕ) (o : Option Tree) (rs : List BookedRoom) → AreRooms zones cs rs → IsObjectFit zones cs Calendar id o
     → (id ≡ next_number cs Calendar) ⊎ (is_some (live_object cs Calendar id) ≡ true) → is_in (ids_at cs Calendar) (next_number cs Calendar) ≡ false
-    → AreRooms zones (calendar_after cs id o) (rooms_by zones Calendar id o rs)
+    → AreRooms zones (calendar_after cs id o) (rooms_by Calendar id o None rs)
 calendar_follows zones cs id o rs h fit number new = record {
-  rooms = ap (rooms_by zones Calendar id o) h.rooms ∙ put_rooms zones cs rs id o h fit number new;
+  rooms = ap (rooms_by Calendar id o None) h.rooms ∙ put_rooms zones cs rs id o h fit number new;
   free = each_resource IsFree zones cs rs id o h fit new (λ x. refl) h.free;
   few = each_resource (λ bs. length bs ≤ MAX_BOOKINGS) zones cs rs id o h fit new (omega arith) h.few;
   none = calendar_none zones cs id o h.none fit;
@@ -344,24 +354,24 @@ calendar_follows zones cs id o rs h fit number new = record {
 
 follows : (zones : List ZoneText) (cs : List Change) (kind : Kind) (id : ℕ) (o : Option Tree) (rs : List BookedRoom) → AreRooms zones cs rs → IsObjectFit zones cs kind id o
     → (id ≡ next_number cs kind) ⊎ (is_some (live_object cs kind id) ≡ true) → is_in (ids_at cs Calendar) (next_number cs Calendar) ≡ false
-    → AreRooms zones (cs ++ change kind id o ∷ []) (rooms_by zones kind id o rs)
+    → AreRooms zones (cs ++ change kind id o ∷ []) (rooms_by kind id o (series_put zones (change kind id o)) rs)
 follows zones cs Calendar id o rs h fit number new = calendar_follows zones cs id o rs h fit number new
 follows zones cs Event id o rs h fit number new = event_follows zones cs id o rs h fit
 
 -- a change that fits keeps what the rooms keep
 pub rooms_more : (zones : List ZoneText) (cs : List Change) (c : Change) (rs : List BookedRoom) → AreRooms zones cs rs → IsFit zones cs c → is_in (ids_at cs Calendar) (next_number cs Calendar) ≡ false
-    → AreRooms zones (cs ++ c ∷ []) (rooms_after zones c rs)
+    → AreRooms zones (cs ++ c ∷ []) (rooms_after c (series_put zones c) rs)
 rooms_more zones cs c rs h fit new = follows zones cs c.kind c.id c.object rs h fit.object fit.number new
 
-may_by : (zones : List ZoneText) (cs : List Change) (kind : Kind) (id : ℕ) (o : Option Tree) (rs : List BookedRoom) → AreRooms zones cs rs → IsObjectFit zones cs kind id o → MayChange zones rs kind o
+may_by : (zones : List ZoneText) (cs : List Change) (kind : Kind) (id : ℕ) (o : Option Tree) (rs : List BookedRoom) → AreRooms zones cs rs → IsObjectFit zones cs kind id o → MayChange rs kind o (series_put zones (change kind id o))
 may_by zones cs Calendar id o rs h fit = tt
 may_by zones cs Event id None rs h fit = tt
 may_by zones cs Event id (Some t) rs h fit = λ n there named.
     let takes = fit.bookings n named (resource_of_room zones cs n (sym (ap (has_room n) h.rooms) ∙ there)) in
-    record { series = takes.series; valid = takes.valid; week = takes.week }
+    record { series = takes.series; is = takes.valid; week = takes.week }
 
 -- and its event may be booked
-pub rooms_may : (zones : List ZoneText) (cs : List Change) (c : Change) (rs : List BookedRoom) → AreRooms zones cs rs → IsFit zones cs c → MayChange zones rs c.kind c.object
+pub rooms_may : (zones : List ZoneText) (cs : List Change) (c : Change) (rs : List BookedRoom) → AreRooms zones cs rs → IsFit zones cs c → MayChange rs c.kind c.object (series_put zones c)
 rooms_may zones cs c rs h fit = may_by zones cs c.kind c.id c.object rs h fit.object
 
 pub no_rooms : (zones : List ZoneText) → AreRooms zones [] []

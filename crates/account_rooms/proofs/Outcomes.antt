@@ -10,7 +10,7 @@ use Rattle.cal_model.specs.declared.outcome.Outcome.{Outcome}
 use Rattle.cal_model.specs.declared.outcome.Outcome.TheVariants.{Accepted, Refused}
 use Rattle.cal_model.specs.declared.set_error.SetError.TheVariants.{CalendarHasEvent, Clashes, OverQuota}
 use Rattle.account_rooms.proofs.Resources.{FirstIn, at_resource, first_of_all, resource_at}
-use Rattle.account_rooms.specs.Storing.{ClashesAreExact, ClashesAreFirst, ClashesAreOfStoring, IsClashed, IsOfStoring, IsToldClash, MeetsNoEarlier, OthersAreStored, WouldClash, outcome, stored_event, stored_members}
+use Rattle.account_rooms.specs.Storing.{ClashesAreExact, ClashesAreFirst, ClashesAreOfStoring, IsClashed, IsPatchedEvent, IsStoringAlone, IsToldClash, MeetsNoEarlier, OthersAreStored, Stores, WouldClash, outcome, stored_event, stored_members}
 use Rattle.account_rooms.specs.Twice.{WouldCoverTwice}
 use Rattle.spec_history.specs.declared.entry.Change.{Change}
 use Rattle.spec_history.specs.History.{next_number}
@@ -135,20 +135,38 @@ module _ (g : Ground) (cs : List Change) where
       let last = last_of_all cs (exceeds_resources cs n d) None (put Calendar n (stored (calendar_in d))) (bad_of_calendar g cs before names_id d) calendar clash h in
       cc last.1.1
 
-  stored_of : (kind : Kind) (n : ℕ) (before : Option Tree) (names_id : Bool) (ps : List Pair) → IsClashed (object_outcome g cs kind n before names_id ps) → IsOfStoring g cs (object_outcome g cs kind n before names_id ps)
-  stored_of Calendar n before names_id ps h = absurd (calendar_not n before names_id ps h)
-  stored_of Event n before names_id ps h = (n, (before, (names_id, (ps, refl))))
+  calendar_patched_not : (n : ℕ) (before : Tree) (r : Result Data (List ℕ)) → IsClashed (patched_outcome g cs Calendar n before r) → ⊥
+  calendar_patched_not n before (Err key) (calendar, (clash, h)) = cc h
+  calendar_patched_not n before (Ok d) h = calendar_not n (Some before) (has_other_id Calendar n (members_in d)) (members_in d) h
 
-  patched_of : (kind : Kind) (n : ℕ) (before : Tree) (r : Result Data (List ℕ)) → IsClashed (patched_outcome g cs kind n before r) → IsOfStoring g cs (patched_outcome g cs kind n before r)
-  patched_of kind n before (Err key) (calendar, (clash, h)) = absurd (cc h)
-  patched_of kind n before (Ok d) h = stored_of kind n (Some before) (has_other_id kind n (members_in d)) (members_in d) h
+  calendar_updated_not : (patch : List Pair) (is_destroyed is_repeated : Bool) (o : Option (ℕ × Tree)) → IsClashed (updated_outcome g cs Calendar patch is_destroyed is_repeated o) → ⊥
+  calendar_updated_not patch is_destroyed is_repeated None (calendar, (clash, h)) = cc h
+  calendar_updated_not patch true is_repeated (Some q) (calendar, (clash, h)) = cc h
+  calendar_updated_not patch false true (Some q) (calendar, (clash, h)) = cc h
+  calendar_updated_not patch false false (Some q) h = calendar_patched_not q.0 q.1 (patched (data_of q.1) patch) h
 
-  updated_of : (kind : Kind) (patch : List Pair) (is_destroyed is_repeated : Bool) (o : Option (ℕ × Tree))
-      → IsClashed (updated_outcome g cs kind patch is_destroyed is_repeated o) → IsOfStoring g cs (updated_outcome g cs kind patch is_destroyed is_repeated o)
-  updated_of kind patch is_destroyed is_repeated None (calendar, (clash, h)) = absurd (cc h)
-  updated_of kind patch true is_repeated (Some q) (calendar, (clash, h)) = absurd (cc h)
-  updated_of kind patch false true (Some q) (calendar, (clash, h)) = absurd (cc h)
-  updated_of kind patch false false (Some q) h = patched_of kind q.0 q.1 (patched (data_of q.1) patch) h
+  applied : (n : ℕ) (before : Tree) (r : Result Data (List ℕ)) → IsClashed (patched_outcome g cs Event n before r) → (d : Data) × (r ≡ Ok d)
+  applied n before (Err key) (calendar, (clash, h)) = absurd (cc h)
+  applied n before (Ok d) h = (d, refl)
+
+  -- what an update is that is refused as a clash
+  record IsStored (patch : List Pair) (is_destroyed is_repeated : Bool) (o : Option (ℕ × Tree)) : Type 0 where
+    n : ℕ
+    before : Tree
+    d : Data
+    named : o ≡ Some (n, before)
+    applies : patched (data_of before) patch ≡ Ok d
+    stays : is_destroyed ≡ false
+    first : is_repeated ≡ false
+
+  updated_is : (patch : List Pair) (is_destroyed is_repeated : Bool) (o : Option (ℕ × Tree)) → IsClashed (updated_outcome g cs Event patch is_destroyed is_repeated o)
+      → IsStored patch is_destroyed is_repeated o
+  updated_is patch is_destroyed is_repeated None (calendar, (clash, h)) = absurd (cc h)
+  updated_is patch true is_repeated (Some q) (calendar, (clash, h)) = absurd (cc h)
+  updated_is patch false true (Some q) (calendar, (clash, h)) = absurd (cc h)
+  updated_is patch false false (Some (n, before)) h =
+      let made = applied n before (patched (data_of before) patch) h in
+      record { n = n; before = before; d = made.0; named = refl; applies = made.1; stays = refl; first = refl }
 
   destroyed_not : (kind : Kind) (o : Option (ℕ × Tree)) → IsClashed (destroyed_outcome g cs kind o) → ⊥
   destroyed_not kind None (calendar, (clash, h)) = cc h
@@ -158,20 +176,43 @@ module _ (g : Ground) (cs : List Change) where
       by_cases true (calendar, (clash, e)) = cc e
       by_cases false (calendar, (clash, e)) = let last = last_of_all cs false None (removal kind q.0) [] calendar clash e in cc last.1.1
 
-  unless_of : (o : Option Tree) (is_destroyed : Bool) (x : Outcome) → (IsClashed x → IsOfStoring g cs x) → IsClashed (unless_occurrence g cs o is_destroyed x) → IsOfStoring g cs (unless_occurrence g cs o is_destroyed x)
-  unless_of None is_destroyed x f h = f h
-  unless_of (Some t) true x f (calendar, (clash, h)) = absurd (cc h)
-  unless_of (Some t) false x f (calendar, (clash, h)) = absurd (cc h)
+  whole : (o : Option Tree) (is_destroyed : Bool) (x : Outcome) → IsClashed (unless_occurrence g cs o is_destroyed x) → (o ≡ None) × IsClashed x
+  whole None is_destroyed x h = (refl, h)
+  whole (Some t) true x (calendar, (clash, h)) = absurd (cc h)
+  whole (Some t) false x (calendar, (clash, h)) = absurd (cc h)
 
-  operation_of : (kind : Kind) (created : List (List ℕ × List ℕ)) (o : Operation) → IsClashed (outcome_of g cs kind created o) → IsOfStoring g cs (outcome_of g cs kind created o)
-  operation_of kind created (update id patch is_destroyed is_repeated) h =
-      unless_of (occurrence_named cs kind id) is_destroyed (updated_outcome g cs kind (resolved_patch created kind patch) is_destroyed is_repeated (object_named cs kind id))
-      (updated_of kind (resolved_patch created kind patch) is_destroyed is_repeated (object_named cs kind id)) h
-  operation_of kind created (destroy id) h =
-      unless_of (occurrence_named cs kind id) false (destroyed_outcome g cs kind (object_named cs kind id)) (λ e. absurd (destroyed_not kind (object_named cs kind id) e)) h
+  module _ (created : List (List ℕ × List ℕ)) where
+    others_store : (o : Operation) → IsClashed (outcome_of g cs Event created o) → (n : ℕ) × ((before : Tree) × ((d : Data) × Stores cs created o n before d))
+    others_store (update id patch is_destroyed is_repeated) h =
+        let event = whole (occurrence_named cs Event id) is_destroyed (updated_outcome g cs Event (resolved_patch created Event patch) is_destroyed is_repeated (object_named cs Event id)) h in
+        let is = updated_is (resolved_patch created Event patch) is_destroyed is_repeated (object_named cs Event id) event.1 in
+        (is.n, (is.before, (is.d, (record { whole = event.0; named = is.named; applies = is.applies }, (is.stays, is.first)))))
+    others_store (destroy id) h =
+        let event = whole (occurrence_named cs Event id) false (destroyed_outcome g cs Event (object_named cs Event id)) h in
+        absurd (destroyed_not Event (object_named cs Event id) event.1)
+
+    calendars_not : (o : Operation) → IsClashed (outcome_of g cs Calendar created o) → ⊥
+    calendars_not (update id patch is_destroyed is_repeated) h = calendar_updated_not (resolved_patch created Calendar patch) is_destroyed is_repeated (object_named cs Calendar id) h
+    calendars_not (destroy id) h = destroyed_not Calendar (object_named cs Calendar id) h
+
+    updates_store : (o : Operation) (n : ℕ) (before : Tree) (d : Data) → Stores cs created o n before d
+        → outcome_of g cs Event created o ≡ outcome g cs n (Some before) (has_other_id Event n (members_in d)) (members_in d)
+    updates_store (update id patch is_destroyed is_repeated) n before d (is, (stays, first)) =
+        let resolved = resolved_patch created Event patch in
+        ap (λ t. unless_occurrence g cs t is_destroyed (updated_outcome g cs Event resolved is_destroyed is_repeated (object_named cs Event id))) is.whole
+        ∙ ap (λ b. updated_outcome g cs Event resolved b is_repeated (object_named cs Event id)) stays
+        ∙ ap (λ b. updated_outcome g cs Event resolved false b (object_named cs Event id)) first
+        ∙ ap (updated_outcome g cs Event resolved false false) is.named
+        ∙ ap (patched_outcome g cs Event n before) is.applies
+    updates_store (destroy id) n before d h = absurd h
 
 pub clashes_are_of_storing : ClashesAreOfStoring
-clashes_are_of_storing g cs kind created = (
-  λ p h. stored_of g cs kind (next_number cs kind) None (is_some (lookup (codes "id") (given (resolved_object created kind (members_in p.1))))) (resolved_object created kind (members_in p.1)) h,
-  operation_of g cs kind created,
-)
+clashes_are_of_storing g cs created = record {
+  creates = λ p. refl;
+  updates = updates_store g cs created;
+  others = others_store g cs created;
+  new_calendars = λ p h.
+      let ps = resolved_object created Calendar (members_in p.1) in
+      calendar_not g cs (next_number cs Calendar) None (is_some (lookup (codes "id") (given ps))) ps h;
+  calendars = calendars_not g cs created;
+}

@@ -1,9 +1,9 @@
 -- Lists of slots, one step after the other.
-use Rattle.std.proofs.Common.{◌≡◌, ◌+◌, ◌<◌, ◌==◌, ◌&&◌, ◌||◌, Bool, true, false, ℕ, zero, suc, List, [], ◌∷◌, ◌++◌, Some, add-one, arith, drop, filter, get_or, length, map, refl, set, subst, sym, take, ap, ◌∙◌}
+use Rattle.std.proofs.Common.{◌≡◌, ◌+◌, ◌<◌, ◌==◌, ◌&&◌, ◌||◌, Bool, true, false, ℕ, zero, suc, List, [], ◌∷◌, ◌++◌, Option, Some, add-one, arith, drop, filter, get_or, length, map, refl, set, subst, sym, take, ap, ◌∙◌}
 use Rattle.std.proofs.lemmas.Bool.{false≢true}
 use Rattle.std.proofs.lemmas.Option.{same_Some}
 use Rattle.std.specs.List.{list_any}
-use Rattle.account_rooms.specs.RoomChanges.{HasShortSeries, booked_again, without_room}
+use Rattle.account_rooms.specs.RoomChanges.{IsShortSeries, booked_again, without_room}
 use Rattle.account_rooms.specs.Rooms.{BookedRoom, has_room}
 use Rattle.account_rooms.specs.RoomsView.{RoomsView}
 use Rattle.account_rooms.specs.Slots.{booked, closed, kept_slot, retired, room_kept, room_now, rooms_kept, rooms_now, is_booked_by, undone}
@@ -11,11 +11,9 @@ use Rattle.account_rooms.specs.declared.slot.Slot.{Slot}
 use Rattle.spec_events.specs.Events.{names_calendar}
 use Rattle.spec_json.specs.TreeData.{data_of}
 use Rattle.spec_json.specs.declared.tree.Tree.{Tree}
-use Rattle.spec_recurrence.specs.SeriesOf.{series_in}
 use Rattle.spec_bookings.specs.Bookings.{with_booking, without_booking}
 use Rattle.spec_series.specs.Lengths.{IsWeekLong}
 use Rattle.spec_series.specs.declared.series.Series.{Series}
-use Rattle.spec_site.specs.TimeZones.{ZoneText}
 use Rattle.resource_book.specs.RoomView.{RoomView}
 use Rattle.spec_bookings.proofs.Tables.{by_test, number_same, or_false}
 
@@ -144,53 +142,52 @@ view_of a b c d e f = rw (e, f) refl
 
 -- Bookings of an event.
 
-not_taken_one : (zones : List ZoneText) (n : ℕ) (t : Tree) (m : ℕ) (r : RoomView) (lives named : Bool) (ss : List Slot) → names_calendar m (data_of t) ≡ named → (lives && named) ≡ false
-    → rooms_now (map (retired n) ss) ≡ map (booked_again zones n (Some t)) (rooms_now ss)
-    → rooms_now (map (retired n) (slot m r lives ∷ ss)) ≡ map (booked_again zones n (Some t)) (rooms_now (slot m r lives ∷ ss))
-not_taken_one zones n t m r true true ss e g h = absurd (false≢true (sym g))
-not_taken_one zones n t m r true false ss e g h = rw e (ap (λ rs. room_without n (room_now (slot m r true)) ∷ rs) h)
-not_taken_one zones n t m r false named ss e g h = h
+not_taken_one : (n : ℕ) (t : Tree) (series : Option Series) (m : ℕ) (r : RoomView) (lives named : Bool) (ss : List Slot) → names_calendar m (data_of t) ≡ named → (lives && named) ≡ false
+    → rooms_now (map (retired n) ss) ≡ map (booked_again n (Some t) series) (rooms_now ss)
+    → rooms_now (map (retired n) (slot m r lives ∷ ss)) ≡ map (booked_again n (Some t) series) (rooms_now (slot m r lives ∷ ss))
+not_taken_one n t series m r true true ss e g h = absurd (false≢true (sym g))
+not_taken_one n t series m r true false ss e g h = rw e (ap (λ rs. room_without n (room_now (slot m r true)) ∷ rs) h)
+not_taken_one n t series m r false named ss e g h = h
 
 -- an event that is in no calendar that has a room
-pub not_taken : (zones : List ZoneText) (n : ℕ) (t : Tree) (ss : List Slot) → list_any (is_booked_by (data_of t)) (map (retired n) ss) ≡ false
-    → rooms_now (map (retired n) ss) ≡ map (booked_again zones n (Some t)) (rooms_now ss)
-not_taken zones n t [] h = refl
-not_taken zones n t (s ∷ ss) h =
+pub not_taken : (n : ℕ) (t : Tree) (series : Option Series) (ss : List Slot) → list_any (is_booked_by (data_of t)) (map (retired n) ss) ≡ false
+    → rooms_now (map (retired n) ss) ≡ map (booked_again n (Some t) series) (rooms_now ss)
+not_taken n t series [] h = refl
+not_taken n t series (s ∷ ss) h =
     let parts = or_false (is_booked_by (data_of t) (retired n s)) (list_any (is_booked_by (data_of t)) (map (retired n) ss)) h in
-    not_taken_one zones n t s.calendar s.room s.live (names_calendar s.calendar (data_of t)) ss refl parts.0 (not_taken zones n t ss parts.1)
+    not_taken_one n t series s.calendar s.room s.live (names_calendar s.calendar (data_of t)) ss refl parts.0 (not_taken n t series ss parts.1)
 
-taken_one : (zones : List ZoneText) (n : ℕ) (t : Tree) (series : Series) (m : ℕ) (r : RoomView) (lives named : Bool) (ss : List Slot) → names_calendar m (data_of t) ≡ named
-    → series_in zones (data_of t) ≡ Some series
-    → rooms_now (map (booked n (data_of t) series) (map (retired n) ss)) ≡ map (booked_again zones n (Some t)) (rooms_now ss)
-    → rooms_now (map (booked n (data_of t) series) (map (retired n) (slot m r lives ∷ ss))) ≡ map (booked_again zones n (Some t)) (rooms_now (slot m r lives ∷ ss))
-taken_one zones n t series m r true true ss e f h = rw (e, f) (ap (λ rs. record { calendar = m; bookings = with_booking n series (without_booking n r.bookings) } ∷ rs) h)
-taken_one zones n t series m r true false ss e f h = rw e (ap (λ rs. room_without n (room_now (slot m r true)) ∷ rs) h)
-taken_one zones n t series m r false named ss e f h = h
+taken_one : (n : ℕ) (t : Tree) (series : Series) (m : ℕ) (r : RoomView) (lives named : Bool) (ss : List Slot) → names_calendar m (data_of t) ≡ named
+    → rooms_now (map (booked n (data_of t) series) (map (retired n) ss)) ≡ map (booked_again n (Some t) (Some series)) (rooms_now ss)
+    → rooms_now (map (booked n (data_of t) series) (map (retired n) (slot m r lives ∷ ss))) ≡ map (booked_again n (Some t) (Some series)) (rooms_now (slot m r lives ∷ ss))
+taken_one n t series m r true true ss e h = rw e (ap (λ rs. record { calendar = m; bookings = with_booking n series (without_booking n r.bookings) } ∷ rs) h)
+taken_one n t series m r true false ss e h = rw e (ap (λ rs. room_without n (room_now (slot m r true)) ∷ rs) h)
+taken_one n t series m r false named ss e h = h
 
 -- an event whose series is booked
-pub taken : (zones : List ZoneText) (n : ℕ) (t : Tree) (series : Series) (ss : List Slot) → series_in zones (data_of t) ≡ Some series
-    → rooms_now (map (booked n (data_of t) series) (map (retired n) ss)) ≡ map (booked_again zones n (Some t)) (rooms_now ss)
-taken zones n t series [] f = refl
-taken zones n t series (s ∷ ss) f = taken_one zones n t series s.calendar s.room s.live (names_calendar s.calendar (data_of t)) ss refl f (taken zones n t series ss f)
+pub taken : (n : ℕ) (t : Tree) (series : Series) (ss : List Slot)
+    → rooms_now (map (booked n (data_of t) series) (map (retired n) ss)) ≡ map (booked_again n (Some t) (Some series)) (rooms_now ss)
+taken n t series [] = refl
+taken n t series (s ∷ ss) = taken_one n t series s.calendar s.room s.live (names_calendar s.calendar (data_of t)) ss refl (taken n t series ss)
 
-abbrev MayBook : List ZoneText → List BookedRoom → Tree → Type 0
-MayBook zones rs t = (n : ℕ) → has_room n rs ≡ true → names_calendar n (data_of t) ≡ true → HasShortSeries zones (data_of t)
+abbrev MayBook : List BookedRoom → Tree → Option Series → Type 0
+MayBook rs t series = (n : ℕ) → has_room n rs ≡ true → names_calendar n (data_of t) ≡ true → IsShortSeries series
 
 or_right : (a b : Bool) → b ≡ true → (a || b) ≡ true
 or_right true b h = refl
 or_right false b h = h
 
-short_one : (zones : List ZoneText) (t : Tree) (m : ℕ) (r : RoomView) (lives named there : Bool) (ss : List Slot) → names_calendar m (data_of t) ≡ named → ((lives && named) || there) ≡ true
-    → MayBook zones (rooms_now (slot m r lives ∷ ss)) t → (MayBook zones (rooms_now ss) t → there ≡ true → HasShortSeries zones (data_of t)) → HasShortSeries zones (data_of t)
-short_one zones t m r true true there ss e h may rest = may m (rw (number_same m m refl) refl) e
-short_one zones t m r true false there ss e h may rest = rest (λ k g. may k (or_right (m == k) (has_room k (rooms_now ss)) g)) h
-short_one zones t m r false named there ss e h may rest = rest may h
+short_one : (t : Tree) (series : Option Series) (m : ℕ) (r : RoomView) (lives named there : Bool) (ss : List Slot) → names_calendar m (data_of t) ≡ named → ((lives && named) || there) ≡ true
+    → MayBook (rooms_now (slot m r lives ∷ ss)) t series → (MayBook (rooms_now ss) t series → there ≡ true → IsShortSeries series) → IsShortSeries series
+short_one t series m r true true there ss e h may rest = may m (rw (number_same m m refl) refl) e
+short_one t series m r true false there ss e h may rest = rest (λ k g. may k (or_right (m == k) (has_room k (rooms_now ss)) g)) h
+short_one t series m r false named there ss e h may rest = rest may h
 
 -- an event that is in a calendar that has a room has a series that may be booked
-pub short_series : (zones : List ZoneText) (n : ℕ) (t : Tree) (ss : List Slot) → MayBook zones (rooms_now ss) t → list_any (is_booked_by (data_of t)) (map (retired n) ss) ≡ true → HasShortSeries zones (data_of t)
-short_series zones n t [] may h = absurd (false≢true h)
-short_series zones n t (s ∷ ss) may h =
-    short_one zones t s.calendar s.room s.live (names_calendar s.calendar (data_of t)) (list_any (is_booked_by (data_of t)) (map (retired n) ss)) ss refl h may (λ more. short_series zones n t ss more)
+pub short_series : (n : ℕ) (t : Tree) (series : Option Series) (ss : List Slot) → MayBook (rooms_now ss) t series → list_any (is_booked_by (data_of t)) (map (retired n) ss) ≡ true → IsShortSeries series
+short_series n t series [] may h = absurd (false≢true h)
+short_series n t series (s ∷ ss) may h =
+    short_one t series s.calendar s.room s.live (names_calendar s.calendar (data_of t)) (list_any (is_booked_by (data_of t)) (map (retired n) ss)) ss refl h may (λ more. short_series n t series ss more)
 
-pub week_of : (zones : List ZoneText) (t : Tree) (series : Series) → HasShortSeries zones (data_of t) → series_in zones (data_of t) ≡ Some series → IsWeekLong series
-week_of zones t series short is = subst IsWeekLong (same_Some short.series series (sym short.valid ∙ is)) short.week
+pub week_of : (series : Series) → IsShortSeries (Some series) → IsWeekLong series
+week_of series short = subst IsWeekLong (same_Some short.series series (sym short.is)) short.week

@@ -14,8 +14,9 @@ pub fn first_clashes_are_least()
 
 /// A booking that meets no earlier refusal is refused as a clash exactly where two different occurrences would cover one second of a
 /// resource, on all days without end; of its own, or one of its own and one of another live event. The refusal tells the first such
-/// second of the first such resource, and the first other event that covers it. Each other such event is stored, and nothing else that a
-/// set does is refused as a clash.
+/// second of the first such resource, and the first other event that covers it. Each other such event is stored. A create of an event
+/// stores its own members under the next number, an update whose patch applies stores the patched event, and nothing else that a set does
+/// is refused as a clash.
 pub fn bookings_clash_where_two_would_cover_a_second()
     ensures exact { ClashesAreExact }
     ensures first { ClashesAreFirst }

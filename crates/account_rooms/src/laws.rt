@@ -10,6 +10,7 @@ ghost use Rattle.spec_history.specs.declared.entry.Change.{Change};
 ghost use Rattle.spec_history.specs.declared.entry.Kind.TheVariants.{Calendar};
 ghost use Rattle.spec_bookings.specs.BookedResources.{bookings_of};
 ghost use Rattle.spec_bookings.specs.Resources.{is_resource, resources_at};
+ghost use Rattle.spec_bookings.specs.SeriesPut.{series_put};
 ghost use Rattle.spec_site.specs.TimeZones.{ZoneText};
 
 /// An account without changes has no rooms. A change that fits keeps what the rooms keep: among it, that no second of a resource is
@@ -17,8 +18,8 @@ ghost use Rattle.spec_site.specs.TimeZones.{ZoneText};
 pub fn rooms_follow_changes()
     ensures none { (zones : List ZoneText) → AreRooms zones [] [] }
     ensures more { (zones : List ZoneText) (cs : List Change) (c : Change) (rs : List BookedRoom) → AreRooms zones cs rs → IsFit zones cs c
-        → is_in (ids_at cs Calendar) (next_number cs Calendar) ≡ false → AreRooms zones (cs ++ c ∷ []) (rooms_after zones c rs) }
-    ensures may { (zones : List ZoneText) (cs : List Change) (c : Change) (rs : List BookedRoom) → AreRooms zones cs rs → IsFit zones cs c → MayChange zones rs c.kind c.object }
+        → is_in (ids_at cs Calendar) (next_number cs Calendar) ≡ false → AreRooms zones (cs ++ c ∷ []) (rooms_after c (series_put zones c) rs) }
+    ensures may { (zones : List ZoneText) (cs : List Change) (c : Change) (rs : List BookedRoom) → AreRooms zones cs rs → IsFit zones cs c → MayChange rs c.kind c.object (series_put zones c) }
 {}
 
 /// The rooms of an account are its live resource calendars, and hold their bookings.

@@ -13,7 +13,6 @@ use crate::slot::{
     Slot, book_in_all, calendars_of, close, drop_closed, is_in_any, keep_all, retire_in_all,
     slot_of, undo_all,
 };
-use event_series::read::series_of;
 use resource_book::Room;
 use spec_bookings::clash::Clash;
 use spec_history::entry::{Change, Kind};
@@ -21,7 +20,6 @@ use spec_json::tree::Tree;
 use spec_series::series::Series;
 use std::alloc::{AllocError, Global};
 use std::marker::Model;
-use zone_table::Zones;
 
 /// The resource calendars of an account with their bookings, as they are and as they were when they were last kept.
 ///
@@ -93,11 +91,11 @@ impl Rooms {
         }
     }
 
-    /// Lets the rooms follow a change. After running out of memory some of its bookings may be there and others not; those that are gone
-    /// back to stay.
-    pub fn follow(&mut self, zones: &Zones, change: &Change) -> Result<(), AllocError>
-        requires { MayChange zones.now self.old.rooms change.now.kind change.now.object }
-        ensures ok { OnOk result (self.new.rooms ≡ rooms_after zones.now change.now self.old.rooms) }
+    /// Lets the rooms follow a change, which puts an event of this series if of any. After running out of memory some of its bookings may be
+    /// there and others not; those that are gone back to stay.
+    pub fn follow(&mut self, change: &Change, series: Option<&Series>) -> Result<(), AllocError>
+        requires { MayChange self.old.rooms change.now.kind change.now.object (option_map (λ s. s.now) series) }
+        ensures ok { OnOk result (self.new.rooms ≡ rooms_after change.now (option_map (λ s. s.now) series.entry) self.old.rooms) }
         ensures kept { self.new.kept ≡ self.old.kept }
     {
         match (change.kind, &change.object) {
@@ -105,7 +103,7 @@ impl Rooms {
                 self.retire(change.id);
                 Ok(())
             }
-            (Kind::Event, Some(event)) => self.book(zones, change.id, event),
+            (Kind::Event, Some(event)) => self.book(change.id, event, series),
             (Kind::Calendar, None) => {
                 self.close(change.id);
                 Ok(())
@@ -170,17 +168,19 @@ impl Rooms {
         retire_in_all(&mut self.slots, event);
     }
 
-    // Books an event anew, in the rooms of its calendars. Its series is read only where there is such a room.
-    fn book(&mut self, zones: &Zones, number: u64, event: &Tree) -> Result<(), AllocError>
-        requires { MayChange zones.now self.old.rooms event_kind (Some event.now) }
-        ensures ok { OnOk result (self.new.rooms ≡ map (booked_again zones.now number (Some event.now)) self.old.rooms) }
+    // Books an event anew, in the rooms of its calendars.
+    fn book(&mut self, number: u64, event: &Tree, series: Option<&Series>) -> Result<(), AllocError>
+        requires { MayChange self.old.rooms event_kind (Some event.now) (option_map (λ s. s.now) series) }
+        ensures ok { OnOk result (self.new.rooms ≡ map (booked_again number (Some event.now) (option_map (λ s. s.now) series.entry)) self.old.rooms) }
         ensures kept { self.new.kept ≡ self.old.kept }
     {
         retire_in_all(&mut self.slots, number);
         if !is_in_any(&self.slots, event) {
             return Ok(());
         }
-        let series = series_of(self.alloc, event, zones)?;
-        book_in_all(&mut self.slots, number, event, &series)
+        match series {
+            Some(series) => book_in_all(&mut self.slots, number, event, series),
+            None => unreachable!(),
+        }
     }
 }

@@ -2,6 +2,7 @@
 ghost use Rattle.std.specs.Prelude.{◌≡◌, true, false};
 
 use crate::CLOCK;
+use command_line::command::read_command;
 use io_edge::memory_opener::SureOpener;
 use io_edge::memory_sink::MemSink;
 use io_edge::memory_source::MemSource;
@@ -42,7 +43,7 @@ fn outcome_of(
     let mut clock = CLOCK;
     let status = run(
         alloc,
-        &words,
+        read_command(alloc, &words)?,
         &mut opener,
         &mut input,
         &mut output,

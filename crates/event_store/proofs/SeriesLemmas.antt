@@ -3,7 +3,8 @@ use Rattle.std.proofs.Common.{◌≡◌, ℕ, zero, suc, Bool, true, false, if�
 use Rattle.std.specs.Option.{option_flatten}
 use Rattle.std.proofs.lemmas.Option.{none-some}
 use Rattle.account_store.specs.Places.{object_in}
-use Rattle.event_store.specs.SeriesPut.{AreRead, series_put}
+use Rattle.event_store.specs.SeriesLog.{AreRead}
+use Rattle.spec_bookings.specs.SeriesPut.{series_put}
 use Rattle.spec_history.specs.History.{changes_of, is_kind}
 use Rattle.spec_history.specs.declared.entry.Change.{Change}
 use Rattle.spec_history.specs.declared.entry.Entry.{Entry}

@@ -1,2 +1,2 @@
-pub mod SeriesPut
+pub mod SeriesLog
 pub mod StoredEvents

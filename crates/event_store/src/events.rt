@@ -3,7 +3,7 @@ ghost use Rattle.std.specs.Prelude.{◌≡◌, ◌++◌, All, IfOk, IfSome, OnOk
 ghost use Rattle.account_store.specs.Earlier.{changes_up_to};
 ghost use Rattle.account_store.specs.Places.{object_in};
 ghost use Rattle.account_store.specs.Store.{entries};
-ghost use Rattle.event_store.specs.SeriesPut.{AreRead};
+ghost use Rattle.event_store.specs.SeriesLog.{AreRead};
 ghost use Rattle.event_store.specs.StoredEvents.{HasItsSeries};
 ghost use Rattle.spec_history.specs.History.{changes_of, live_at, live_object};
 ghost use Rattle.spec_history.specs.declared.entry.Kind.TheVariants.{Event};

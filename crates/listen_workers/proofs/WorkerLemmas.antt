@@ -22,7 +22,7 @@ use Rattle.spec_connection.specs.declared.served.TheConstants.{MAX_MESSAGES}
 use Rattle.spec_history.specs.MostTurns.{most_turns}
 use Rattle.spec_site.specs.Configuration.{Site, user_at}
 use Rattle.spec_time.specs.Moments.{clamped}
-use Rattle.listen_workers.specs.Working.{WorkerHow, MOST_CALLS, ServesEach, Tools, Visit, Works, setting_of, with_visits}
+use Rattle.listen_workers.specs.Working.{WorkerHow, MAX_CALLS, ServesEach, Tools, Visit, Works, setting_of, with_visits}
 
 -- ---- what one connection makes of the desk
 
@@ -63,7 +63,7 @@ module _ {site : Site} {x x' : Setting} {served : Served} (s : Serves site MAX_M
   pub same_accounts : x'.desk.accounts ≡ x.desk.accounts
   same_accounts = left.accounts ∙ accounts_stay x.desk s.desk (all_made (s.exchanges ++ s.unwritten)) s.told.chain
 
-  pub few_calls : x'.desk.turns ≤ x.desk.turns + MOST_CALLS
+  pub few_calls : x'.desk.turns ≤ x.desk.turns + MAX_CALLS
   few_calls =
       let few = s.told.few in
       let made = turns_counted x.desk s.desk (all_made (s.exchanges ++ s.unwritten)) s.told.chain in
@@ -88,7 +88,7 @@ pub each_accounts : (site : Site) (t u : Tools) (vs : List Visit) → ServesEach
 each_accounts site t u [] e = ap (λ (y : Tools). y.desk.accounts) e
 each_accounts site t u (v ∷ vs) e = each_accounts site e.0 u vs e.2 ∙ same_accounts e.1
 
-pub each_turns : (site : Site) (t u : Tools) (vs : List Visit) → ServesEach site t u vs → u.desk.turns ≤ t.desk.turns + MOST_CALLS * length vs
+pub each_turns : (site : Site) (t u : Tools) (vs : List Visit) → ServesEach site t u vs → u.desk.turns ≤ t.desk.turns + MAX_CALLS * length vs
 each_turns site t u [] e = (let same = ap (λ (y : Tools). y.desk.turns) e in omega (arith, same))
 each_turns site t u (v ∷ vs) e = (let rest = each_turns site e.0 u vs e.2 in let one = few_calls e.1 in omega (arith, rest, one))
 

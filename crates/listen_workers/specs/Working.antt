@@ -12,8 +12,8 @@ use Rattle.spec_history.specs.MostTurns.{most_turns}
 use Rattle.spec_site.specs.Configuration.{Site}
 
 -- the most turns of a desk that one connection takes: the calls of its messages, and one that wasn't answered
-abbrev pub MOST_CALLS : ℕ
-MOST_CALLS = 160001
+abbrev pub MAX_CALLS : ℕ
+MAX_CALLS = 160001
 
 -- what is shown of what all connections of a worker use
 pub record Tools : Type 0 where

@@ -2,8 +2,8 @@
 //! joined, and the accounts that they share.
 #![tactic(auto)]
 
-pub mod accounts;
 pub mod crew;
+pub mod desks;
 pub mod hands;
 pub mod laws;
 pub mod listeners;

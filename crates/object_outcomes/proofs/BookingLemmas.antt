@@ -7,6 +7,7 @@ use Rattle.std.specs.List.{list_any}
 use Rattle.std.proofs.lemmas.List.{at_drop_more}
 use Rattle.std.specs.Option.{option_map_or, option_or}
 use Rattle.cal_model.specs.Fits.{IsBookable}
+use Rattle.event_series.proofs.SeriesLemmas.{series_parts_of}
 use Rattle.event_series.specs.EventSeries.{IsSeriesOf}
 use Rattle.spec_events.specs.Events.{length_in, names_calendar}
 use Rattle.spec_history.specs.History.{ids_at}
@@ -78,6 +79,14 @@ not_long false b e h = absurd (false≢true e)
 
 short_enough : (n : ℕ) → nat_le n 604800 ≡ true → n ≤ 604800
 short_enough n h = grind (arith, nat_tests)
+
+-- the exceptions of an event's series are those that its overrides come to
+pub series_exceptions : (zones : List ZoneText) (d : Data) (s : Series) → series_in zones d ≡ Some s → exceptions_in zones d ≡ Some s.exceptions
+series_exceptions zones d s h = (series_parts_of zones d s h).exceptions
+
+pub long_of_series : (zones : List ZoneText) (cs : List Change) (d : Data) (s : Series) (ns : List ℕ) → series_in zones d ≡ Some s → ns ≡ resources_of cs d
+    → (not (length ns == 0) && not (are_week_long s.exceptions)) ≡ has_long_override zones cs d
+long_of_series zones cs d s ns value named = rw (series_exceptions zones d s value, named) refl
 
 pub week_long : (zones : List ZoneText) (cs : List Change) (d : Data) (s : Series) → IsSeriesOf zones d s → (resources_of cs d ≡ [] → ⊥)
     → is_long_booking cs d ≡ false → has_long_override zones cs d ≡ false → IsWeekLong s

@@ -1,5 +1,5 @@
 -- What comes of storing an event, and of destroying an object.
-use Rattle.std.proofs.Common.{◌≡◌, ℕ, List, [], Bool, false, Option, None, codes, ap, ◌∙◌}
+use Rattle.std.proofs.Common.{◌≡◌, ℕ, List, [], Bool, false, Option, Some, None, codes, ap, ap₂, ◌∙◌}
 use Rattle.cal_model.specs.EventObject.{has_other_uid, names_missing_calendar}
 use Rattle.cal_model.specs.Fits.{IsObjectFit}
 use Rattle.cal_model.specs.Operations.{Ground, after_tests, bad_of_booking, bad_of_event, is_in_use, put, stored_event_outcome, within_quota}
@@ -11,19 +11,22 @@ use Rattle.spec_history.specs.declared.entry.Kind.TheVariants.{Calendar, Event}
 use Rattle.spec_json.specs.Data.{Data, Pair, members_of, object}
 use Rattle.spec_json.specs.declared.tree.Tree.{Tree}
 use Rattle.spec_recurrence.specs.Recurrence.{bad_properties_of_event}
+use Rattle.spec_recurrence.specs.SeriesOf.{series_in}
+use Rattle.spec_series.specs.declared.series.Series.{Series}
 use Rattle.spec_bookings.specs.BookingRules.{has_long_override, is_long_booking}
 use Rattle.spec_bookings.specs.BookedResources.{clash_of_event, has_full_resource}
 use Rattle.spec_site.specs.TimeZones.{ZoneText}
+use Rattle.object_outcomes.specs.Judging.{IsStorable, names_with_own}
 use Rattle.object_outcomes.proofs.NameLemmas.{none_named, refused_names}
 
--- what an event without bad properties is
-pub record IsGood (g : Ground) (cs : List Change) (d : Data) : Type 0 where
-  pub calendars : names_missing_calendar cs d ≡ false
-  pub overrides : has_long_override g.base.zones cs d ≡ false
-  pub length : is_long_booking cs d ≡ false
-  pub valid : bad_properties_of_event g.base.zones d ≡ []
+-- an event of which no property is bad
+record IsGood (g : Ground) (cs : List Change) (d : Data) : Type 0 where
+  calendars : names_missing_calendar cs d ≡ false
+  overrides : has_long_override g.base.zones cs d ≡ false
+  length : is_long_booking cs d ≡ false
+  valid : bad_properties_of_event g.base.zones d ≡ []
 
-pub good_event : (g : Ground) (cs : List Change) (before : Option Tree) (names_id : Bool) (d : Data) → bad_of_event g cs before names_id d ≡ [] → IsGood g cs d
+good_event : (g : Ground) (cs : List Change) (before : Option Tree) (names_id : Bool) (d : Data) → bad_of_event g cs before names_id d ≡ [] → IsGood g cs d
 good_event g cs before names_id d none =
     let first = none_named names_id (codes "id") _ none in
     let second = none_named (has_other_uid before d) (codes "uid") _ first.1 in
@@ -32,6 +35,21 @@ good_event g cs before names_id d none =
     let fifth = none_named (is_long_booking cs d) (codes "duration") _ fourth.1 in
     let sixth = none_named _ (codes "timeZone") (bad_properties_of_event g.base.zones d) fifth.1 in
     record { calendars = third.0; overrides = fourth.0; length = fifth.0; valid = sixth.1 }
+
+-- and it may be stored, if there is room
+pub storable : (g : Ground) (cs : List Change) (before : Option Tree) (names_id : Bool) (d : Data) (s : Series) → series_in g.base.zones d ≡ Some s → bad_of_event g cs before names_id d ≡ []
+    → IsStorable g.base.zones cs d s
+storable g cs before names_id d s valid none =
+    let good = good_event g cs before names_id d none in record { valid = valid; calendars = good.calendars; length = good.length; overrides = good.overrides }
+
+-- the names that are told, where these are those of the event's own properties
+pub all_names : (g : Ground) (cs : List Change) (before : Option Tree) (names_id is_long : Bool) (d : Data) (own names : List (List ℕ)) → own ≡ bad_properties_of_event g.base.zones d
+    → is_long ≡ has_long_override g.base.zones cs d → names ≡ names_with_own cs before names_id is_long d own → names ≡ bad_of_event g cs before names_id d
+all_names g cs before names_id is_long d own names is long told = told ∙ ap₂ (λ b ns. names_with_own cs before names_id b d ns) long is
+
+-- where some of its own properties are bad, some names are told
+pub some_bad : (g : Ground) (cs : List Change) (before : Option Tree) (names_id : Bool) (d : Data) → (bad_properties_of_event g.base.zones d ≡ [] → ⊥) → bad_of_event g cs before names_id d ≡ [] → ⊥
+some_bad g cs before names_id d bad none = bad (good_event g cs before names_id d none).valid
 
 -- an event with bad names is refused for them
 pub bad_event : (g : Ground) (cs : List Change) (n : ℕ) (before : Option Tree) (names_id : Bool) (ps : List Pair) (names : List (List ℕ))

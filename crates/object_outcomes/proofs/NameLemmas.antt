@@ -1,5 +1,6 @@
 -- Names of bad properties with one more.
-use Rattle.std.proofs.Common.{◌≡◌, ◌==◌, ℕ, List, [], ◌∷◌, Bool, true, false, Option, length, if◌then◌else◌, arith, refl, sym, ◌∙◌}
+use Rattle.std.proofs.Common.{◌≡◌, ◌==◌, ℕ, List, [], ◌∷◌, Bool, true, false, Option, length, if◌then◌else◌, arith, refl, sym, ap, ◌∙◌}
+use Rattle.std.proofs.lemmas.Bool.{false≢true}
 use Rattle.std.proofs.lemmas.Bool.Decides.{nat_tests}
 use Rattle.std.specs.Cmp.Lexicographic.{slice_cmp}
 use Rattle.std.specs.Ordering.{nat_cmp, is_lt}
@@ -36,6 +37,10 @@ no_names (n ∷ ns) h = absurd (grind (arith, nat_tests))
 -- a list that is empty holds no names
 pub none_left : (names : List (List ℕ)) (b : Bool) → b ≡ true → b ≡ (length names == 0) → names ≡ []
 none_left names b e h = no_names names (sym e ∙ h)
+
+-- and one that isn't holds some
+pub some_left : (names : List (List ℕ)) (b : Bool) → b ≡ false → b ≡ (length names == 0) → names ≡ [] → ⊥
+some_left names b e h none = let no : (length names == 0) ≡ true = ap (λ ns. length ns == 0) none in false≢true (sym e ∙ h ∙ no)
 
 -- names that are some are told
 pub refused_names : (cs : List Change) (is_full : Bool) (clash : Option (ℕ × Clash)) (c : Change) (names : List (List ℕ)) → (names ≡ [] → ⊥)

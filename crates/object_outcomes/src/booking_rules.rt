@@ -1,5 +1,5 @@
 //! What an event may be that books a resource.
-ghost use Rattle.std.specs.Prelude.{◌≡◌, ◌++◌, IfOk, nat_le, true};
+ghost use Rattle.std.specs.Prelude.{◌≡◌, ◌==◌, ◌&&◌, IfOk, length, nat_le, not, true};
 ghost use Rattle.std.specs.List.{list_all};
 ghost use Rattle.std.specs.Option.{option_map_or};
 ghost use Rattle.spec_events.specs.Events.{length_in};
@@ -17,6 +17,7 @@ use single_event::parts::given_length;
 use spec_json::text::Text;
 use spec_json::tree::Tree;
 use spec_series::exception::{Exception, Span};
+use spec_series::series::Series;
 use spec_time::length::Length;
 use std::alloc::{AllocError, Global};
 use zone_table::Zones;
@@ -28,14 +29,14 @@ const WEEK: u64 = 7 * DAY;
 
 /// Whether one of the resources that an event is in has another time zone than the event. Takes no memory.
 pub fn is_in_other_zone<V: AccountView>(view: &V, event: &Tree, resources: &[u64]) -> bool
-    requires { resources.now ≡ resources_of (V.history view.now ++ V.staged view.now) (data_of event.now) }
-    ensures { result ≡ is_in_other_zone (V.history view.now ++ V.staged view.now) (data_of event.now) }
+    requires { resources.now ≡ resources_of (V.changes view.now) (data_of event.now) }
+    ensures { result ≡ is_in_other_zone (V.changes view.now) (data_of event.now) }
 {
     !is_in_all(view, event, resources)
 }
 
 fn is_in_all<V: AccountView>(view: &V, event: &Tree, resources: &[u64]) -> bool
-    ensures { result ≡ list_all (λ n. option_map_or (is_in_zone (data_of event.now)) (resource_zone (V.history view.now ++ V.staged view.now) n) true) resources.now }
+    ensures { result ≡ list_all (λ n. option_map_or (is_in_zone (data_of event.now)) (resource_zone (V.changes view.now) n) true) resources.now }
 {
     for number in resources {
         if !is_in_zone_of(view, event, *number) {
@@ -46,7 +47,7 @@ fn is_in_all<V: AccountView>(view: &V, event: &Tree, resources: &[u64]) -> bool
 }
 
 fn is_in_zone_of<V: AccountView>(view: &V, event: &Tree, number: u64) -> bool
-    ensures { result ≡ option_map_or (is_in_zone (data_of event.now)) (resource_zone (V.history view.now ++ V.staged view.now) number) true }
+    ensures { result ≡ option_map_or (is_in_zone (data_of event.now)) (resource_zone (V.changes view.now) number) true }
 {
     match resource_zone(view, number) {
         Some(zone) => is_in_zone(event, zone),
@@ -65,8 +66,8 @@ fn is_in_zone(event: &Tree, zone: &Text) -> bool
 
 /// Whether an event that is in some resource lasts longer than 7 days. Takes no memory.
 pub fn is_long_booking<V: AccountView>(view: &V, event: &Tree, resources: &[u64]) -> bool
-    requires { resources.now ≡ resources_of (V.history view.now ++ V.staged view.now) (data_of event.now) }
-    ensures { result ≡ is_long_booking (V.history view.now ++ V.staged view.now) (data_of event.now) }
+    requires { resources.now ≡ resources_of (V.changes view.now) (data_of event.now) }
+    ensures { result ≡ is_long_booking (V.changes view.now) (data_of event.now) }
 {
     !resources.is_empty() && !is_event_week_long(event)
 }
@@ -80,8 +81,15 @@ fn is_event_week_long(event: &Tree) -> bool
     }
 }
 
-/// Whether an override of an event that is in some resource lets an occurrence last longer than 7 days. Overrides that an event may
-/// not have aren't looked at. Takes memory where overrides do.
+/// Whether an override of an event of this series, which is in these resources, lets an occurrence last longer than 7 days. Takes no
+/// memory.
+pub fn has_long_exception(series: &Series, resources: &[u64]) -> bool
+    ensures { result ≡ (not (length resources.now == 0) && not (are_week_long series.now.exceptions)) }
+{
+    !resources.is_empty() && !are_week_long(series.exceptions.items())
+}
+
+/// The same of an event that has bad properties. Overrides that an event may not have aren't looked at. Takes memory where overrides do.
 pub fn has_long_override<V: AccountView>(
     alloc: Global,
     view: &V,
@@ -89,8 +97,8 @@ pub fn has_long_override<V: AccountView>(
     event: &Tree,
     resources: &[u64],
 ) -> Result<bool, AllocError>
-    requires { resources.now ≡ resources_of (V.history view.now ++ V.staged view.now) (data_of event.now) }
-    ensures { IfOk result (λ b. b ≡ has_long_override zones.now (V.history view.now ++ V.staged view.now) (data_of event.now)) }
+    requires { resources.now ≡ resources_of (V.changes view.now) (data_of event.now) }
+    ensures { IfOk result (λ b. b ≡ has_long_override zones.now (V.changes view.now) (data_of event.now)) }
 {
     if resources.is_empty() {
         return Ok(false);

@@ -34,10 +34,10 @@ pub(crate) fn calendar_outcome<V: AccountView>(
     names_id: bool,
     object: TreeObject,
 ) -> Result<Judged, AllocError>
-    requires before { IsBefore (V.history view.now ++ V.staged view.now) calendar_kind number (option_map (λ t. t.now) before) }
-    ensures exact { IfOk result (λ j. j.outcome ≡ calendar_outcome (ground_in setting.now) (V.history view.now ++ V.staged view.now) number
+    requires before { IsBefore (V.changes view.now) calendar_kind number (option_map (λ t. t.now) before) }
+    ensures exact { IfOk result (λ j. j.outcome ≡ calendar_outcome (ground_in setting.now) (V.changes view.now) number
         (option_map (λ t. t.now) before.entry) names_id object) }
-    ensures allowed { IfOk result (IsAllowed (V.base view.now).zones (V.history view.now ++ V.staged view.now)) }
+    ensures allowed { IfOk result (IsAllowed (V.base view.now).zones (V.changes view.now)) }
 {
     let tree = with_own_id(alloc, Kind::Calendar, number, object)?;
     stored_outcome(alloc, view, setting, number, before, names_id, &tree)
@@ -53,10 +53,10 @@ fn stored_outcome<V: AccountView>(
     names_id: bool,
     tree: &Tree,
 ) -> Result<Judged, AllocError>
-    requires before { IsBefore (V.history view.now ++ V.staged view.now) calendar_kind number (option_map (λ t. t.now) before) }
-    ensures exact { IfOk result (λ j. j.outcome ≡ stored_calendar_outcome (ground_in setting.now) (V.history view.now ++ V.staged view.now) number
+    requires before { IsBefore (V.changes view.now) calendar_kind number (option_map (λ t. t.now) before) }
+    ensures exact { IfOk result (λ j. j.outcome ≡ stored_calendar_outcome (ground_in setting.now) (V.changes view.now) number
         (option_map (λ t. t.now) before.entry) names_id (data_of tree.now)) }
-    ensures allowed { IfOk result (IsAllowed (V.base view.now).zones (V.history view.now ++ V.staged view.now)) }
+    ensures allowed { IfOk result (IsAllowed (V.base view.now).zones (V.changes view.now)) }
 {
     match read_calendar(alloc, tree, setting.zones) {
         Ok(calendar) => {
@@ -128,12 +128,12 @@ fn store<V: AccountView>(
     tree: &Tree,
     calendar: &Calendar,
 ) -> Result<Judged, AllocError>
-    requires before { IsBefore (V.history view.now ++ V.staged view.now) calendar_kind number (option_map (λ t. t.now) before) }
+    requires before { IsBefore (V.changes view.now) calendar_kind number (option_map (λ t. t.now) before) }
     requires same { has_other_zone (option_map (λ t. t.now) before) (data_of tree.now) ≡ false }
     requires calendar { calendar.now ≡ calendar_in (data_of tree.now) }
-    ensures exact { IfOk result (λ j. j.outcome ≡ within_quota (V.history view.now ++ V.staged view.now)
-        (exceeds_resources (V.history view.now ++ V.staged view.now) number (data_of tree.now)) None (put calendar_kind number (stored (calendar_in (data_of tree.now))))) }
-    ensures allowed { IfOk result (IsAllowed (V.base view.now).zones (V.history view.now ++ V.staged view.now)) }
+    ensures exact { IfOk result (λ j. j.outcome ≡ within_quota (V.changes view.now)
+        (exceeds_resources (V.changes view.now) number (data_of tree.now)) None (put calendar_kind number (stored (calendar_in (data_of tree.now))))) }
+    ensures allowed { IfOk result (IsAllowed (V.base view.now).zones (V.changes view.now)) }
 {
     let object = calendar.tree(alloc)?;
     let change = Change {
@@ -145,7 +145,7 @@ fn store<V: AccountView>(
         is_full: exceeds_resources(alloc, view, number, tree)?,
         clash: None,
     };
-    within_quota(alloc, view, change, against)
+    within_quota(alloc, view, change, against, None)
 }
 
 // Whether the calendar would be one resource more than an account may have.
@@ -155,7 +155,7 @@ fn exceeds_resources<V: AccountView>(
     number: u64,
     calendar: &Tree,
 ) -> Result<bool, AllocError>
-    ensures { IfOk result (λ b. b ≡ exceeds_resources (V.history view.now ++ V.staged view.now) number (data_of calendar.now)) }
+    ensures { IfOk result (λ b. b ≡ exceeds_resources (V.changes view.now) number (data_of calendar.now)) }
 {
     if calendar.text_at("resourceZone").is_none() {
         return Ok(false);

@@ -1,8 +1,8 @@
 //! What comes of storing an event.
-ghost use Rattle.std.specs.Prelude.{◌≡◌, ◌++◌, [], IfOk, OnOk, is_some, map, option_map, unwrap_or};
+ghost use Rattle.std.specs.Prelude.{◌≡◌, Some, IfOk, OnOk, is_some, map, option_map, unwrap_or};
 ghost use Rattle.std.specs.List.{list_all};
 ghost use Rattle.cal_model.specs.EventObject.{has_other_uid, names_missing_calendar, moment_created, value_or_null, with_default, with_server_values};
-ghost use Rattle.cal_model.specs.Operations.{bad_of_booking, bad_of_event, event_outcome, stored_event_outcome};
+ghost use Rattle.cal_model.specs.Operations.{event_outcome, stored_event_outcome, within_quota};
 ghost use Rattle.spec_events.specs.Events.{calendars_among};
 ghost use Rattle.spec_history.specs.History.{live_object};
 ghost use Rattle.spec_history.specs.declared.entry.Kind.TheVariants.{Calendar as calendar_kind, Event as event_kind};
@@ -11,23 +11,29 @@ ghost use Rattle.spec_json.specs.Edit.{with_pair};
 ghost use Rattle.spec_json.specs.SameData.{same_data};
 ghost use Rattle.spec_json.specs.TreeData.{data_of, pair_of};
 ghost use Rattle.spec_json.specs.declared.tree.Tree.TheVariants.{Object};
+ghost use Rattle.spec_bookings.specs.BookedResources.{clash_of_event, has_full_resource};
 ghost use Rattle.spec_bookings.specs.Resources.{resources_of};
 ghost use Rattle.spec_time.specs.LocalTimes.{utc_text};
 ghost use Rattle.property_table.specs.Table.{given};
-ghost use Rattle.object_outcomes.specs.Judging.{HasNumber, IsAllowed, ground_in};
+ghost use Rattle.object_outcomes.specs.Judging.{HasNumber, IsAllowed, IsStorable, ground_in, names_with_booking, names_with_own};
 
 use crate::against::stands_against;
-use crate::booking_rules::{has_long_override, is_in_other_zone, is_long_booking};
+use crate::booking_rules::{
+    has_long_exception, has_long_override, is_in_other_zone, is_long_booking,
+};
 use crate::given::{note_if, refused_for};
 use crate::quota::within_quota;
 use crate::resources::resources_of;
 use crate::setting::{Judged, Setting};
+use crate::texts::copies;
 use crate::uid::supplied_uid;
 use cal_model::view::AccountView;
-use event_model::names::bad_event_names;
+use event_series::read::read_event;
+use single_event::read::EventError;
 use spec_history::entry::{Change, Kind};
 use spec_json::text::Text;
 use spec_json::tree::{Member, Tree, TreeObject};
+use spec_series::series::Series;
 use spec_time::moment::Moment;
 use std::alloc::{AllocError, Global};
 use time_text::{object_id_text, read_object_id, utc_text};
@@ -43,11 +49,11 @@ pub(crate) fn event_outcome<V: AccountView>(
     names_id: bool,
     object: TreeObject,
 ) -> Result<Judged, AllocError>
-    requires number { HasNumber (V.history view.now ++ V.staged view.now) event_kind number }
+    requires number { HasNumber (V.changes view.now) event_kind number }
     requires zones { (V.base view.now).zones ≡ setting.now.zones.now }
-    ensures exact { IfOk result (λ j. j.outcome ≡ event_outcome (ground_in setting.now) (V.history view.now ++ V.staged view.now) number
+    ensures exact { IfOk result (λ j. j.outcome ≡ event_outcome (ground_in setting.now) (V.changes view.now) number
         (option_map (λ t. t.now) before.entry) names_id object) }
-    ensures allowed { IfOk result (IsAllowed (V.base view.now).zones (V.history view.now ++ V.staged view.now)) }
+    ensures allowed { IfOk result (IsAllowed (V.base view.now).zones (V.changes view.now)) }
 {
     let given = given(alloc, object)?;
     let members = with_server_values(alloc, setting, number, before, given)?;
@@ -64,43 +70,80 @@ fn stored_outcome<V: AccountView>(
     names_id: bool,
     members: TreeObject,
 ) -> Result<Judged, AllocError>
-    requires number { HasNumber (V.history view.now ++ V.staged view.now) event_kind number }
+    requires number { HasNumber (V.changes view.now) event_kind number }
     requires zones { (V.base view.now).zones ≡ setting.now.zones.now }
-    ensures exact { IfOk result (λ j. j.outcome ≡ stored_event_outcome (ground_in setting.now) (V.history view.now ++ V.staged view.now) number
+    ensures exact { IfOk result (λ j. j.outcome ≡ stored_event_outcome (ground_in setting.now) (V.changes view.now) number
         (option_map (λ t. t.now) before.entry) names_id members) }
-    ensures allowed { IfOk result (IsAllowed (V.base view.now).zones (V.history view.now ++ V.staged view.now)) }
+    ensures allowed { IfOk result (IsAllowed (V.base view.now).zones (V.changes view.now)) }
 {
     let event = Tree::Object(members);
     let resources = resources_of(alloc, view, &event)?;
-    let names = bad_names(alloc, view, setting, before, names_id, &event, &resources)?;
-    if !names.is_empty() {
-        return Ok(refused_for(names));
+    match read_event(alloc, &event, setting.zones) {
+        Ok(series) => {
+            let is_long = has_long_exception(&series, &resources);
+            let none = Vec::new(alloc);
+            let names = with_own_names(
+                alloc, view, before, names_id, is_long, &event, &resources, none,
+            )?;
+            if names.is_empty() {
+                return store(alloc, view, number, event, &resources, series);
+            }
+            Ok(refused_for(names))
+        }
+        Err(EventError::BadEvent { properties }) => {
+            let is_long = has_long_override(alloc, view, setting.zones, &event, &resources)?;
+            let names = copies(alloc, properties.items())?;
+            let names = with_own_names(
+                alloc, view, before, names_id, is_long, &event, &resources, names,
+            )?;
+            Ok(refused_for(names))
+        }
+        Err(EventError::NoMemory) => Err(AllocError),
     }
-    let against = stands_against(alloc, view, setting.zones, number, &event, &resources)?;
+}
+
+// What comes of storing an event of this series that is valid.
+fn store<V: AccountView>(
+    alloc: Global,
+    view: &V,
+    number: u64,
+    event: Tree,
+    resources: &[u64],
+    series: Series,
+) -> Result<Judged, AllocError>
+    requires number { HasNumber (V.changes view.now) event_kind number }
+    requires resources { resources.now ≡ resources_of (V.changes view.now) (data_of event) }
+    requires event { IsStorable (V.base view.now).zones (V.changes view.now) (data_of event) series }
+    ensures exact { IfOk result (λ j. j.outcome ≡ within_quota (V.changes view.now) (has_full_resource (V.base view.now).zones (V.changes view.now) number (data_of event))
+        (clash_of_event (V.base view.now).zones (V.changes view.now) number (data_of event)) (record { kind = event_kind; id = number; object = Some event })) }
+    ensures allowed { IfOk result (IsAllowed (V.base view.now).zones (V.changes view.now)) }
+{
+    let against = stands_against(view, number, &event, resources, &series);
     let change = Change {
         kind: Kind::Event,
         id: number,
         object: Some(event),
     };
-    within_quota(alloc, view, change, against)
+    within_quota(alloc, view, change, against, Some(series))
 }
 
-// The names of all properties that are bad, in byte order.
-fn bad_names<V: AccountView>(
+// These names, with those of the properties that are bad for the account and for what the event was before, and `id` where the client
+// may not give it. `is_long` says whether an override lets an occurrence last longer than that of a booking may.
+fn with_own_names<V: AccountView>(
     alloc: Global,
     view: &V,
-    setting: &Setting<'_>,
     before: Option<&Tree>,
     names_id: bool,
+    is_long: bool,
     event: &Tree,
     resources: &[u64],
+    names: Vec<Text>,
 ) -> Result<Vec<Text>, AllocError>
-    requires { resources.now ≡ resources_of (V.history view.now ++ V.staged view.now) (data_of event.now) }
-    ensures { IfOk result (λ v. v.items ≡ bad_of_event (ground_in setting.now) (V.history view.now ++ V.staged view.now)
-        (option_map (λ t. t.now) before.entry) names_id (data_of event.now)) }
+    requires { resources.now ≡ resources_of (V.changes view.now) (data_of event.now) }
+    ensures { IfOk result (λ v. v.items ≡ names_with_own (V.changes view.now) (option_map (λ t. t.now) before.entry) names_id is_long (data_of event.now) names.items) }
 {
-    let mut names = bad_event_names(alloc, event, setting.zones)?;
-    note_booking(alloc, view, setting, event, resources, &mut names)?;
+    let mut names = names;
+    note_booking(alloc, view, is_long, event, resources, &mut names)?;
     note_if(
         alloc,
         names_missing_calendar(view, event),
@@ -116,13 +159,13 @@ fn bad_names<V: AccountView>(
 fn note_booking<V: AccountView>(
     alloc: Global,
     view: &V,
-    setting: &Setting<'_>,
+    is_long: bool,
     event: &Tree,
     resources: &[u64],
     names: &mut Vec<Text>,
 ) -> Result<(), AllocError>
-    requires { resources.now ≡ resources_of (V.history view.now ++ V.staged view.now) (data_of event.now) }
-    ensures { OnOk result (names.new.items ≡ bad_of_booking (ground_in setting.now) (V.history view.now ++ V.staged view.now) (data_of event.now) names.old.items) }
+    requires { resources.now ≡ resources_of (V.changes view.now) (data_of event.now) }
+    ensures { OnOk result (names.new.items ≡ names_with_booking (V.changes view.now) is_long (data_of event.now) names.old.items) }
 {
     note_if(
         alloc,
@@ -136,13 +179,12 @@ fn note_booking<V: AccountView>(
         "duration",
         names,
     )?;
-    let is_long = has_long_override(alloc, view, setting.zones, event, resources)?;
     note_if(alloc, is_long, "recurrenceOverrides", names)
 }
 
 // Whether a key of `calendarIds` is the id of a calendar that isn't live.
 fn names_missing_calendar<V: AccountView>(view: &V, event: &Tree) -> bool
-    ensures { result ≡ names_missing_calendar (V.history view.now ++ V.staged view.now) (data_of event.now) }
+    ensures { result ≡ names_missing_calendar (V.changes view.now) (data_of event.now) }
 {
     match event.object_at("calendarIds") {
         Some(ids) => !are_live(view, ids.members()),
@@ -151,7 +193,7 @@ fn names_missing_calendar<V: AccountView>(view: &V, event: &Tree) -> bool
 }
 
 fn are_live<V: AccountView>(view: &V, ids: &[Member]) -> bool
-    ensures { result ≡ list_all (λ n. is_some (live_object (V.history view.now ++ V.staged view.now) calendar_kind n)) (calendars_among (map pair_of ids.now)) }
+    ensures { result ≡ list_all (λ n. is_some (live_object (V.changes view.now) calendar_kind n)) (calendars_among (map pair_of ids.now)) }
 {
     for member in ids {
         if let Some(number) = read_object_id(Kind::Calendar, member.key.as_str().as_bytes()) {

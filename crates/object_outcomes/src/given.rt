@@ -1,5 +1,5 @@
 //! The members that a client gives.
-ghost use Rattle.std.specs.Prelude.{◌≡◌, [], IfOk, OnOk, false, option_map};
+ghost use Rattle.std.specs.Prelude.{◌≡◌, [], None, IfOk, OnOk, false, option_map};
 ghost use Rattle.cal_model.specs.Operations.{has_other_id, is_this_text, with_name_if, with_own_id};
 ghost use Rattle.cal_model.specs.declared.outcome.Outcome.TheVariants.{Refused};
 ghost use Rattle.cal_model.specs.declared.set_error.SetError.TheVariants.{InvalidProperties};
@@ -96,7 +96,7 @@ pub(crate) fn note_if(
 
 /// An object that is refused for these properties.
 pub(crate) fn refused_for(names: Vec<Text>) -> Judged
-    ensures { result ≡ record { outcome = Refused (InvalidProperties names.items); size = 0 } }
+    ensures { result ≡ record { outcome = Refused (InvalidProperties names.items); size = 0; series = None } }
 {
     Judged::refused(SetError::InvalidProperties {
         properties: Texts::new(names),

@@ -38,8 +38,8 @@ pub fn judge<V: AccountView>(
 ) -> Result<Judged, AllocError>
     requires zones { (V.base view.now).zones ≡ setting.now.zones.now }
     ensures exact { IfOk result (λ j. j.outcome
-        ≡ outcome_of (ground_in setting.now) (V.history view.now ++ V.staged view.now) setting.now.kind created.now (operation_in operation.now)) }
-    ensures allowed { IfOk result (IsAllowed (V.base view.now).zones (V.history view.now ++ V.staged view.now)) }
+        ≡ outcome_of (ground_in setting.now) (V.changes view.now) setting.now.kind created.now (operation_in operation.now)) }
+    ensures allowed { IfOk result (IsAllowed (V.base view.now).zones (V.changes view.now)) }
 {
     match operation {
         Operation::Update {
@@ -91,9 +91,9 @@ pub fn judge_create<V: AccountView>(
     value: &Tree,
 ) -> Result<Judged, AllocError>
     requires zones { (V.base view.now).zones ≡ setting.now.zones.now }
-    ensures exact { IfOk result (λ j. j.outcome ≡ created_outcome (ground_in setting.now) (V.history view.now ++ V.staged view.now) setting.now.kind
+    ensures exact { IfOk result (λ j. j.outcome ≡ created_outcome (ground_in setting.now) (V.changes view.now) setting.now.kind
         (resolved_object created.now setting.now.kind (members_in (data_of value.now)))) }
-    ensures allowed { IfOk result (IsAllowed (V.base view.now).zones (V.history view.now ++ V.staged view.now)) }
+    ensures allowed { IfOk result (IsAllowed (V.base view.now).zones (V.changes view.now)) }
 {
     let object = resolved_object(alloc, setting.kind, created, value)?;
     let names_id = given_at(&object, "id").is_some();
@@ -111,11 +111,11 @@ fn object_outcome<V: AccountView>(
     names_id: bool,
     object: TreeObject,
 ) -> Result<Judged, AllocError>
-    requires before { IsBefore (V.history view.now ++ V.staged view.now) setting.now.kind number (option_map (λ t. t.now) before) }
+    requires before { IsBefore (V.changes view.now) setting.now.kind number (option_map (λ t. t.now) before) }
     requires zones { (V.base view.now).zones ≡ setting.now.zones.now }
-    ensures exact { IfOk result (λ j. j.outcome ≡ object_outcome (ground_in setting.now) (V.history view.now ++ V.staged view.now) setting.now.kind number
+    ensures exact { IfOk result (λ j. j.outcome ≡ object_outcome (ground_in setting.now) (V.changes view.now) setting.now.kind number
         (option_map (λ t. t.now) before.entry) names_id object) }
-    ensures allowed { IfOk result (IsAllowed (V.base view.now).zones (V.history view.now ++ V.staged view.now)) }
+    ensures allowed { IfOk result (IsAllowed (V.base view.now).zones (V.changes view.now)) }
 {
     match setting.kind {
         Kind::Calendar => calendar_outcome(alloc, view, setting, number, before, names_id, object),
@@ -125,8 +125,8 @@ fn object_outcome<V: AccountView>(
 
 // The live object that an id names, and its number.
 fn named<'a, V: AccountView>(view: &'a V, kind: Kind, id: &Text) -> Option<(u64, &'a Tree)>
-    ensures exact { option_map (λ q. (q.0, q.1.now)) result ≡ object_named (V.history view.now ++ V.staged view.now) kind id.now }
-    ensures live { IfSome result (λ q. live_object (V.history view.now ++ V.staged view.now) kind q.0 ≡ Some q.1.now) }
+    ensures exact { option_map (λ q. (q.0, q.1.now)) result ≡ object_named (V.changes view.now) kind id.now }
+    ensures live { IfSome result (λ q. live_object (V.changes view.now) kind q.0 ≡ Some q.1.now) }
 {
     let number = read_object_id(kind, id.as_str().as_bytes())?;
     let object = view.live(kind, number)?;
@@ -144,9 +144,9 @@ fn update<V: AccountView>(
 ) -> Result<Judged, AllocError>
     requires zones { (V.base view.now).zones ≡ setting.now.zones.now }
     ensures exact { IfOk result (λ j. j.outcome
-        ≡ updated_outcome (ground_in setting.now) (V.history view.now ++ V.staged view.now) setting.now.kind patch.now is_destroyed is_repeated
-        (object_named (V.history view.now ++ V.staged view.now) setting.now.kind id.now)) }
-    ensures allowed { IfOk result (IsAllowed (V.base view.now).zones (V.history view.now ++ V.staged view.now)) }
+        ≡ updated_outcome (ground_in setting.now) (V.changes view.now) setting.now.kind patch.now is_destroyed is_repeated
+        (object_named (V.changes view.now) setting.now.kind id.now)) }
+    ensures allowed { IfOk result (IsAllowed (V.base view.now).zones (V.changes view.now)) }
 {
     match named(view, setting.kind, id) {
         None => Ok(Judged::refused(SetError::NotFound)),
@@ -172,11 +172,11 @@ fn patch_object<V: AccountView>(
     object: &Tree,
     patch: &TreeObject,
 ) -> Result<Judged, AllocError>
-    requires before { live_object (V.history view.now ++ V.staged view.now) setting.now.kind number ≡ Some object.now }
+    requires before { live_object (V.changes view.now) setting.now.kind number ≡ Some object.now }
     requires zones { (V.base view.now).zones ≡ setting.now.zones.now }
     ensures exact { IfOk result (λ j. j.outcome
-        ≡ patched_outcome (ground_in setting.now) (V.history view.now ++ V.staged view.now) setting.now.kind number object.now (patched (data_of object.now) patch.now)) }
-    ensures allowed { IfOk result (IsAllowed (V.base view.now).zones (V.history view.now ++ V.staged view.now)) }
+        ≡ patched_outcome (ground_in setting.now) (V.changes view.now) setting.now.kind number object.now (patched (data_of object.now) patch.now)) }
+    ensures allowed { IfOk result (IsAllowed (V.base view.now).zones (V.changes view.now)) }
 {
     match apply(alloc, object, patch) {
         Ok(tree) => {
@@ -206,9 +206,9 @@ fn destroy<V: AccountView>(
     id: &Text,
 ) -> Result<Judged, AllocError>
     ensures exact { IfOk result (λ j. j.outcome
-        ≡ destroyed_outcome (ground_in setting.now) (V.history view.now ++ V.staged view.now) setting.now.kind
-        (object_named (V.history view.now ++ V.staged view.now) setting.now.kind id.now)) }
-    ensures allowed { IfOk result (IsAllowed (V.base view.now).zones (V.history view.now ++ V.staged view.now)) }
+        ≡ destroyed_outcome (ground_in setting.now) (V.changes view.now) setting.now.kind
+        (object_named (V.changes view.now) setting.now.kind id.now)) }
+    ensures allowed { IfOk result (IsAllowed (V.base view.now).zones (V.changes view.now)) }
 {
     match named(view, setting.kind, id) {
         None => Ok(Judged::refused(SetError::NotFound)),
@@ -225,14 +225,14 @@ fn destroy<V: AccountView>(
                 is_full: false,
                 clash: None,
             };
-            within_quota(alloc, view, change, against)
+            within_quota(alloc, view, change, against, None)
         }
     }
 }
 
 // Whether this is a calendar in which events are.
 fn is_in_use<V: AccountView>(view: &V, kind: Kind, number: u64) -> bool
-    ensures { result ≡ is_in_use (V.history view.now ++ V.staged view.now) kind number }
+    ensures { result ≡ is_in_use (V.changes view.now) kind number }
 {
     match kind {
         Kind::Calendar => view.has_event(number),

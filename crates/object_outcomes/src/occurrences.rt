@@ -19,7 +19,7 @@ pub(crate) fn is_occurrence<V: AccountView>(
     kind: Kind,
     id: &Text,
 ) -> Result<bool, AllocError>
-    ensures { IfOk result (λ b. b ≡ is_some (occurrence_named (V.history view.now ++ V.staged view.now) kind id.now)) }
+    ensures { IfOk result (λ b. b ≡ is_some (occurrence_named (V.changes view.now) kind id.now)) }
 {
     match kind {
         Kind::Calendar => Ok(false),
@@ -32,7 +32,7 @@ fn is_event_occurrence<V: AccountView>(
     view: &V,
     id: &Text,
 ) -> Result<bool, AllocError>
-    ensures { IfOk result (λ b. b ≡ is_some (occurrence_named (V.history view.now ++ V.staged view.now) event_kind id.now)) }
+    ensures { IfOk result (λ b. b ≡ is_some (occurrence_named (V.changes view.now) event_kind id.now)) }
 {
     match read_occurrence_id(id.as_str().as_bytes()) {
         Some((number, rid)) => has_occurrence(alloc, view, number, rid),
@@ -48,7 +48,7 @@ fn has_occurrence<V: AccountView>(
     rid: Wall,
 ) -> Result<bool, AllocError>
     requires { is_in_years rid ≡ true }
-    ensures { IfOk result (λ b. b ≡ is_some (occurrence_numbered (V.history view.now ++ V.staged view.now) (number, rid))) }
+    ensures { IfOk result (λ b. b ≡ is_some (occurrence_numbered (V.changes view.now) (number, rid))) }
 {
     match view.live(Kind::Event, number) {
         Some(event) => Ok(occurrence(alloc, number, event, rid)?.is_some()),

@@ -3,6 +3,7 @@ ghost use Rattle.std.specs.Prelude.{◌≡◌, ◌++◌, IfOk, None, false, not}
 ghost use Rattle.cal_model.specs.Fits.{IsObjectFit};
 ghost use Rattle.cal_model.specs.Operations.{within_quota};
 ghost use Rattle.cal_model.specs.Quota.{exceeds_quota, size_of_object};
+ghost use Rattle.spec_bookings.specs.SeriesPut.{series_put};
 ghost use Rattle.object_outcomes.specs.Judging.{HasNumber, IsAllowed};
 
 use crate::against::Against;
@@ -13,22 +14,25 @@ use cal_model::set_error::SetError;
 use cal_model::view::AccountView;
 use json_edge::write::tree_text;
 use spec_history::entry::Change;
+use spec_series::series::Series;
 use std::alloc::{AllocError, Global};
 
 /// What comes of a change: it is refused where the account has no room for it or a resource is full, and then where it clashes.
 ///
-/// Where it is accepted, `fit` says that the account may take its object.
+/// Where it is accepted, `fit` says that the account may take its object. `series` is that of the event that it puts.
 pub(crate) fn within_quota<V: AccountView>(
     alloc: Global,
     view: &V,
     change: Change,
     against: Against,
+    series: Option<Series>,
 ) -> Result<Judged, AllocError>
-    requires number { HasNumber (V.history view.now ++ V.staged view.now) change.kind change.id }
+    requires number { HasNumber (V.changes view.now) change.kind change.id }
     requires fit { against.is_full ≡ false → against.clash ≡ None
-        → IsObjectFit (V.base view.now).zones (V.history view.now ++ V.staged view.now) change.kind change.id change.object }
-    ensures exact { IfOk result (λ j. j.outcome ≡ within_quota (V.history view.now ++ V.staged view.now) against.is_full against.clash change) }
-    ensures allowed { IfOk result (IsAllowed (V.base view.now).zones (V.history view.now ++ V.staged view.now)) }
+        → IsObjectFit (V.base view.now).zones (V.changes view.now) change.kind change.id change.object }
+    requires series { series ≡ series_put (V.base view.now).zones change }
+    ensures exact { IfOk result (λ j. j.outcome ≡ within_quota (V.changes view.now) against.is_full against.clash change) }
+    ensures allowed { IfOk result (IsAllowed (V.base view.now).zones (V.changes view.now)) }
 {
     let size = size_of_change(alloc, &change)?;
     if !has_room(view, size) || against.is_full {
@@ -40,6 +44,7 @@ pub(crate) fn within_quota<V: AccountView>(
     Ok(Judged {
         outcome: Outcome::Accepted(change),
         size,
+        series,
     })
 }
 
@@ -53,7 +58,7 @@ fn size_of_change(alloc: Global, change: &Change) -> Result<usize, AllocError>
 }
 
 fn has_room<V: AccountView>(view: &V, size: usize) -> bool
-    ensures { result ≡ not (exceeds_quota (V.history view.now ++ V.staged view.now) size) }
+    ensures { result ≡ not (exceeds_quota (V.changes view.now) size) }
 {
     view.count() < MAX_ENTRIES && size <= MAX_OBJECT_BYTES - view.text()
 }

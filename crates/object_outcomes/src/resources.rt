@@ -17,7 +17,7 @@ pub fn resources_of<V: AccountView>(
     view: &V,
     event: &Tree,
 ) -> Result<Vec<u64>, AllocError>
-    ensures { IfOk result (λ v. v.items ≡ resources_of (V.history view.now ++ V.staged view.now) (data_of event.now)) }
+    ensures { IfOk result (λ v. v.items ≡ resources_of (V.changes view.now) (data_of event.now)) }
 {
     let all = view.resources(alloc)?;
     named_among(alloc, event, &all)
@@ -37,7 +37,7 @@ fn named_among(alloc: Global, event: &Tree, numbers: &[u64]) -> Result<Vec<u64>,
 
 /// The time zone of the resource that a calendar is of, if it is live and of one. Takes no memory.
 pub(crate) fn resource_zone<V: AccountView>(view: &V, number: u64) -> Option<&Text>
-    ensures { option_map (λ zone. zone.now) result ≡ resource_zone (V.history view.now ++ V.staged view.now) number }
+    ensures { option_map (λ zone. zone.now) result ≡ resource_zone (V.changes view.now) number }
 {
     view.live(Kind::Calendar, number)?.text_at("resourceZone")
 }

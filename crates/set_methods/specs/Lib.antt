@@ -1,3 +1,3 @@
 pub mod Reports
-pub mod Requests
+pub mod Grounds
 pub mod Telling

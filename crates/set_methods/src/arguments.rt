@@ -16,7 +16,7 @@ use std::alloc::{AllocError, Global};
 use time_text::state_text;
 
 /// The arguments of the response to a set (RFC 8620 section 5.3).
-pub(crate) fn arguments(alloc: Global, told: &Told<'_>) -> Result<Tree, AllocError>
+pub(crate) fn response_arguments(alloc: Global, told: &Told<'_>) -> Result<Tree, AllocError>
     requires creates { length told.now.creates.now ≡ length told.now.create_outcomes.now }
     requires updates { length told.now.updates.now ≡ length told.now.update_outcomes.now }
     requires destroys { length told.now.destroys.now ≡ length told.now.destroy_outcomes.now }

@@ -1,16 +1,15 @@
 //! Sets that are refused as a whole.
-ghost use Rattle.std.specs.Prelude.{◌≡◌, ◌++◌, ◌&&◌, IfOk, map, nat_lt, length, ◌+◌};
+ghost use Rattle.std.specs.Prelude.{◌≡◌, ◌&&◌, IfOk, map, nat_lt, length, ◌+◌};
 ghost use Rattle.std.specs.List.{list_all};
-ghost use Rattle.cal_model.specs.Sets.{are_values, is_in_state, set_refusal};
+ghost use Rattle.cal_model.specs.Sets.{are_values, is_in_state, objects_of, set_refusal};
 ghost use Rattle.spec_core.specs.Id.{is_id};
 ghost use Rattle.spec_core.specs.declared.limits.TheConstants.{MAX_OBJECTS_IN_SET};
 ghost use Rattle.spec_json.specs.Patch.{is_object};
 ghost use Rattle.spec_json.specs.TreeData.{data_of, pair_of};
-ghost use Rattle.set_methods.specs.Requests.{objects_in};
 
-use crate::request::SetRequest;
+use crate::objects::{creates, destroys, updates};
 use cal_model::view::AccountView;
-use spec_calls::call::MethodError;
+use spec_calls::call::{MethodError, SetArguments};
 use spec_core::limits::MAX_OBJECTS_IN_SET;
 use spec_history::entry::Kind;
 use spec_json::text::Text;
@@ -23,29 +22,29 @@ use time_text::{read_id, state_text};
 pub(crate) fn refusal<V: AccountView>(
     alloc: Global,
     view: &V,
-    request: &SetRequest<'_>,
+    arguments: &SetArguments,
 ) -> Result<Option<MethodError>, AllocError>
-    ensures { IfOk result (λ r. r ≡ set_refusal request.now.kind (V.history view.now ++ V.staged view.now) (objects_in request.now) request.now.if_in_state.now request.now.remove_events) }
+    ensures { IfOk result (λ r. r ≡ set_refusal arguments.now.kind (V.changes view.now) (objects_of arguments.now) arguments.now.if_in_state arguments.now.remove_events) }
 {
-    if !are_values(request) {
+    if !are_values(arguments) {
         return Ok(Some(MethodError::InvalidArguments));
     }
-    if has_too_many(request) {
+    if has_too_many(arguments) {
         return Ok(Some(MethodError::RequestTooLarge));
     }
-    if !is_in_state(alloc, view, request.kind, request.if_in_state)? {
+    if !is_in_state(alloc, view, arguments.kind, &arguments.if_in_state)? {
         return Ok(Some(MethodError::StateMismatch));
     }
     Ok(None)
 }
 
 // Whether creation ids are Ids, and what is created or patched is an object.
-fn are_values(request: &SetRequest<'_>) -> bool
-    ensures { result ≡ are_values (objects_in request.now) request.now.remove_events }
+fn are_values(arguments: &SetArguments) -> bool
+    ensures { result ≡ are_values (objects_of arguments.now) arguments.now.remove_events }
 {
-    are_creates(request.creates())
-        && are_updates(request.updates())
-        && !request.remove_events.unwrap_or(false)
+    are_creates(creates(arguments))
+        && are_updates(updates(arguments))
+        && !arguments.remove_events.unwrap_or(false)
 }
 
 fn are_creates(creates: &[Member]) -> bool
@@ -76,14 +75,14 @@ fn is_object(value: &Tree) -> bool
     matches!(value, Tree::Object(_))
 }
 
-fn has_too_many(request: &SetRequest<'_>) -> bool
-    ensures { result ≡ nat_lt MAX_OBJECTS_IN_SET (length (objects_in request.now).creates + (length (objects_in request.now).updates + length (objects_in request.now).destroys)) }
+fn has_too_many(arguments: &SetArguments) -> bool
+    ensures { result ≡ nat_lt MAX_OBJECTS_IN_SET (length (objects_of arguments.now).creates + (length (objects_of arguments.now).updates + length (objects_of arguments.now).destroys)) }
 {
-    let creates = request.creates().len();
-    let updates = request.updates().len();
-    let destroys = request.destroys().len();
+    let created = creates(arguments).len();
+    let updated = updates(arguments).len();
+    let destroyed = destroys(arguments).len();
     let most = MAX_OBJECTS_IN_SET;
-    creates > most || updates > most - creates || destroys > most - creates - updates
+    created > most || updated > most - created || destroyed > most - created - updated
 }
 
 fn is_in_state<V: AccountView>(
@@ -92,7 +91,7 @@ fn is_in_state<V: AccountView>(
     kind: Kind,
     state: &Option<Text>,
 ) -> Result<bool, AllocError>
-    ensures { IfOk result (λ b. b ≡ is_in_state kind (V.history view.now ++ V.staged view.now) state.now) }
+    ensures { IfOk result (λ b. b ≡ is_in_state kind (V.changes view.now) state.now) }
 {
     match state {
         Some(state) => Ok(state.as_str() == state_text(alloc, view.state(kind))?.as_str()),

@@ -37,12 +37,11 @@ pub(crate) fn run_creates<V: AccountView>(
 ) -> Result<Creates, AllocError>
     requires zones { (V.base view.old).zones ≡ setting.now.zones.now }
     ensures outcomes { IfOk result (λ c. c.outcomes.items
-        ≡ outcomes_of_creates (ground_in setting.now) setting.now.kind created (V.history view.old ++ V.staged view.old) (map pair_of creates.now)) }
+        ≡ outcomes_of_creates (ground_in setting.now) setting.now.kind created (V.changes view.old) (map pair_of creates.now)) }
     ensures ids { IfOk result (λ c. c.ids ≡ created ++ of_each created_id (map pair_of creates.now)
-        (outcomes_of_creates (ground_in setting.now) setting.now.kind created (V.history view.old ++ V.staged view.old) (map pair_of creates.now))) }
+        (outcomes_of_creates (ground_in setting.now) setting.now.kind created (V.changes view.old) (map pair_of creates.now))) }
     ensures lengths { IfOk result (λ c. vec_len c.outcomes ≡ length creates.now) }
-    ensures staged { IfOk result (λ c. V.staged view.new ≡ V.staged view.old ++ flat_map changes_in c.outcomes.items) }
-    ensures history { V.history view.new ≡ V.history view.old }
+    ensures changes { IfOk result (λ c. V.changes view.new ≡ V.changes view.old ++ flat_map changes_in c.outcomes.items) }
     ensures entries { V.entries view.new ≡ V.entries view.old }
     ensures base { V.base view.new ≡ V.base view.old }
 {
@@ -85,10 +84,9 @@ pub(crate) fn run<V: AccountView>(
 ) -> Result<Vec<Outcome>, AllocError>
     requires zones { (V.base view.old).zones ≡ setting.now.zones.now }
     ensures outcomes { IfOk result (λ v. v.items
-        ≡ outcomes (ground_in setting.now) setting.now.kind created.now (V.history view.old ++ V.staged view.old) (map operation_in operations.now)) }
+        ≡ outcomes (ground_in setting.now) setting.now.kind created.now (V.changes view.old) (map operation_in operations.now)) }
     ensures lengths { IfOk result (λ v. vec_len v ≡ length operations.now) }
-    ensures staged { IfOk result (λ v. V.staged view.new ≡ V.staged view.old ++ flat_map changes_in v.items) }
-    ensures history { V.history view.new ≡ V.history view.old }
+    ensures changes { IfOk result (λ v. V.changes view.new ≡ V.changes view.old ++ flat_map changes_in v.items) }
     ensures entries { V.entries view.new ≡ V.entries view.old }
     ensures base { V.base view.new ≡ V.base view.old }
 {
@@ -103,18 +101,22 @@ pub(crate) fn run<V: AccountView>(
 
 // The outcome, whose change is staged where it is accepted.
 fn staged<V: AccountView>(view: &mut V, judged: Judged) -> Result<Outcome, AllocError>
-    requires { IsAllowed (V.base view.old).zones (V.history view.old ++ V.staged view.old) judged }
+    requires { IsAllowed (V.base view.old).zones (V.changes view.old) judged }
     ensures outcome { IfOk result (λ o. o ≡ judged.outcome) }
-    ensures staged { IfOk result (λ o. V.staged view.new ≡ V.staged view.old ++ changes_in o) }
-    ensures history { V.history view.new ≡ V.history view.old }
+    ensures changes { IfOk result (λ o. V.changes view.new ≡ V.changes view.old ++ changes_in o) }
     ensures entries { V.entries view.new ≡ V.entries view.old }
     ensures base { V.base view.new ≡ V.base view.old }
 {
-    match &judged.outcome {
-        Outcome::Accepted(change) => view.stage(copy_of(change)?, judged.size)?,
+    let Judged {
+        outcome,
+        size,
+        series,
+    } = judged;
+    match &outcome {
+        Outcome::Accepted(change) => view.stage(copy_of(change)?, size, series)?,
         Outcome::Refused(_) => {}
     }
-    Ok(judged.outcome)
+    Ok(outcome)
 }
 
 fn copy_of(change: &Change) -> Result<Change, AllocError>

@@ -7,3 +7,4 @@ pub mod Free
 pub mod Resources
 pub mod BookingRules
 pub mod BookedResources
+pub mod SeriesPut

@@ -20,13 +20,13 @@ abbrev pub Form : Type 0
 Form = List ℕ → Option Length
 
 -- two lengths together, where there are both
-abbrev pub joined : Option Length → Option Length → Option Length
-joined a b = option_and_then (λ x. option_map (λ y. length_of (x.days + y.days) (x.seconds + y.seconds)) b) a
+abbrev pub together : Option Length → Option Length → Option Length
+together a b = option_and_then (λ x. option_map (λ y. length_of (x.days + y.days) (x.seconds + y.seconds)) b) a
 
 -- a text of the one form and then one of the other; the first ends before a byte or goes on with it
 unfoldable pub followed_by : Form → Form → Form
-followed_by f g [] = joined (f []) (g [])
-followed_by f g (b ∷ bs) = option_or (joined (f []) (g (b ∷ bs))) (followed_by (λ rest. f (b ∷ rest)) g bs)
+followed_by f g [] = together (f []) (g [])
+followed_by f g (b ∷ bs) = option_or (together (f []) (g (b ∷ bs))) (followed_by (λ rest. f (b ∷ rest)) g bs)
 
 -- a text of either form
 abbrev pub either : Form → Form → Form

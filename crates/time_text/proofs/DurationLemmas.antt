@@ -8,7 +8,7 @@ use Rattle.std.proofs.lemmas.Bool.Decides.{nat_tests}
 use Rattle.std.proofs.lemmas.List.Sums.{prefix_len_passes}
 use borrow.Author.Tests.{eqb-true}
 use Rattle.spec_json.specs.Number.{value_of_digits}
-use Rattle.spec_time.specs.Durations.{Form, all_but_last, after_letter, joined, dur_day, dur_hour, dur_minute, dur_second, dur_time, dur_week, duration_in, either, followed_by, is_number, is_part, length_of, or_nothing, part}
+use Rattle.spec_time.specs.Durations.{Form, all_but_last, after_letter, together, dur_day, dur_hour, dur_minute, dur_second, dur_time, dur_week, duration_in, either, followed_by, is_number, is_part, length_of, or_nothing, part}
 use Rattle.spec_time.specs.declared.length.Length.{Length}
 use Rattle.time_text.specs.DurationParts.{amount, behind_part, clock_in, digits_first, has_part, parts_in, parts_read, seconds_in}
 
@@ -22,7 +22,7 @@ or_none : (o : Option Length) → option_or o None ≡ o
 or_none None = refl
 or_none (Some x) = refl
 
-none_both : (a b : Option Length) → a ≡ None → joined a b ≡ None
+none_both : (a b : Option Length) → a ≡ None → together a b ≡ None
 none_both a b h = rw h refl
 
 never : (f g : Form) (s : List ℕ) → ((j : ℕ) → j ≤ length s → f (take j s) ≡ None) → followed_by f g s ≡ None
@@ -33,13 +33,13 @@ never f g (b ∷ bs) h =
     rw (first, never (λ rest. f (b ∷ rest)) g bs (λ j le. h (suc j) (omega (arith, le)))) refl
 
 only_at : (f g : Form) (s : List ℕ) (k : ℕ) → k ≤ length s → ((j : ℕ) → j ≤ length s → ((j ≡ k) → ⊥) → f (take j s) ≡ None)
-    → followed_by f g s ≡ joined (f (take k s)) (g (drop k s))
+    → followed_by f g s ≡ together (f (take k s)) (g (drop k s))
 unfolding followed_by
 only_at f g [] zero le h = refl
 only_at f g [] (suc k) le h = absurd (omega (arith, le))
 only_at f g (b ∷ bs) zero le h =
     let rest = never (λ rest. f (b ∷ rest)) g bs (λ j l. h (suc j) (omega (arith, l)) (λ e. omega (arith, e))) in
-    rw rest (or_none (joined (f []) (g (b ∷ bs))))
+    rw rest (or_none (together (f []) (g (b ∷ bs))))
 only_at f g (b ∷ bs) (suc k) le h =
     let first = none_both (f []) (g (b ∷ bs)) (h 0 (omega arith) (λ e. omega (arith, e))) in
     rw first (only_at (λ rest. f (b ∷ rest)) g bs k (omega (arith, le)) (λ j l n. h (suc j) (omega (arith, l)) (λ e. n (omega (arith, e)))))
@@ -156,13 +156,13 @@ module _ (c : ℕ) (above : 0 < c) (no_digit : is_ascii_digit c ≡ false) (leng
   unfolding behind_part
   behind_here s h = let next : digits_first s + 1 ≡ suc (digits_first s) = omega arith in rw (h, next) refl
 
-  with_part : (g : Form) (s : List ℕ) → has_part c s ≡ true → followed_by (part c lengths) g s ≡ joined (Some (lengths (amount c s))) (g (behind_part c s))
+  with_part : (g : Form) (s : List ℕ) → has_part c s ≡ true → followed_by (part c lengths) g s ≡ together (Some (lengths (amount c s))) (g (behind_part c s))
   with_part g s h =
       let e = ends_part s h in
       let at = e.0 in
       rw (amount_here s h, behind_here s h)
       (only_at (part c lengths) g s (suc (digits_first s)) (omega (arith, at)) (λ j le n. elsewhere s j le (λ has is. n is))
-      ∙ ap (λ (o : Option Length). joined o (g (drop (suc (digits_first s)) s))) (here s h))
+      ∙ ap (λ (o : Option Length). together o (g (drop (suc (digits_first s)) s))) (here s h))
 
   without_part : (g : Form) (s : List ℕ) → has_part c s ≡ false → followed_by (part c lengths) g s ≡ None
   without_part g s h = never (part c lengths) g s (λ j le. elsewhere s j le (λ has is. absurd (cc (has, h))))
@@ -191,7 +191,7 @@ abbrev may_be : Bool → Form → Form
 may_be true f s = or_nothing f s
 may_be false f s = f s
 
-nothing_more : (o : Option Length) → joined (Some (length_of 0 0)) o ≡ o
+nothing_more : (o : Option Length) → together (Some (length_of 0 0)) o ≡ o
 nothing_more None = refl
 nothing_more (Some l) =
     let days : 0 + l.days ≡ l.days = omega arith in
@@ -220,7 +220,7 @@ level c lengths rest = either (followed_by (part c lengths) (or_nothing rest)) r
 
 module _ (c : ℕ) (above : 0 < c) (no_digit : is_ascii_digit c ≡ false) (lengths : ℕ → Length) (none : lengths 0 ≡ length_of 0 0)
     (rest : Form) (differ : (s : List ℕ) → has_part c s ≡ true → rest s ≡ None) where
-  level_with : (s : List ℕ) → has_part c s ≡ true → level c lengths rest s ≡ joined (Some (lengths (amount c s))) (or_nothing rest (behind_part c s))
+  level_with : (s : List ℕ) → has_part c s ≡ true → level c lengths rest s ≡ together (Some (lengths (amount c s))) (or_nothing rest (behind_part c s))
   level_with s h = rw (with_part c above no_digit lengths (or_nothing rest) s h, differ s h) (or_none _)
 
   level_without : (s : List ℕ) → has_part c s ≡ false → level c lengths rest s ≡ rest s
@@ -239,12 +239,12 @@ module _ (c : ℕ) (above : 0 < c) (no_digit : is_ascii_digit c ≡ false) (leng
   unfolding behind_part
   behind_none s h = rw h refl
 
-  level_is : (some : Bool) (s : List ℕ) → may_be some (level c lengths rest) s ≡ joined (Some (lengths (amount c s))) (may_be (some || has_part c s) rest (behind_part c s))
+  level_is : (some : Bool) (s : List ℕ) → may_be some (level c lengths rest) s ≡ together (Some (lengths (amount c s))) (may_be (some || has_part c s) rest (behind_part c s))
   level_is some s = by_bool (has_part c s)
       (λ h.
       let lt = (ends_part c above no_digit lengths s h).0 in
       may_be_some some (level c lengths rest) s (omega (arith, lt)) ∙ level_with s h
-      ∙ ap (λ (b : Bool). joined (Some (lengths (amount c s))) (may_be b rest (behind_part c s))) (sym (ap (λ (b : Bool). some || b) h ∙ or_true some)))
+      ∙ ap (λ (b : Bool). together (Some (lengths (amount c s))) (may_be b rest (behind_part c s))) (sym (ap (λ (b : Bool). some || b) h ∙ or_true some)))
       (λ h. rw (h, or_false some, amount_none s h, behind_none s h, none) (may_be_without some s h ∙ sym (nothing_more (may_be some rest s))))
 
 -- Hours, minutes and seconds.
@@ -313,7 +313,7 @@ minutes_differ : (s : List ℕ) → has_part 72 s ≡ true → either dur_minute
 minutes_differ s h =
     rw (without_part 77 (omega arith) refl (λ n. length_of 0 (60 * n)) (or_nothing dur_second) s (one_letter 72 77 s refl h)) (seconds_differ 72 s refl h)
 
-sum_of_clock : (t : Bool) (a b c : ℕ) → joined (Some (length_of 0 (3600 * a))) (joined (Some (length_of 0 (60 * b))) (if t then Some (length_of 0 c) else None))
+sum_of_clock : (t : Bool) (a b c : ℕ) → together (Some (length_of 0 (3600 * a))) (together (Some (length_of 0 (60 * b))) (if t then Some (length_of 0 c) else None))
     ≡ option_map (length_of 0) (if t then Some (3600 * a + 60 * b + c) else None)
 sum_of_clock true a b c = ap (λ (n : ℕ). Some (length_of 0 n)) (omega arith)
 sum_of_clock false a b c = refl
@@ -323,9 +323,9 @@ clock_is s =
     let behind_hours = behind_part 72 s in
     let h = has_part 72 s in
     level_is 72 (omega arith) refl (λ n. length_of 0 (3600 * n)) refl (either dur_minute dur_second) minutes_differ false s
-    ∙ ap (joined (Some (length_of 0 (3600 * amount 72 s))))
+    ∙ ap (together (Some (length_of 0 (3600 * amount 72 s))))
     (level_is 77 (omega arith) refl (λ n. length_of 0 (60 * n)) refl dur_second (λ t g. seconds_differ 77 t refl g) h behind_hours
-    ∙ ap (joined (Some (length_of 0 (60 * amount 77 behind_hours)))) (seconds_may_be (h || has_part 77 behind_hours) (behind_part 77 behind_hours)))
+    ∙ ap (together (Some (length_of 0 (60 * amount 77 behind_hours)))) (seconds_may_be (h || has_part 77 behind_hours) (behind_part 77 behind_hours)))
     ∙ sum_of_clock (((h || has_part 77 behind_hours) || has_part 83 (behind_part 77 behind_hours)) && (length (behind_part 83 (behind_part 77 behind_hours)) == 0))
     (amount 72 s) (amount 77 behind_hours) (amount 83 (behind_part 77 behind_hours))
 
@@ -341,7 +341,7 @@ days_differ : (s : List ℕ) → has_part 87 s ≡ true → either dur_day dur_t
 days_differ s h =
     rw (without_part 68 (omega arith) refl (λ n. length_of n 0) (or_nothing dur_time) s (one_letter 87 68 s refl h)) (no_time 87 (either dur_hour (either dur_minute dur_second)) s h)
 
-sum_of_days : (o : Option ℕ) (w d : ℕ) → joined (Some (length_of (7 * w) 0)) (joined (Some (length_of d 0)) (option_map (length_of 0) o)) ≡ option_map (length_of (7 * w + d)) o
+sum_of_days : (o : Option ℕ) (w d : ℕ) → together (Some (length_of (7 * w) 0)) (together (Some (length_of d 0)) (option_map (length_of 0) o)) ≡ option_map (length_of (7 * w + d)) o
 sum_of_days None w d = refl
 sum_of_days (Some n) w d =
     let days : 7 * w + (d + 0) ≡ 7 * w + d = omega arith in
@@ -353,9 +353,9 @@ parts_are s =
     let behind_weeks = behind_part 87 s in
     let w = has_part 87 s in
     level_is 87 (omega arith) refl (λ n. length_of (7 * n) 0) refl (either dur_day dur_time) days_differ false s
-    ∙ ap (joined (Some (length_of (7 * amount 87 s) 0)))
+    ∙ ap (together (Some (length_of (7 * amount 87 s) 0)))
     (level_is 68 (omega arith) refl (λ n. length_of n 0) refl dur_time (λ t g. no_time 68 (either dur_hour (either dur_minute dur_second)) t g) w behind_weeks
-    ∙ ap (joined (Some (length_of (amount 68 behind_weeks) 0))) (time_may_be (w || has_part 68 behind_weeks) (behind_part 68 behind_weeks)))
+    ∙ ap (together (Some (length_of (amount 68 behind_weeks) 0))) (time_may_be (w || has_part 68 behind_weeks) (behind_part 68 behind_weeks)))
     ∙ sum_of_days (seconds_in (w || has_part 68 behind_weeks) (behind_part 68 behind_weeks)) (amount 87 s) (amount 68 behind_weeks)
 
 -- what is read part by part is what the grammar names

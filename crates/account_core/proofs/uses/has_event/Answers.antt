@@ -1,6 +1,6 @@
-use Rattle.std.proofs.Common.{◌≡◌, ◌+◌, ◌-◌, ◌++◌, ◌||◌, ◌∙◌, ap, false, sym}
+use Rattle.std.proofs.Common.{◌≡◌, ◌+◌, ◌-◌, ◌||◌, ◌∙◌, ap, false, sym}
 use Rattle.account_core.proofs.LiveEvents.{has_event_from, next_event}
-use Rattle.account_core.specs.Ledger.{history, staged}
+use Rattle.account_core.specs.Ledger.{changes}
 use Rattle.account_core.specs.Uses.{is_object_in_calendar}
 use Rattle.spec_history.specs.History.{live_object}
 use Rattle.spec_history.specs.declared.entry.Kind.TheVariants.{Event}
@@ -8,7 +8,7 @@ use Rattle.account_core.proofs.uses.has_event.Goals as goal
 
 pub loop-before-preserved : goal.loop-before-preserved
 loop-before-preserved c =
-    let cs = history c.args.ledger.now ++ staged c.args.ledger.now in
+    let cs = changes c.args.ledger.now in
     let before = c.loop-before.before in
     let events = c.args.ledger.now.tally.events in
     let elsewhere : is_object_in_calendar c.args.calendar (live_object cs Event (before + 1)) ≡ false = sym c.is_in_calendar.ensures ∙ c.if-is_in_calendar.false in

@@ -1,8 +1,8 @@
-use Rattle.std.proofs.Common.{◌≡◌, ◌+◌, ◌-◌, ◌++◌}
+use Rattle.std.proofs.Common.{◌≡◌, ◌+◌, ◌-◌}
 use Rattle.account_core.proofs.LiveEvents.{has_event_from}
-use Rattle.account_core.specs.Ledger.{history, staged}
+use Rattle.account_core.specs.Ledger.{changes}
 use Rattle.account_core.proofs.uses.has_event.Given as goal
 
 abbrev pub invariant-loop-before : goal.invariant-loop-before
-invariant-loop-before l = has_event_from (history l.ledger ++ staged l.ledger) l.calendar (l.before + 1) (l.ledger.tally.events - l.before)
-    ≡ has_event_from (history l.ledger ++ staged l.ledger) l.calendar 1 l.ledger.tally.events
+invariant-loop-before l = has_event_from (changes l.ledger) l.calendar (l.before + 1) (l.ledger.tally.events - l.before)
+    ≡ has_event_from (changes l.ledger) l.calendar 1 l.ledger.tally.events

@@ -6,7 +6,7 @@ use Rattle.object_outcomes.proofs.event.event_outcome.Goals as goal
 
 pub returns-clause-exact : goal.returns-clause-exact
 returns-clause-exact g c =
-    let cs = g.V.AccountView.history c.args.view.now ++ g.V.AccountView.staged c.args.view.now in
+    let cs = g.V.AccountView.changes c.args.view.now in
     let before = option_map (λ t. t.now) c.args.before in
     subst (λ ps. IfOk c.stored_outcome.result (λ j. j.outcome ≡ stored_event_outcome (ground_in c.args.setting.now) cs c.args.number before c.args.names_id ps))
     (c.in_ok-members.ensures ∙ ap (with_server_values c.args.setting.now.account.now c.args.setting.now.moment c.args.number before) c.in_ok-given.ensures)

@@ -6,10 +6,9 @@ use Rattle.set_methods.proofs.run.run.Given as goal
 abbrev pub invariant-loop-operation : goal.invariant-loop-operation
 invariant-loop-operation g l = record {
   count : vec_len l.outcomes ≡ l.operation-index;
-  history : g.V.AccountView.history l.view ≡ g.V.AccountView.history l.initial.view;
   entries : g.V.AccountView.entries l.view ≡ g.V.AccountView.entries l.initial.view;
   base : g.V.AccountView.base l.view ≡ g.V.AccountView.base l.initial.view;
-  staged : g.V.AccountView.staged l.view ≡ g.V.AccountView.staged l.initial.view ++ flat_map changes_in l.outcomes.items;
-  rest : l.outcomes.items ++ outcomes (ground_in l.setting) l.setting.kind l.created (g.V.AccountView.history l.initial.view ++ g.V.AccountView.staged l.view) (map operation_in (drop l.operation-index l.operations))
-      ≡ outcomes (ground_in l.setting) l.setting.kind l.created (g.V.AccountView.history l.initial.view ++ g.V.AccountView.staged l.initial.view) (map operation_in l.operations);
+  changes : g.V.AccountView.changes l.view ≡ g.V.AccountView.changes l.initial.view ++ flat_map changes_in l.outcomes.items;
+  rest : l.outcomes.items ++ outcomes (ground_in l.setting) l.setting.kind l.created (g.V.AccountView.changes l.view) (map operation_in (drop l.operation-index l.operations))
+      ≡ outcomes (ground_in l.setting) l.setting.kind l.created (g.V.AccountView.changes l.initial.view) (map operation_in l.operations);
 }

@@ -20,31 +20,28 @@ loop-member-preserved g c =
     let behind = map pair_of (drop (i + 1) creates) in
     let o = c.in_ok-outcome.outcome in
     let done = c.loop-member.outcomes.items in
-    let H = g.V.AccountView.history c.args.view.now in
-    let S0 = g.V.AccountView.staged c.args.view.now in
-    let S = g.V.AccountView.staged c.loop-member.view in
-    let S' = g.V.AccountView.staged c.staged.new.view in
+    let C0 = g.V.AccountView.changes c.args.view.now in
+    let C = g.V.AccountView.changes c.loop-member.view in
+    let C' = g.V.AccountView.changes c.staged.new.view in
     let ids = c.loop-member.ids in
     let ids' = c.in_ok-ids.ids in
     let here : map pair_of (drop i creates) ≡ p ∷ behind =
     at_drop_more (map pair_of) creates i c.member-item.result c.loop-member-test.true ∙ ap (λ (n : Member). pair_of n ∷ behind) (sym c.member-item.is) in
-    let is_o : o ≡ create_outcome G kind ids (H ++ S) p =
-    c.in_ok-outcome.ensures.outcome ∙ c.in_ok-judged.ensures.exact ∙ ap (λ h. create_outcome G kind ids (h ++ S) p) inv.history in
+    let is_o : o ≡ create_outcome G kind ids C p = c.in_ok-outcome.ensures.outcome ∙ c.in_ok-judged.ensures.exact in
     let more : ids' ≡ ids ++ created_id p o = c.in_ok-ids.ensures (data_of c.member-item.result.value) in
-    let next : outcomes_of_creates G kind ids (H ++ S) (p ∷ behind) ≡ o ∷ outcomes_of_creates G kind ids' (H ++ S') behind =
-    next_create G kind ids ids' H S S' p behind o is_o c.in_ok-outcome.ensures.staged more in
+    let next : outcomes_of_creates G kind ids C (p ∷ behind) ≡ o ∷ outcomes_of_creates G kind ids' C' behind =
+    next_create G kind ids ids' C C' p behind o is_o c.in_ok-outcome.ensures.changes more in
     record {
       count = search rules;
-      history = c.staged.ensures.history ∙ inv.history;
       entries = c.staged.ensures.entries ∙ inv.entries;
       base = c.staged.ensures.base ∙ inv.base;
-      staged = c.in_ok-outcome.ensures.staged ∙ ap (λ t. t ++ changes_in o) inv.staged ∙ append_assoc S0 (flat_map changes_in done) (changes_in o)
-          ∙ ap (λ t. S0 ++ t) (sym (ap (flat_map changes_in) c.in_ok-push.ensures.items ∙ flat_map-append changes_in done (o ∷ []) ∙ ap (λ t. flat_map changes_in done ++ t) (append-nil (changes_in o))));
-      rest = ap (λ os. os ++ outcomes_of_creates G kind ids' (H ++ S') behind) c.in_ok-push.ensures.items
-          ∙ append_assoc done (o ∷ []) (outcomes_of_creates G kind ids' (H ++ S') behind) ∙ ap (λ os. done ++ os) (sym next)
-          ∙ ap (λ ms. done ++ outcomes_of_creates G kind ids (H ++ S) ms) (sym here) ∙ inv.rest;
-      added = ap (λ t. t ++ of_each created_id behind (outcomes_of_creates G kind ids' (H ++ S') behind)) more
-          ∙ append_assoc ids (created_id p o) (of_each created_id behind (outcomes_of_creates G kind ids' (H ++ S') behind))
+      changes = c.in_ok-outcome.ensures.changes ∙ ap (λ t. t ++ changes_in o) inv.changes ∙ append_assoc C0 (flat_map changes_in done) (changes_in o)
+          ∙ ap (λ t. C0 ++ t) (sym (ap (flat_map changes_in) c.in_ok-push.ensures.items ∙ flat_map-append changes_in done (o ∷ []) ∙ ap (λ t. flat_map changes_in done ++ t) (append-nil (changes_in o))));
+      rest = ap (λ os. os ++ outcomes_of_creates G kind ids' C' behind) c.in_ok-push.ensures.items
+          ∙ append_assoc done (o ∷ []) (outcomes_of_creates G kind ids' C' behind) ∙ ap (λ os. done ++ os) (sym next)
+          ∙ ap (λ ms. done ++ outcomes_of_creates G kind ids C ms) (sym here) ∙ inv.rest;
+      added = ap (λ t. t ++ of_each created_id behind (outcomes_of_creates G kind ids' C' behind)) more
+          ∙ append_assoc ids (created_id p o) (of_each created_id behind (outcomes_of_creates G kind ids' C' behind))
           ∙ ap (λ os. ids ++ of_each created_id (p ∷ behind) os) (sym next)
-          ∙ ap (λ ms. ids ++ of_each created_id ms (outcomes_of_creates G kind ids (H ++ S) ms)) (sym here) ∙ inv.added;
+          ∙ ap (λ ms. ids ++ of_each created_id ms (outcomes_of_creates G kind ids C ms)) (sym here) ∙ inv.added;
     }

@@ -8,14 +8,13 @@ use Rattle.set_methods.proofs.run.run_creates.Given as goal
 abbrev pub invariant-loop-member : goal.invariant-loop-member
 invariant-loop-member g l = record {
   count : vec_len l.outcomes ≡ l.member-index;
-  history : g.V.AccountView.history l.view ≡ g.V.AccountView.history l.initial.view;
   entries : g.V.AccountView.entries l.view ≡ g.V.AccountView.entries l.initial.view;
   base : g.V.AccountView.base l.view ≡ g.V.AccountView.base l.initial.view;
-  staged : g.V.AccountView.staged l.view ≡ g.V.AccountView.staged l.initial.view ++ flat_map changes_in l.outcomes.items;
-  rest : l.outcomes.items ++ outcomes_of_creates (ground_in l.setting) l.setting.kind l.ids (g.V.AccountView.history l.initial.view ++ g.V.AccountView.staged l.view) (map pair_of (drop l.member-index l.creates))
-      ≡ outcomes_of_creates (ground_in l.setting) l.setting.kind l.initial.ids (g.V.AccountView.history l.initial.view ++ g.V.AccountView.staged l.initial.view) (map pair_of l.creates);
+  changes : g.V.AccountView.changes l.view ≡ g.V.AccountView.changes l.initial.view ++ flat_map changes_in l.outcomes.items;
+  rest : l.outcomes.items ++ outcomes_of_creates (ground_in l.setting) l.setting.kind l.ids (g.V.AccountView.changes l.view) (map pair_of (drop l.member-index l.creates))
+      ≡ outcomes_of_creates (ground_in l.setting) l.setting.kind l.initial.ids (g.V.AccountView.changes l.initial.view) (map pair_of l.creates);
   added : l.ids ++ of_each created_id (map pair_of (drop l.member-index l.creates))
-      (outcomes_of_creates (ground_in l.setting) l.setting.kind l.ids (g.V.AccountView.history l.initial.view ++ g.V.AccountView.staged l.view) (map pair_of (drop l.member-index l.creates)))
+      (outcomes_of_creates (ground_in l.setting) l.setting.kind l.ids (g.V.AccountView.changes l.view) (map pair_of (drop l.member-index l.creates)))
       ≡ l.initial.ids ++ of_each created_id (map pair_of l.creates)
-      (outcomes_of_creates (ground_in l.setting) l.setting.kind l.initial.ids (g.V.AccountView.history l.initial.view ++ g.V.AccountView.staged l.initial.view) (map pair_of l.creates));
+      (outcomes_of_creates (ground_in l.setting) l.setting.kind l.initial.ids (g.V.AccountView.changes l.initial.view) (map pair_of l.creates));
 }
