@@ -214,27 +214,49 @@ is_rule_object _ = false
 abbrev pub settled_rule : ℤ → RuleParts → Option RuleParts
 settled_rule n p = if is_settled p then Some (filled n p) else None
 
--- its lists, behind the other members
-unfoldable pub with_lists : ℤ → Data → Freq → ℕ → ℕ → End → Option RuleParts
-with_lists n d f interval week_start end =
-    option_and_then (λ by_day. option_and_then (λ by_month_day. option_and_then (λ by_month. option_and_then (λ by_set.
-    settled_rule n (record { frequency = f; interval = interval; week_start = week_start; by_day = by_day; by_month_day = by_month_day; by_month = by_month; by_set = by_set; end = end }))
-    (each_in (place_in 366) (present_at (codes "bySetPosition") d)))
-    (each_in month_in (present_at (codes "byMonth") d)))
-    (each_in (place_in 31) (present_at (codes "byMonthDay") d)))
-    (each_in (nday_in f) (present_at (codes "byDay") d))
+-- what each member says, or its default; none where it says nothing that a rule may say
+pub record Readings : Type 0 where
+  pub frequency : Option Freq
+  pub interval : Option ℕ
+  pub week_start : Option ℕ
+  pub end : Option End
+  pub by_day : Option (List NDay)
+  pub by_month_day : Option (List ℤ)
+  pub by_month : Option (List ℤ)
+  pub by_set : Option (List ℤ)
 
-unfoldable pub with_members : ℤ → Data → Freq → Option RuleParts
-with_members n d f =
-    option_and_then (λ interval. option_and_then (λ week_start. option_and_then (λ end. with_lists n d f interval week_start end)
-    (end_in (present_at (codes "count") d) (present_at (codes "until") d)))
-    (week_start_in (present_at (codes "firstDayOfWeek") d)))
-    (interval_in (present_at (codes "interval") d))
+abbrev pub frequency_of : Data → Option Freq
+frequency_of d = option_and_then frequency_in (present_at (codes "frequency") d)
+
+abbrev pub readings_of : Data → Readings
+readings_of d = record {
+  frequency = frequency_of d;
+  interval = interval_in (present_at (codes "interval") d);
+  week_start = week_start_in (present_at (codes "firstDayOfWeek") d);
+  end = end_in (present_at (codes "count") d) (present_at (codes "until") d);
+  by_day = option_and_then (λ f. each_in (nday_in f) (present_at (codes "byDay") d)) (frequency_of d);
+  by_month_day = each_in (place_in 31) (present_at (codes "byMonthDay") d);
+  by_month = each_in month_in (present_at (codes "byMonth") d);
+  by_set = each_in (place_in 366) (present_at (codes "bySetPosition") d);
+}
+
+abbrev pub rule_with : Freq → ℕ → ℕ → End → List NDay → List ℤ → List ℤ → List ℤ → RuleParts
+rule_with f i w e by_day by_month_day by_month by_set = record { frequency = f; interval = i; week_start = w; end = e; by_day = by_day; by_month_day = by_month_day; by_month = by_month; by_set = by_set }
+
+-- f of a value, where there are both
+abbrev pub applied : {X Y : Type 0} → Option (X → Y) → Option X → Option Y
+applied None o = None
+applied (Some f) o = option_map f o
+
+-- the parts, where each member says one
+unfoldable pub parts_read : Readings → Option RuleParts
+parts_read r =
+    applied (applied (applied (applied (applied (applied (applied (option_map rule_with r.frequency)
+    r.interval) r.week_start) r.end) r.by_day) r.by_month_day) r.by_month) r.by_set
 
 -- the rule that an object means, for a series whose start's day is n
 unfoldable pub rule_in : ℤ → Data → Option RuleParts
-rule_in n d =
-    if is_rule_object d then option_and_then (with_members n d) (option_and_then frequency_in (present_at (codes "frequency") d)) else None
+rule_in n d = if is_rule_object d then option_and_then (settled_rule n) (parts_read (readings_of d)) else None
 
 -- `recurrenceRules`: a list of at most 4 rules, for a series that starts at this wall second
 abbrev pub rules_of : ℤ → List Data → Option (List RuleParts)
