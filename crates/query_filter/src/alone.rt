@@ -2,7 +2,7 @@
 ghost use Rattle.std.specs.Prelude.{◌≡◌, ◌≤◌, option_map, true};
 ghost use Rattle.spec_series.specs.SeriesLimits.{wall_seconds};
 ghost use Rattle.spec_time.specs.Walls.{is_in_years};
-ghost use Rattle.query_filter.specs.Refusals.{is_alone, may_meet, widest};
+ghost use Rattle.query_filter.specs.Skips.{is_alone, may_meet, widest};
 
 use occurrence_windows::FARTHEST;
 use spec_series::series::Series;

@@ -1,8 +1,8 @@
 use Rattle.std.proofs.Common.{◌∙◌, None, Option, Some, ap, option_map, sym}
 use Rattle.spec_series.specs.declared.series.Series.{Series}
-use Rattle.query_filter.proofs.RefusalLemmas.{kept_says}
+use Rattle.query_filter.proofs.SkipLemmas.{kept_says}
 use Rattle.query_filter.proofs.zoned.ZonedFilter.may_match.Goals as goal
-use Rattle.query_filter.specs.Refusals.{may_match}
+use Rattle.query_filter.specs.Skips.{may_match}
 
 pub returns-in-Some-clause-value : goal.returns-in-Some-clause-value
 returns-in-Some-clause-value c =

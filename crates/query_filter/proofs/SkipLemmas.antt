@@ -1,4 +1,4 @@
--- Events that are refused before the rule of their zone is known.
+-- Events that a filter skips before the rule of their zone is known.
 use Rattle.std.proofs.Common.{◌≡◌, ◌∙◌, ℕ, ◌+ℤ◌, ◌≤ℤ◌, ℤ, pos, inl, inr, List, [], ◌∷◌, length, slice_get, ◌&&◌, ◌||◌, Bool, true, false, not, int_lt, Option, Some, None, refl, sym, ap, arith, subst, ◌*◌}
 use Rattle.std.specs.Prelude.{◌==◌, unwrap_or, codes}
 use Rattle.std.specs.Option.{option_map_or}
@@ -29,7 +29,7 @@ use Rattle.occurrence_windows.proofs.Series.{showing_is}
 use Rattle.query_filter.proofs.KeptLemmas.{times_missed}
 use Rattle.query_filter.specs.InZone.{FilterInZone}
 use Rattle.query_filter.specs.KeptTimes.{times_of}
-use Rattle.query_filter.specs.Refusals.{is_alone, may_match, may_meet, widest}
+use Rattle.query_filter.specs.Skips.{is_alone, may_match, may_meet, widest}
 use Rattle.query_filter.specs.declared.times.Times.{Times}
 use Rattle.rule_expand.proofs.Places.{and_both, is_late, late_is}
 use Rattle.rule_expand.proofs.Sets.{both_and, not_true}
@@ -130,16 +130,16 @@ missed None rule w near h = refl
 missed (Some s) None w near h = refl
 missed (Some s) (Some tz) w near h = alone_missed s tz w (near tz refl) h
 
-refused_by : (f : FilterInZone) (series : Option Series) (times : Option Times) → times_of f.clock f.filter ≡ times → option_map_or (λ t. may_meet series t.window) times true ≡ false
+skipped_by : (f : FilterInZone) (series : Option Series) (times : Option Times) → times_of f.clock f.filter ≡ times → option_map_or (λ t. may_meet series t.window) times true ≡ false
     → (zones : List ZoneText) (floating : List ℕ) (event : Data) → matches_by f.clock series (rule_of_event zones floating event) f.filter event ≡ false
-refused_by f series None e h zones floating event = cc
-refused_by f series (Some t) e h zones floating event =
+skipped_by f series None e h zones floating event = cc
+skipped_by f series (Some t) e h zones floating event =
     times_missed f.clock series (rule_of_event zones floating event) event f.filter t e
     (missed series (rule_of_event zones floating event) t.window (λ tz r. zone_near zones (unwrap_or (time_zone_in event) floating) tz r) h)
 
-pub refused : (f : FilterInZone) (series : Option Series) → may_match f series ≡ false
+pub skipped : (f : FilterInZone) (series : Option Series) → may_match f series ≡ false
     → (zones : List ZoneText) (floating : List ℕ) (event : Data) → matches_by f.clock series (rule_of_event zones floating event) f.filter event ≡ false
-refused f series h zones floating event = refused_by f series (times_of f.clock f.filter) refl h zones floating event
+skipped f series h zones floating event = skipped_by f series (times_of f.clock f.filter) refl h zones floating event
 
 -- What is kept of a filter says it.
 pub kept_says : (f : FilterInZone) (series : Option Series) (times : Option Times) → times_of f.clock f.filter ≡ times → option_map_or (λ t. may_meet series t.window) times true ≡ may_match f series

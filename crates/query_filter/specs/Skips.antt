@@ -1,4 +1,4 @@
--- Events that are refused before the rule of their zone is known.
+-- Events that a filter skips before the rule of their zone is known.
 use Rattle.std.specs.Prelude.{◌≡◌, ◌==◌, ◌&&◌, ◌||◌, ◌+ℤ◌, ◌-ℤ◌, ℕ, ℤ, pos, List, length, Bool, true, false, not, Option, Some, None}
 use Rattle.std.specs.Option.{option_map_or}
 use Rattle.spec_filters.specs.Matches.{matches_by}
