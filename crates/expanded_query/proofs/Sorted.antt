@@ -27,10 +27,10 @@ use Rattle.spec_series.specs.declared.occurrence.Occurrence.{Occurrence}
 use Rattle.spec_series.specs.declared.series.Series.{Series}
 use Rattle.spec_time.specs.Walls.{is_in_years}
 use Rattle.spec_windows.specs.Clocks.{instant_in}
-use Rattle.spec_windows.specs.Windows.{IsMeeting, meets_window}
+use Rattle.spec_windows.specs.Windows.{IsOverlapping, overlaps_window}
 use Rattle.spec_windows.specs.declared.window.Window.{Window}
 use Rattle.occurrence_windows.proofs.Listing.{by_bool}
-use Rattle.occurrence_windows.proofs.Meeting.{has_met}
+use Rattle.occurrence_windows.proofs.Overlapping.{has_overlap}
 use Rattle.occurrence_windows.proofs.Passing.{rid_near}
 use Rattle.occurrence_windows.proofs.Series.{rid_of, showing_is}
 use Rattle.occurrence_windows.specs.Listing.{IsListOf}
@@ -154,16 +154,16 @@ shows_at tz v t e = by_bool (is_showing v) (λ h. h) (λ h. let none = instant-n
 
 module _ (s : Series) (rule : TzText) (w : Window) where
   abbrev Meets : Occurrence → Type 0
-  Meets o = IsMeeting s (instant_in rule) w o
+  Meets o = IsOverlapping s (instant_in rule) w o
 
   near : (o : Occurrence) → Meets o → IsWithin 400000000000 o.rid
-  near o m = let met = has_met (instant_in rule) w o m.1 in rid_near s rule o met.period.from m.0 met.span.first
+  near o m = let met = has_overlap (instant_in rule) w o m.1 in rid_near s rule o met.period.from m.0 met.span.first
 
   -- their recurrence ids lie in the years 0 to 9999
   in_years : (o : Occurrence) → Meets o → is_in_years o.rid ≡ true
   in_years o m = elim (kinds s o m.0) [
     | inl own ↦
-        let met = has_met (instant_in rule) w o m.1 in
+        let met = has_overlap (instant_in rule) w o m.1 in
         let shown = showing_is o.start (shows_at rule o.start met.period.from met.span.first) in
         let same = own.start in
         rw (is_int_le (negsuc 62167219199) o.rid (omega (arith, signed_arith, shown.0, same)), is_int_le o.rid (pos 253402300799) (omega (arith, signed_arith, shown.1, same))) refl
@@ -187,7 +187,7 @@ module _ (s : Series) (rule : TzText) (w : Window) where
       let once : (r : ℤ) → count_at r ys ≤ 1 = λ r. rw (sum_by-IsPermutation (one_at r) xs ys moved) (at_most_one r xs (no_two xs list)) in
       let low : ℤ = pos 0 -ℤ pos (2 ^ 57) in
       let least : AllByRecursion (λ o. low ≤ℤ o.rid) ys = each (λ o m. let n = near o m in omega (arith, signed_arith, n)) ys everyone in
-      listed s (meets_window (instant_in rule) w) (2 ^ 58) low (low +ℤ pos (2 ^ 58)) ys refl (all_risen low ys least order once) everyone
+      listed s (overlaps_window (instant_in rule) w) (2 ^ 58) low (low +ℤ pos (2 ^ 58)) ys refl (all_risen low ys least order once) everyone
       (λ q m. let n = near q (member Meets ys q everyone m) in omega (arith, signed_arith, n))
       (λ q f from to.
       let at = list.all q f in

@@ -19,12 +19,12 @@ use Rattle.spec_series.specs.declared.series.Series.{Series}
 use Rattle.spec_site.specs.TimeZones.{ZoneText}
 use Rattle.spec_time.specs.Walls.{day_of_wall, second_of_wall}
 use Rattle.spec_windows.specs.Clocks.{instant_in}
-use Rattle.spec_windows.specs.Meetings.{has_meeting}
-use Rattle.spec_windows.specs.Windows.{keeps_limits, meets_window}
+use Rattle.spec_windows.specs.Overlaps.{has_overlapping}
+use Rattle.spec_windows.specs.Windows.{keeps_limits, overlaps_window}
 use Rattle.spec_windows.specs.ZoneRules.{listed_rule, rule_of, rule_of_event, utc_rule}
 use Rattle.spec_windows.specs.declared.window.Window.{Window}
-use Rattle.occurrence_windows.proofs.Meeting.{AreInstants, has_met}
-use Rattle.occurrence_windows.proofs.Passing.{meeting_is}
+use Rattle.occurrence_windows.proofs.Overlapping.{AreInstants, has_overlap}
+use Rattle.occurrence_windows.proofs.Passing.{overlapping_is}
 use Rattle.occurrence_windows.proofs.Series.{showing_is}
 use Rattle.query_filter.proofs.KeptLemmas.{times_missed}
 use Rattle.query_filter.specs.InZone.{FilterInZone}
@@ -74,10 +74,10 @@ before_wider : (limit : Option ℤ) (from earlier : ℤ) → earlier ≤ℤ from
 before_wider None from earlier le h = refl
 before_wider (Some b) from earlier le h = let x = late_is from b h in is_late earlier b (omega (arith, signed_arith, x, le))
 
-met_widest : (at : ℤ → Option ℤ) (w : Window) (o : Occurrence) → AreInstants at → meets_window at w o ≡ true → keeps_limits w (widest o.start (wall_seconds o.length)) ≡ true
+met_widest : (at : ℤ → Option ℤ) (w : Window) (o : Occurrence) → AreInstants at → overlaps_window at w o ≡ true → keeps_limits w (widest o.start (wall_seconds o.length)) ≡ true
 unfolding keeps_limits
 met_widest at w o i h =
-    let m = has_met at w o h in
+    let m = has_overlap at w o h in
     let begins = i.near o.start m.period.from m.span.first in
     let ends = i.near (o.start +ℤ pos (86400 * o.length.days)) m.span.last m.span.ends in
     let to = m.span.to in
@@ -114,11 +114,11 @@ neither : (a b : Bool) → (not a || b) ≡ false → (a ≡ true) × (b ≡ fal
 neither true b h = (refl, h)
 neither false b h = cc
 
-alone_missed : (s : Series) (tz : TzText) (w : Window) → HasNearOffsets tz → may_meet (Some s) w ≡ false → has_meeting s (instant_in tz) w ≡ false
+alone_missed : (s : Series) (tz : TzText) (w : Window) → HasNearOffsets tz → may_meet (Some s) w ≡ false → has_overlapping s (instant_in tz) w ≡ false
 alone_missed s tz w near h =
     let parts = neither (is_alone s) _ h in
-    not_true (has_meeting s (instant_in tz) w) (λ met.
-    let o = (meeting_is s tz w).0 met in
+    not_true (has_overlapping s (instant_in tz) w) (λ met.
+    let o = (overlapping_is s tz w).0 met in
     let at = alone_at s o.0 parts.0 o.1.0 in
     let wide = met_widest (instant_in tz) w o.0 (near_instants tz near) o.1.1 in
     let same : keeps_limits w (widest s.start (wall_seconds s.length)) ≡ true = ap (λ x. keeps_limits w (widest x (wall_seconds s.length))) (sym at.0) ∙ ap (λ l. keeps_limits w (widest o.0.start (wall_seconds l))) (sym at.1) ∙ wide in

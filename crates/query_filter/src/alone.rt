@@ -17,7 +17,7 @@ pub(crate) fn may_meet(series: Option<&Series>, window: Window) -> bool
 {
     match series {
         Some(series) => {
-            !is_alone(series) || window.is_met_by(widest(series.start, series.length))
+            !is_alone(series) || window.overlaps(widest(series.start, series.length))
         }
         None => false,
     }

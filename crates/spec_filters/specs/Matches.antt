@@ -16,7 +16,7 @@ use Rattle.spec_series.specs.declared.series.Series.{Series}
 use Rattle.spec_site.specs.TimeZones.{ZoneText}
 use Rattle.spec_time.specs.LocalTimes.{local_in}
 use Rattle.spec_windows.specs.Clocks.{instant_in}
-use Rattle.spec_windows.specs.Meetings.{has_meeting}
+use Rattle.spec_windows.specs.Overlaps.{has_overlapping}
 use Rattle.spec_windows.specs.ZoneRules.{rule_of, rule_of_event, utc_rule}
 use Rattle.spec_windows.specs.declared.window.Window.{Window}
 
@@ -71,7 +71,7 @@ window_asked filter = if is_some (given_at (codes "operator") (members_in filter
 abbrev pub meets_by : Option Series → Option TzText → Window → Bool
 meets_by None rule w = false
 meets_by (Some s) None w = false
-meets_by (Some s) (Some rule) w = has_meeting s (instant_in rule) w
+meets_by (Some s) (Some rule) w = has_overlapping s (instant_in rule) w
 
 -- where either member stands
 abbrev pub times_meet : TzText → Option Series → Option TzText → List Pair → Bool

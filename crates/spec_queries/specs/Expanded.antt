@@ -35,7 +35,7 @@ use Rattle.spec_series.specs.Numbers.{seconds_around}
 use Rattle.spec_series.specs.Occurrences.{occurrence_with, passes_with}
 use Rattle.spec_site.specs.TimeZones.{ZoneText}
 use Rattle.spec_time.specs.LocalTimes.{local_text}
-use Rattle.spec_windows.specs.Windows.{meets_window}
+use Rattle.spec_windows.specs.Windows.{overlaps_window}
 use Rattle.spec_windows.specs.ZoneRules.{rule_of, rule_of_event, utc_rule}
 use Rattle.spec_windows.specs.Clocks.{instant_in}
 use Rattle.spec_windows.specs.declared.window.Window.{Window}
@@ -48,7 +48,7 @@ passing_seconds p = filter p (seconds_around (pos 0))
 
 -- the occurrences that meet the window, by their recurrence ids
 unfoldable pub occurrences_meeting : Series → (ℤ → Option ℤ) → Window → List Occurrence
-occurrences_meeting s at w = flat_map (λ rid. some_of (occurrence_with s rid)) (passing_seconds (passes_with (meets_window at w) s))
+occurrences_meeting s at w = flat_map (λ rid. some_of (occurrence_with s rid)) (passing_seconds (passes_with (overlaps_window at w) s))
 
 -- An occurrence as a result.
 
