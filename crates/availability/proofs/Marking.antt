@@ -38,10 +38,10 @@ any_from test (o ∷ os) h = elim (or_cases (test o) (list_any test os) h) [
   | inr b ↦ let x = any_from test os b in (suc x.0, x.1)
 ]
 
--- what covers an instant of the window meets it
-pub occupier_meets : (at : ℤ → Option ℤ) (w : Period) (u : ℤ) (o : Occurrence) → lies_in u w ≡ true → occupies at u o ≡ true → overlaps_window at (record { after = Some w.from; before = Some w.to }) o ≡ true
+-- what covers an instant of the window overlaps it
+pub occupier_overlaps : (at : ℤ → Option ℤ) (w : Period) (u : ℤ) (o : Occurrence) → lies_in u w ≡ true → occupies at u o ≡ true → overlaps_window at (record { after = Some w.from; before = Some w.to }) o ≡ true
 unfolding overlaps_window keeps_limits
-occupier_meets at w u o h k =
+occupier_overlaps at w u o h k =
     let x = covers_is u w h in
     let z = and_parts o.occupying _ k in
     let m = some_holds (lies_in u) (span_at at o) z.1 in
@@ -63,7 +63,7 @@ marks_all series at w old last os n le list f = λ u.
       ],
       λ h. whole ∙ elim h [
         | inl a ↦ or_left (is_busy old u) (list_any (λ o. lies_in u w && occupies at u o) os) a
-        | inr b ↦ let k = list.all b.1.0 (b.1.1.0, occupier_meets at w u b.1.0 b.0 b.1.1.1) in
+        | inr b ↦ let k = list.all b.1.0 (b.1.1.0, occupier_overlaps at w u b.1.0 b.0 b.1.1.1) in
             or_right (is_busy old u) (list_any (λ o. lies_in u w && occupies at u o) os) (any_passes_from_place (λ o. lies_in u w && occupies at u o) os k.0 b.1.0 k.1 (and_from (lies_in u w) (occupies at u b.1.0) b.0 b.1.1.1))
       ],
     )

@@ -16,7 +16,7 @@ use Rattle.expanded_query.proofs.Searched.{is_one, listed, rises}
 use Rattle.jiff_core.proofs.SignedLemmas.{signed_arith}
 use Rattle.jiff_core.specs.Calendar.{IsWithin}
 use Rattle.jiff_tz.specs.PosixText.{TzText}
-use Rattle.spec_queries.specs.Expanded.{occurrences_meeting, passing_seconds}
+use Rattle.spec_queries.specs.Expanded.{occurrences_overlapping, passing_seconds}
 use Rattle.spec_events.specs.Values.{is_showing}
 use Rattle.spec_series.proofs.Occurrences.{kinds}
 use Rattle.spec_series.specs.Numbers.{seconds_around}
@@ -172,7 +172,7 @@ module _ (s : Series) (rule : TzText) (w : Window) where
         ap is_in_years (sym (rid_of put.1.0 o put.1.1.1)) ∙ years.0
   ]
 
-  -- two that meet the window differ in their recurrence ids
+  -- two that overlap the window differ in their recurrence ids
   no_two : (os : List Occurrence) → IsListOf Meets os → (j k : ℕ) (a b : Occurrence) → j < k → slice_get os j ≡ Some a → slice_get os k ≡ Some b → a.rid ≡ b.rid → ⊥
   no_two os list j k a b lt h g e =
       let one = (list.only j a h).0 in
@@ -180,8 +180,8 @@ module _ (s : Series) (rule : TzText) (w : Window) where
       let same : a ≡ b = some_same a b (sym one ∙ ap (occurrence_with s) e ∙ other) in
       sooner_self b (subst (λ x. is_sooner x b ≡ true) same (list.ordered j k a b lt h g))
 
-  pub sorted_are : (xs ys : List Occurrence) → IsListOf Meets xs → IsPermutation xs ys → InOrder ys → ys ≡ occurrences_meeting s (instant_in rule) w
-  unfolding occurrences_meeting passing_seconds seconds_around
+  pub sorted_are : (xs ys : List Occurrence) → IsListOf Meets xs → IsPermutation xs ys → InOrder ys → ys ≡ occurrences_overlapping s (instant_in rule) w
+  unfolding occurrences_overlapping passing_seconds seconds_around
   sorted_are xs ys list moved order =
       let everyone : AllByRecursion Meets ys = recursion_from_All Meets ys (All-permutation Meets xs ys moved (λ k d l. list.only k (slice_index_or xs k d) (got xs k d l))) in
       let once : (r : ℤ) → count_at r ys ≤ 1 = λ r. rw (sum_by-IsPermutation (one_at r) xs ys moved) (at_most_one r xs (no_two xs list)) in

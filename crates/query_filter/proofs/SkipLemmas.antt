@@ -8,7 +8,7 @@ use Rattle.jiff_core.proofs.SignedLemmas.{signed_arith}
 use Rattle.jiff_tz.specs.PosixText.{TzText}
 use Rattle.spec_events.specs.Events.{time_zone_in}
 use Rattle.spec_events.specs.Values.{is_showing}
-use Rattle.spec_filters.specs.Matches.{matches_by, meets_by}
+use Rattle.spec_filters.specs.Matches.{matches_by, overlaps_by}
 use Rattle.spec_json.specs.Data.{Data}
 use Rattle.spec_series.proofs.Occurrences.{kinds}
 use Rattle.spec_series.specs.Occurrences.{IsOccurrence, is_day}
@@ -29,7 +29,7 @@ use Rattle.occurrence_windows.proofs.Series.{showing_is}
 use Rattle.query_filter.proofs.KeptLemmas.{times_missed}
 use Rattle.query_filter.specs.InZone.{FilterInZone}
 use Rattle.query_filter.specs.KeptTimes.{times_of}
-use Rattle.query_filter.specs.Skips.{is_alone, may_match, may_meet, widest}
+use Rattle.query_filter.specs.Skips.{is_alone, may_match, may_overlap, widest}
 use Rattle.query_filter.specs.declared.times.Times.{Times}
 use Rattle.rule_expand.proofs.Places.{and_both, is_late, late_is}
 use Rattle.rule_expand.proofs.Sets.{both_and, not_true}
@@ -114,7 +114,7 @@ neither : (a b : Bool) → (not a || b) ≡ false → (a ≡ true) × (b ≡ fal
 neither true b h = (refl, h)
 neither false b h = cc
 
-alone_missed : (s : Series) (tz : TzText) (w : Window) → HasNearOffsets tz → may_meet (Some s) w ≡ false → has_overlapping s (instant_in tz) w ≡ false
+alone_missed : (s : Series) (tz : TzText) (w : Window) → HasNearOffsets tz → may_overlap (Some s) w ≡ false → has_overlapping s (instant_in tz) w ≡ false
 alone_missed s tz w near h =
     let parts = neither (is_alone s) _ h in
     not_true (has_overlapping s (instant_in tz) w) (λ met.
@@ -125,12 +125,12 @@ alone_missed s tz w near h =
     let no = parts.1 in
     cc)
 
-missed : (series : Option Series) (rule : Option TzText) (w : Window) → ((tz : TzText) → rule ≡ Some tz → HasNearOffsets tz) → may_meet series w ≡ false → meets_by series rule w ≡ false
+missed : (series : Option Series) (rule : Option TzText) (w : Window) → ((tz : TzText) → rule ≡ Some tz → HasNearOffsets tz) → may_overlap series w ≡ false → overlaps_by series rule w ≡ false
 missed None rule w near h = refl
 missed (Some s) None w near h = refl
 missed (Some s) (Some tz) w near h = alone_missed s tz w (near tz refl) h
 
-skipped_by : (f : FilterInZone) (series : Option Series) (times : Option Times) → times_of f.clock f.filter ≡ times → option_map_or (λ t. may_meet series t.window) times true ≡ false
+skipped_by : (f : FilterInZone) (series : Option Series) (times : Option Times) → times_of f.clock f.filter ≡ times → option_map_or (λ t. may_overlap series t.window) times true ≡ false
     → (zones : List ZoneText) (floating : List ℕ) (event : Data) → matches_by f.clock series (rule_of_event zones floating event) f.filter event ≡ false
 skipped_by f series None e h zones floating event = cc
 skipped_by f series (Some t) e h zones floating event =
@@ -142,5 +142,5 @@ pub skipped : (f : FilterInZone) (series : Option Series) → may_match f series
 skipped f series h zones floating event = skipped_by f series (times_of f.clock f.filter) refl h zones floating event
 
 -- What is kept of a filter says it.
-pub kept_says : (f : FilterInZone) (series : Option Series) (times : Option Times) → times_of f.clock f.filter ≡ times → option_map_or (λ t. may_meet series t.window) times true ≡ may_match f series
-kept_says f series times e = ap (λ o. option_map_or (λ t. may_meet series t.window) o true) (sym e)
+pub kept_says : (f : FilterInZone) (series : Option Series) (times : Option Times) → times_of f.clock f.filter ≡ times → option_map_or (λ t. may_overlap series t.window) times true ≡ may_match f series
+kept_says f series times e = ap (λ o. option_map_or (λ t. may_overlap series t.window) o true) (sym e)

@@ -10,7 +10,7 @@ ghost use Rattle.occurrence_windows.specs.Bounds.{AreNear};
 ghost use Rattle.query_filter.specs.EventTests.{event_meets};
 ghost use Rattle.query_filter.specs.Skips.{IsForNoneOf, may_match};
 
-use crate::alone::may_meet;
+use crate::alone::may_overlap;
 use crate::clock::Clock;
 use crate::condition::{EventTest, instants_asked};
 use crate::conditions::conditions_of;
@@ -105,7 +105,7 @@ impl ZonedFilter {
         ensures none { result ≡ false → IsForNoneOf self.now (option_map (λ s. s.now) series.entry) }
     {
         match self.times {
-            Some(times) => may_meet(series, times.window),
+            Some(times) => may_overlap(series, times.window),
             None => true,
         }
     }

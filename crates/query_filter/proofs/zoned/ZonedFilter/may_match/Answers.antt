@@ -7,7 +7,7 @@ use Rattle.query_filter.specs.Skips.{may_match}
 pub returns-in-Some-clause-value : goal.returns-in-Some-clause-value
 returns-in-Some-clause-value c =
     let series : Option Series = option_map (λ s. s.now) c.args.series in
-    c.may_meet.ensures
+    c.may_overlap.ensures
     ∙ kept_says (record { filter = c.self.inside.filter; clock = c.self.inside.clock }) series (Some c.in-Some.times) (sym c.self.invariant.0 ∙ c.in-Some.is)
     ∙ ap (λ f. may_match f series) c.self.view_is
 
