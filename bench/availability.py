@@ -4,7 +4,7 @@
 import datetime
 import json
 
-from calendars import MOST_OBJECTS, Connection
+from calendars import MAX_OBJECTS, Connection
 from connections import TOKEN, next_body
 from measure import compact, options
 
@@ -42,8 +42,8 @@ def touching(number):
 def fill(connection, event, count):
     """Creates a calendar and so many events in it."""
     connection.send(["Calendar/set", {"accountId": "A1", "create": {"c": {"name": "Team"}}}], 1)
-    for first in range(0, count, MOST_OBJECTS):
-        made = {f"k{number}": event(number) for number in range(first, first + MOST_OBJECTS)}
+    for first in range(0, count, MAX_OBJECTS):
+        made = {f"k{number}": event(number) for number in range(first, first + MAX_OBJECTS)}
         connection.send(["CalendarEvent/set", {"accountId": "A1", "create": made}], 1)
 
 

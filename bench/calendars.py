@@ -10,8 +10,8 @@ from measure import compact, options, service_environment
 
 ENTRIES = (0, 5_000, 49_000)
 USING = ["urn:ietf:params:jmap:core", "urn:ietf:params:jmap:calendars"]
-MOST_OBJECTS = 500
-MOST_GROWTH = 1.5
+MAX_OBJECTS = 500
+MAX_GROWTH = 1.5
 
 
 class Connection:
@@ -60,7 +60,7 @@ def create(count):
 
 
 def get_ids(_entries):
-    return ["Calendar/get", {"accountId": "A1", "ids": [f"C{number + 1}" for number in range(MOST_OBJECTS)]}]
+    return ["Calendar/get", {"accountId": "A1", "ids": [f"C{number + 1}" for number in range(MAX_OBJECTS)]}]
 
 
 def changes(entries):
@@ -70,8 +70,8 @@ def changes(entries):
 # The call at an account of so many entries, how often it is made, the least entries that it needs, and the most milliseconds it may take.
 CALLS = {
     "create one": (lambda _entries: create(1), 900, 0, 0.02),
-    "get of 500 ids": (get_ids, 100, MOST_OBJECTS, 2.0),
-    "set of 500 creates": (lambda _entries: create(MOST_OBJECTS), 2, 0, 4.0),
+    "get of 500 ids": (get_ids, 100, MAX_OBJECTS, 2.0),
+    "set of 500 creates": (lambda _entries: create(MAX_OBJECTS), 2, 0, 4.0),
     "changes with nothing new": (changes, 2_000, 0, 0.01),
 }
 
@@ -80,7 +80,7 @@ def spent(binary, call, times, entries):
     """The milliseconds of processor and the pages that a call takes on an account of so many entries."""
     connection = Connection(binary)
     connection.send(["Core/echo", {}], 1)
-    connection.send(create(MOST_OBJECTS), entries // MOST_OBJECTS)
+    connection.send(create(MAX_OBJECTS), entries // MAX_OBJECTS)
     before, faults = connection.milliseconds(), connection.faults()
     connection.send(call, times)
     taken, given = connection.milliseconds() - before, connection.faults() - faults
@@ -102,7 +102,7 @@ def main():
         growth = max(figures) / min(figures)
         print(f"{name}: the slowest takes {growth:.2f} times as long as the fastest")
         missed += [f"{name} is above {most}"] if max(figures) > most else []
-        missed += [f"{name} isn't flat"] if growth > MOST_GROWTH else []
+        missed += [f"{name} isn't flat"] if growth > MAX_GROWTH else []
     print("all goals are met" if not missed else "missed: " + "; ".join(missed))
 
 

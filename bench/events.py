@@ -1,7 +1,7 @@
 #!/usr/bin/env python3
 """Times calls on events by `jmapd stdio` on accounts of 3,000 and 45,000 events; README.md tells what it prints."""
 
-from calendars import MOST_GROWTH, MOST_OBJECTS, Connection
+from calendars import MAX_GROWTH, MAX_OBJECTS, Connection
 from measure import compact, options
 
 # About how many bytes an event has, and how many events an account has. 45,000 of 1,000 bytes are more than an account may hold.
@@ -29,7 +29,7 @@ def create(count, size):
 
 
 def get_ids(_size, _events):
-    return ["CalendarEvent/get", {"accountId": "A1", "ids": [f"E{number + 1}" for number in range(MOST_OBJECTS)]}]
+    return ["CalendarEvent/get", {"accountId": "A1", "ids": [f"E{number + 1}" for number in range(MAX_OBJECTS)]}]
 
 
 def changes(_size, events):
@@ -39,7 +39,7 @@ def changes(_size, events):
 # The call at an account of events of a size, how often it is made, and the most milliseconds that it may take.
 CALLS = {
     "create one": (lambda size, _events: create(1, size), 900, 0.05),
-    "set of 500 creates": (lambda size, _events: create(MOST_OBJECTS, size), 4, 15.0),
+    "set of 500 creates": (lambda size, _events: create(MAX_OBJECTS, size), 4, 15.0),
     "get of 500 ids": (get_ids, 100, 4.0),
     "changes with nothing new": (changes, 2_000, 0.01),
 }
@@ -49,7 +49,7 @@ def milliseconds_of(binary, call, times, size, events):
     """The milliseconds of processor that a call takes on an account of so many events."""
     connection = Connection(binary)
     connection.send(["Calendar/set", {"accountId": "A1", "create": {"c": {"name": "Team"}}}], 1)
-    connection.send(create(MOST_OBJECTS, size), events // MOST_OBJECTS)
+    connection.send(create(MAX_OBJECTS, size), events // MAX_OBJECTS)
     before = connection.milliseconds()
     connection.send(call, times)
     taken = connection.milliseconds() - before
@@ -70,7 +70,7 @@ def main():
         few, many = (figures[account] for account in ACCOUNTS[1:])
         print(f"{name}: 45,000 events take {many / few:.2f} times as long as 3,000 of the same size")
         missed += [f"{name} is above {most}"] if max(figures.values()) > most else []
-        missed += [f"{name} isn't flat"] if many / few > MOST_GROWTH else []
+        missed += [f"{name} isn't flat"] if many / few > MAX_GROWTH else []
     print("all goals are met" if not missed else "missed: " + "; ".join(missed))
 
 

@@ -20,7 +20,7 @@ ECHO = {"title": "Meeting", "start": "2026-11-27T09:00:00", "duration": "PT1H", 
 # What is sent before a client looks for answers, so that the clients' own work decides less.
 AT_ONCE = 50
 # A connection may have 10,000 messages.
-MOST_MESSAGES = 10_000
+MAX_MESSAGES = 10_000
 CORE = "urn:ietf:params:jmap:core"
 CALENDARS = "urn:ietf:params:jmap:calendars"
 
@@ -101,7 +101,7 @@ def client(port, text, count, start):
     left = count
     while left > 0:
         peer = Peer(port)
-        on_this = min(left, MOST_MESSAGES - AT_ONCE)
+        on_this = min(left, MAX_MESSAGES - AT_ONCE)
         left -= on_this
         while on_this > 0:
             now = min(AT_ONCE, on_this)

@@ -11,7 +11,7 @@ from measure import compact, options
 
 USING = ["urn:ietf:params:jmap:core", "urn:ietf:params:jmap:calendars"]
 ACCOUNTS = (3_000, 45_000)
-MOST_GROWTH = 18  # of the time, for 15 times the events
+MAX_GROWTH = 18  # of the time, for 15 times the events
 FOUR_YEARS = 4 * 365 * 1_440  # in minutes
 TIMES = 20
 
@@ -146,14 +146,14 @@ def main():
         figures = []
         # 45,000 events of 900 bytes are more than an account may hold, and a week of theirs has more occurrences than a get may name
         for events in ACCOUNTS[: 1 if event in (described, team_meeting) else 2]:
-            goal = most if events == ACCOUNTS[0] else MOST_GROWTH * most
+            goal = most if events == ACCOUNTS[0] else MAX_GROWTH * most
             figures.append(min(milliseconds_of(chosen.binary, event, call, events, expected) for _ in range(chosen.rounds)))
             print(f"{name:32} {events:7} {figures[-1]:20.3f}  {goal:7}", flush=True)
             missed += [f"{name} is above {goal}"] if figures[-1] > goal else []
         if len(figures) > 1:
             growth = figures[1] / figures[0]
             print(f"{name}: 45,000 events take {growth:.1f} times as long as 3,000")
-            missed += [f"{name} grows by {growth:.1f}"] if growth > MOST_GROWTH else []
+            missed += [f"{name} grows by {growth:.1f}"] if growth > MAX_GROWTH else []
     print("all goals are met" if not missed else "missed: " + "; ".join(missed))
 
 

@@ -32,7 +32,7 @@ RESTATED = {
     "spec_bookings/BookedResources": ("bookings_clash_where_two_would_cover_a_second", "clash_in first_clash_in clash_of_event"),
     "spec_bookings/HistoryBookings": ("bookings_are_of_live_events", "booking_of bookings_at"),
     "spec_recurrence/SeriesOf": ("events_have_one_series", ""),
-    "spec_windows/Meetings": ("meetings_are_found", "has_passing has_meeting"),
+    "spec_windows/Overlaps": ("overlaps_are_found", "has_passing has_overlapping"),
     "spec_availability/BusyInstants": ("events_take_up_their_occurrences", "is_occupied"),
     "spec_availability/Runs": ("runs_are_of_the_test", ""),
     "spec_history/Pages": ("pages_are_longest", "greatest page_end"),

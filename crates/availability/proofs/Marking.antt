@@ -14,9 +14,9 @@ use Rattle.spec_series.specs.Occurrences.{IsOccurrence}
 use Rattle.spec_windows.specs.declared.period.Period.{Period}
 use Rattle.spec_windows.specs.declared.window.Window.{Window}
 use Rattle.spec_windows.specs.BusyPeriods.{lies_in, is_busy, occupies, IsOccupied}
-use Rattle.spec_windows.specs.Windows.{keeps_limits, meets_window, span_at, IsMeeting}
+use Rattle.spec_windows.specs.Windows.{keeps_limits, overlaps_window, span_at, IsOverlapping}
 use Rattle.occurrence_windows.specs.Listing.{IsListOf}
-use Rattle.occurrence_windows.proofs.Meeting.{AreInstants, showing_near, shows, some_holds}
+use Rattle.occurrence_windows.proofs.Overlapping.{AreInstants, showing_near, shows, some_holds}
 use Rattle.rule_expand.proofs.Places.{is_late}
 use Rattle.availability.proofs.Runs.{covers_is}
 
@@ -38,10 +38,10 @@ any_from test (o ∷ os) h = elim (or_cases (test o) (list_any test os) h) [
   | inr b ↦ let x = any_from test os b in (suc x.0, x.1)
 ]
 
--- what covers an instant of the window meets it
-pub occupier_meets : (at : ℤ → Option ℤ) (w : Period) (u : ℤ) (o : Occurrence) → lies_in u w ≡ true → occupies at u o ≡ true → meets_window at (record { after = Some w.from; before = Some w.to }) o ≡ true
-unfolding meets_window keeps_limits
-occupier_meets at w u o h k =
+-- what covers an instant of the window overlaps it
+pub occupier_overlaps : (at : ℤ → Option ℤ) (w : Period) (u : ℤ) (o : Occurrence) → lies_in u w ≡ true → occupies at u o ≡ true → overlaps_window at (record { after = Some w.from; before = Some w.to }) o ≡ true
+unfolding overlaps_window keeps_limits
+occupier_overlaps at w u o h k =
     let x = covers_is u w h in
     let z = and_parts o.occupying _ k in
     let m = some_holds (lies_in u) (span_at at o) z.1 in
@@ -49,7 +49,7 @@ occupier_meets at w u o h k =
     rw m.1.0 (and_from (int_lt w.from m.0.to) _ (is_late w.from m.0.to (omega (arith, signed_arith, x.0, y.1))) (is_late m.0.from w.to (omega (arith, signed_arith, x.1, y.0))))
 
 pub marks_all : (series : Series) (at : ℤ → Option ℤ) (w : Period) (old last : List Period) (os : List Occurrence) (n : ℕ) → length os ≤ n
-    → IsListOf (IsMeeting series at (record { after = Some w.from; before = Some w.to })) os
+    → IsListOf (IsOverlapping series at (record { after = Some w.from; before = Some w.to })) os
     → ((u : ℤ) → is_busy last u ≡ (is_busy old u || list_any (λ o. lies_in u w && occupies at u o) (take n os)))
     → (u : ℤ) → (is_busy last u ≡ true → ((is_busy old u ≡ true) ⊎ ((lies_in u w ≡ true) × IsOccupied series at u)))
     × (((is_busy old u ≡ true) ⊎ ((lies_in u w ≡ true) × IsOccupied series at u)) → is_busy last u ≡ true)
@@ -63,13 +63,13 @@ marks_all series at w old last os n le list f = λ u.
       ],
       λ h. whole ∙ elim h [
         | inl a ↦ or_left (is_busy old u) (list_any (λ o. lies_in u w && occupies at u o) os) a
-        | inr b ↦ let k = list.all b.1.0 (b.1.1.0, occupier_meets at w u b.1.0 b.0 b.1.1.1) in
+        | inr b ↦ let k = list.all b.1.0 (b.1.1.0, occupier_overlaps at w u b.1.0 b.0 b.1.1.1) in
             or_right (is_busy old u) (list_any (λ o. lies_in u w && occupies at u o) os) (any_passes_from_place (λ o. lies_in u w && occupies at u o) os k.0 b.1.0 k.1 (and_from (lies_in u w) (occupies at u b.1.0) b.0 b.1.1.1))
       ],
     )
 
 -- each listed occurrence meets the limits, so it starts in the years 1 to 9998
-pub listed_at : (series : Series) (at : ℤ → Option ℤ) (w : Window) (os : List Occurrence) (k : ℕ) (x : Occurrence) → slice_get os k ≡ Some x → AreInstants at → IsListOf (IsMeeting series at w) os
+pub listed_at : (series : Series) (at : ℤ → Option ℤ) (w : Window) (os : List Occurrence) (k : ℕ) (x : Occurrence) → slice_get os k ≡ Some x → AreInstants at → IsListOf (IsOverlapping series at w) os
     → (IsOccurrence series x) × (IsWithin 400000000000 x.start)
 listed_at series at w os k x here i list =
     let m = list.only k x here in

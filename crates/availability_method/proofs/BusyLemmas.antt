@@ -14,7 +14,7 @@ use Rattle.spec_windows.specs.declared.period.Period.{Period}
 use Rattle.spec_windows.specs.BusyPeriods.{are_runs, is_busy, lies_in, occupies, IsOccupied}
 use Rattle.spec_windows.specs.Clocks.{instant_in}
 use Rattle.spec_windows.specs.Windows.{span_at}
-use Rattle.occurrence_windows.proofs.Meeting.{has_span, some_holds}
+use Rattle.occurrence_windows.proofs.Overlapping.{has_span, some_holds}
 use Rattle.occurrence_windows.proofs.Passing.{passing_is, rid_near}
 use Rattle.rule_expand.proofs.Places.{and_both}
 use Rattle.rule_expand.proofs.Sets.{both_and, or_cases, or_left, or_right, same_truth}

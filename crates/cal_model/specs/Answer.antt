@@ -1,4 +1,5 @@
--- What a call is answered at a history, and what it adds.
+-- What a call is answered at a history, and what it adds: the standard methods (RFC 8620 section 5), and free and busy times (draft JMAP for
+-- Calendars).
 use Rattle.std.specs.Prelude.{ℕ, ℤ, suc, List, [], ◌∷◌, Bool, Option, Some, None, length, map, unwrap_or}
 use Rattle.cal_model.specs.Changes.{changes_response, changes_refusal}
 use Rattle.cal_model.specs.Gets.{get_response, get_error, ids_not_found, objects_asked, selected}
@@ -28,9 +29,11 @@ use Rattle.spec_json.specs.declared.tree.Tree.TheVariants.{Null}
 use Rattle.spec_queries.specs.Queries.{query_changes_refusal, query_changes_response, query_refusal, query_response}
 use Rattle.time_text.specs.State.{state_in}
 
+-- the arguments of a response, and the ids that the call created (RFC 8620 sections 3.3 and 3.4)
 abbrev pub answered : List Entry → Tree → List (List ℕ × List ℕ) → Reply
 answered h arguments created = record { arguments = arguments; error = None; created = created; place = length h }
 
+-- a method-level error (RFC 8620 section 3.6.2)
 abbrev pub refused : List Entry → MethodError → Reply
 refused h error = record { arguments = Null; error = Some error; created = []; place = length h }
 
@@ -43,19 +46,24 @@ abbrev pub unless_refused : Option MethodError → List Change → List Change
 unless_refused None cs = cs
 unless_refused (Some e) cs = []
 
+-- `/get` (RFC 8620 section 5.1)
 abbrev pub get_answer : List ℕ → List Entry → List (List ℕ × List ℕ) → GetArguments → Reply
 get_answer account h created q = unless_error h (get_error (changes_of h) q) (answered h (get_response account q.kind (changes_of h)
     (map (selected q.properties) (objects_asked (changes_of h) q.kind created q.ids)) (ids_not_found (changes_of h) q.kind created q.ids)) [])
 
+-- `/changes` (RFC 8620 section 5.2)
 abbrev pub changes_answer : List ℕ → List Entry → ChangesArguments → Reply
 changes_answer account h q = unless_error h (changes_refusal (changes_of h) q) (answered h (changes_response account (changes_of h) q (unwrap_or (state_in q.since) 0)) [])
 
+-- `/query` (RFC 8620 section 5.5)
 abbrev pub query_answer : Base → List Entry → QueryArguments → Reply
 query_answer base h q = unless_error h (query_refusal base.zones (changes_of h) q) (answered h (query_response base.zones (changes_of h) q base.account_id) [])
 
+-- `/queryChanges` (RFC 8620 section 5.6)
 abbrev pub query_changes_answer : Base → List Entry → QueryChangesArguments → Reply
 query_changes_answer base h q = unless_error h (query_changes_refusal base.zones (changes_of h) q) (answered h (query_changes_response base.zones (changes_of h) q base.account_id) [])
 
+-- `Principal/getAvailability` (draft JMAP for Calendars)
 abbrev pub availability_answer : Base → List Entry → AvailabilityArguments → Reply
 availability_answer base h q = unless_error h (availability_refusal base q) (answered h (availability_response base (changes_of h) q) [])
 
@@ -63,6 +71,7 @@ module _ (base : Base) (h : List Entry) (moment : ℤ) (created : List (List ℕ
   abbrev pub ground : Ground
   ground = record { base = base; moment = moment }
 
+  -- `/set` (RFC 8620 section 5.3)
   abbrev pub set_answer : SetArguments → Reply
   set_answer q = unless_error h (set_refusal q.kind (changes_of h) (objects_of q) q.if_in_state q.remove_events)
       (answered h (set_arguments ground q.kind created (changes_of h) (objects_of q)) (new_ids ground q.kind created (changes_of h) (objects_of q)))

@@ -1,4 +1,4 @@
--- The changes that an account takes behind others: what every accepted operation of a set makes sure of.
+-- The changes that an account takes behind others: what every accepted operation of a set makes sure of (RFC 8620 section 5.3).
 use Rattle.std.specs.Prelude.{◌≡◌, ◌⊎◌, ◌<◌, ℕ, List, false, true, Option, Some, None, is_some, length}
 use Rattle.cal_model.specs.EventObject.{has_event, names_missing_calendar}
 use Rattle.cal_model.specs.Quota.{exceeds_quota, size_of_object}
@@ -19,8 +19,8 @@ use Rattle.spec_series.specs.Lengths.{IsWeekLong}
 use Rattle.spec_series.specs.declared.series.Series.{Series}
 use Rattle.spec_site.specs.TimeZones.{ZoneText}
 
--- The resource calendar of a number takes the booking of an event: the event is valid, no occurrence of it is longer than 7 days, the resource
--- has room, and no second of all days would be covered twice.
+-- The resource calendar of a number takes the booking of an event: the event is valid (RFC 8984 section 4), no occurrence of it is longer than
+-- 7 days, the resource has room, and no second of all days would be covered twice. Resources are this server's own.
 pub record IsBookable (zones : List ZoneText) (cs : List Change) (event calendar : ℕ) (d : Data) : Type 0 where
   pub series : Series
   pub valid : series_in zones d ≡ Some series
@@ -28,12 +28,13 @@ pub record IsBookable (zones : List ZoneText) (cs : List Change) (event calendar
   pub room : length (other_bookings zones cs event calendar) < MAX_BOOKINGS
   pub clear : IsClear (other_bookings zones cs event calendar) series
 
--- the calendars of an event are live, and each of them that is a resource takes its booking
+-- the calendars of an event are live (`calendarIds` of the draft JMAP for Calendars), and each of them that is a resource takes its booking
 pub record IsEventFit (zones : List ZoneText) (cs : List Change) (event : ℕ) (d : Data) : Type 0 where
   pub calendars : names_missing_calendar cs d ≡ false
   pub bookings : (calendar : ℕ) → names_calendar calendar d ≡ true → is_resource cs calendar ≡ true → IsBookable zones cs event calendar d
 
--- A new calendar is of a resource or not, and stays so; none is removed that a live event is in.
+-- A new calendar is of a resource or not, and stays so; none is removed that a live event is in (`calendarHasEvent` of the draft JMAP for
+-- Calendars).
 abbrev pub IsObjectFit : List ZoneText → List Change → Kind → ℕ → Option Tree → Type 0
 IsObjectFit zones cs Calendar n None = has_event cs n ≡ false
 IsObjectFit zones cs Calendar n (Some t) = (n ≡ next_number cs Calendar) ⊎ (is_some (zone_of_resource t) ≡ is_resource cs n)

@@ -1,4 +1,4 @@
--- How much an account may hold.
+-- How much an account may hold: the server's limit, beyond which a SetError is `overQuota` (RFC 8620 section 5.3).
 use Rattle.std.specs.Prelude.{ℕ, ◌+◌, List, ◌||◌, Bool, not, Option, Some, None, length, sum_by, nat_lt}
 use Rattle.spec_json.specs.Json.{text_of}
 use Rattle.spec_json.specs.TreeData.{data_of}

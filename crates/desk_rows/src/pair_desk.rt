@@ -12,7 +12,7 @@ use spec_time::moment::Moment;
 use std::alloc::{AllocError, Global};
 
 /// The most calls that a desk makes.
-const MOST_TURNS: u64 = 1 << 40;
+const MAX_TURNS: u64 = 1 << 40;
 
 /// A desk over two accounts, of which each call is the next turn of both. It makes few calls more.
 #[derive(Drop)]
@@ -54,7 +54,7 @@ impl Desk for PairDesk {
             return Err(DeskError::PassSpent);
         }
         self.calls_left -= 1;
-        let turn = MOST_TURNS - u64::from(self.calls_left);
+        let turn = MAX_TURNS - u64::from(self.calls_left);
         if account == 0 {
             as_of_desk(self.first.act(0, turn, call, moment))
         } else {

@@ -12,7 +12,7 @@ use Rattle.spec_series.specs.Occurrences.{occurrence_with, passes_with}
 use Rattle.spec_series.specs.declared.occurrence.Occurrence.{Occurrence}
 use Rattle.spec_series.specs.declared.series.Series.{Series}
 use Rattle.occurrence_windows.proofs.Listing.{by_bool}
-use Rattle.occurrence_windows.proofs.Meeting.{some_holds}
+use Rattle.occurrence_windows.proofs.Overlapping.{some_holds}
 
 -- each has a recurrence id that is no less than this one, and greater than that of the one before it
 unfoldable pub rises : ℤ → List Occurrence → Type 0

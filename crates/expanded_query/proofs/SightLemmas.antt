@@ -10,7 +10,7 @@ use Rattle.spec_series.specs.declared.series.Series.{Series}
 use Rattle.spec_site.specs.TimeZones.{ZoneText}
 use Rattle.spec_windows.specs.ZoneRules.{rule_of, utc_rule}
 use Rattle.query_filter.specs.InZone.{FilterInZone}
-use Rattle.query_filter.specs.Refusals.{IsForNoneOf}
+use Rattle.query_filter.specs.Skips.{IsForNoneOf}
 use Rattle.query_methods.proofs.SightLemmas.{not_matched}
 
 none_by : {A B : Type 0} (b : Bool) (g : A → B) (rs : List A) (xs : List B) → false ≡ b → xs ≡ xs ++ map g (if b then rs else [])

@@ -16,7 +16,7 @@ use Rattle.expanded_query.proofs.Searched.{is_one, listed, rises}
 use Rattle.jiff_core.proofs.SignedLemmas.{signed_arith}
 use Rattle.jiff_core.specs.Calendar.{IsWithin}
 use Rattle.jiff_tz.specs.PosixText.{TzText}
-use Rattle.spec_queries.specs.Expanded.{occurrences_meeting, passing_seconds}
+use Rattle.spec_queries.specs.Expanded.{occurrences_overlapping, passing_seconds}
 use Rattle.spec_events.specs.Values.{is_showing}
 use Rattle.spec_series.proofs.Occurrences.{kinds}
 use Rattle.spec_series.specs.Numbers.{seconds_around}
@@ -27,10 +27,10 @@ use Rattle.spec_series.specs.declared.occurrence.Occurrence.{Occurrence}
 use Rattle.spec_series.specs.declared.series.Series.{Series}
 use Rattle.spec_time.specs.Walls.{is_in_years}
 use Rattle.spec_windows.specs.Clocks.{instant_in}
-use Rattle.spec_windows.specs.Windows.{IsMeeting, meets_window}
+use Rattle.spec_windows.specs.Windows.{IsOverlapping, overlaps_window}
 use Rattle.spec_windows.specs.declared.window.Window.{Window}
 use Rattle.occurrence_windows.proofs.Listing.{by_bool}
-use Rattle.occurrence_windows.proofs.Meeting.{has_met}
+use Rattle.occurrence_windows.proofs.Overlapping.{has_overlap}
 use Rattle.occurrence_windows.proofs.Passing.{rid_near}
 use Rattle.occurrence_windows.proofs.Series.{rid_of, showing_is}
 use Rattle.occurrence_windows.specs.Listing.{IsListOf}
@@ -154,16 +154,16 @@ shows_at tz v t e = by_bool (is_showing v) (λ h. h) (λ h. let none = instant-n
 
 module _ (s : Series) (rule : TzText) (w : Window) where
   abbrev Meets : Occurrence → Type 0
-  Meets o = IsMeeting s (instant_in rule) w o
+  Meets o = IsOverlapping s (instant_in rule) w o
 
   near : (o : Occurrence) → Meets o → IsWithin 400000000000 o.rid
-  near o m = let met = has_met (instant_in rule) w o m.1 in rid_near s rule o met.period.from m.0 met.span.first
+  near o m = let met = has_overlap (instant_in rule) w o m.1 in rid_near s rule o met.period.from m.0 met.span.first
 
   -- their recurrence ids lie in the years 0 to 9999
   in_years : (o : Occurrence) → Meets o → is_in_years o.rid ≡ true
   in_years o m = elim (kinds s o m.0) [
     | inl own ↦
-        let met = has_met (instant_in rule) w o m.1 in
+        let met = has_overlap (instant_in rule) w o m.1 in
         let shown = showing_is o.start (shows_at rule o.start met.period.from met.span.first) in
         let same = own.start in
         rw (is_int_le (negsuc 62167219199) o.rid (omega (arith, signed_arith, shown.0, same)), is_int_le o.rid (pos 253402300799) (omega (arith, signed_arith, shown.1, same))) refl
@@ -172,7 +172,7 @@ module _ (s : Series) (rule : TzText) (w : Window) where
         ap is_in_years (sym (rid_of put.1.0 o put.1.1.1)) ∙ years.0
   ]
 
-  -- two that meet the window differ in their recurrence ids
+  -- two that overlap the window differ in their recurrence ids
   no_two : (os : List Occurrence) → IsListOf Meets os → (j k : ℕ) (a b : Occurrence) → j < k → slice_get os j ≡ Some a → slice_get os k ≡ Some b → a.rid ≡ b.rid → ⊥
   no_two os list j k a b lt h g e =
       let one = (list.only j a h).0 in
@@ -180,14 +180,14 @@ module _ (s : Series) (rule : TzText) (w : Window) where
       let same : a ≡ b = some_same a b (sym one ∙ ap (occurrence_with s) e ∙ other) in
       sooner_self b (subst (λ x. is_sooner x b ≡ true) same (list.ordered j k a b lt h g))
 
-  pub sorted_are : (xs ys : List Occurrence) → IsListOf Meets xs → IsPermutation xs ys → InOrder ys → ys ≡ occurrences_meeting s (instant_in rule) w
-  unfolding occurrences_meeting passing_seconds seconds_around
+  pub sorted_are : (xs ys : List Occurrence) → IsListOf Meets xs → IsPermutation xs ys → InOrder ys → ys ≡ occurrences_overlapping s (instant_in rule) w
+  unfolding occurrences_overlapping passing_seconds seconds_around
   sorted_are xs ys list moved order =
       let everyone : AllByRecursion Meets ys = recursion_from_All Meets ys (All-permutation Meets xs ys moved (λ k d l. list.only k (slice_index_or xs k d) (got xs k d l))) in
       let once : (r : ℤ) → count_at r ys ≤ 1 = λ r. rw (sum_by-IsPermutation (one_at r) xs ys moved) (at_most_one r xs (no_two xs list)) in
       let low : ℤ = pos 0 -ℤ pos (2 ^ 57) in
       let least : AllByRecursion (λ o. low ≤ℤ o.rid) ys = each (λ o m. let n = near o m in omega (arith, signed_arith, n)) ys everyone in
-      listed s (meets_window (instant_in rule) w) (2 ^ 58) low (low +ℤ pos (2 ^ 58)) ys refl (all_risen low ys least order once) everyone
+      listed s (overlaps_window (instant_in rule) w) (2 ^ 58) low (low +ℤ pos (2 ^ 58)) ys refl (all_risen low ys least order once) everyone
       (λ q m. let n = near q (member Meets ys q everyone m) in omega (arith, signed_arith, n))
       (λ q f from to.
       let at = list.all q f in

@@ -1,7 +1,7 @@
-//! The occurrences of a series that meet a window.
+//! The occurrences of a series that overlap a window.
 ghost use Rattle.std.specs.Prelude.{◌≡◌, All, IfOk, true};
 ghost use Rattle.jiff_tz.specs.PosixText.{tz_view};
-ghost use Rattle.spec_queries.specs.Expanded.{occurrences_meeting};
+ghost use Rattle.spec_queries.specs.Expanded.{occurrences_overlapping};
 ghost use Rattle.spec_time.specs.Walls.{is_in_years};
 ghost use Rattle.spec_windows.specs.Clocks.{instant_in};
 ghost use Rattle.occurrence_windows.specs.Bounds.{AreNear};
@@ -13,15 +13,15 @@ use spec_series::series::Series;
 use spec_windows::window::Window;
 use std::alloc::{AllocError, Global};
 
-/// The occurrences of a series that meet a window, by their recurrence ids.
-pub(crate) fn occurrences_meeting(
+/// The occurrences of a series that overlap a window, by their recurrence ids.
+pub(crate) fn occurrences_overlapping(
     alloc: Global,
     series: &Series,
     rule: &TimeZone,
     window: Window,
 ) -> Result<Vec<Occurrence>, AllocError>
     requires { AreNear window }
-    ensures value { IfOk result (λ os. os.items ≡ occurrences_meeting series.now (instant_in (tz_view rule.now)) window) }
+    ensures value { IfOk result (λ os. os.items ≡ occurrences_overlapping series.now (instant_in (tz_view rule.now)) window) }
     ensures years { IfOk result (λ os. All (λ o. is_in_years o.rid ≡ true) os.items) }
 {
     let mut list = expanded(alloc, series, rule, window)?;

@@ -13,7 +13,7 @@ ghost use Rattle.spec_windows.specs.ZoneRules.{rule_of, utc_rule};
 use crate::id::result_id;
 use crate::item::item_of_occurrence;
 use crate::matches::Matches;
-use crate::occurrences::occurrences_meeting;
+use crate::occurrences::occurrences_overlapping;
 use event_store::StoredEvent;
 use jiff_tz::posix::TimeZone;
 use query_filter::{Filter, ZonedFilter};
@@ -25,7 +25,7 @@ use std::alloc::{AllocError, Global};
 use zone_instants::rule_of_event;
 use zone_table::Zones;
 
-/// The occurrences that meet the window of a filter, of the events that it holds of. Its times and floating events are of one zone.
+/// The occurrences that overlap the window of a filter, of the events that it holds of. Its times and floating events are of one zone.
 #[derive(Drop)]
 pub(crate) struct OccurrenceSight<'a> {
     filter: ZonedFilter,
@@ -56,7 +56,7 @@ impl<'a> OccurrenceSight<'a> {
         })
     }
 
-    /// Adds what the event of a number gives: its occurrences that meet the window, where the filter holds of it.
+    /// Adds what the event of a number gives: its occurrences that overlap the window, where the filter holds of it.
     pub(crate) fn add(
         &self,
         alloc: Global,
@@ -75,14 +75,14 @@ impl<'a> OccurrenceSight<'a> {
         }
         let rule = rule_of_event(self.zones, self.floating, object);
         if self.filter.matches(alloc, object, series, rule.as_ref())? {
-            self.add_meeting(alloc, number, object, series, rule.as_ref(), matches)
+            self.add_overlapping(alloc, number, object, series, rule.as_ref(), matches)
         } else {
             Ok(())
         }
     }
 
-    // Adds the occurrences that meet the window, by the series of the event and the rule of its zone.
-    fn add_meeting(
+    // Adds the occurrences that overlap the window, by the series of the event and the rule of its zone.
+    fn add_overlapping(
         &self,
         alloc: Global,
         number: u64,
@@ -97,7 +97,7 @@ impl<'a> OccurrenceSight<'a> {
         let (Some(series), Some(rule)) = (series, rule) else {
             return Ok(());
         };
-        let occurrences = occurrences_meeting(alloc, series, rule, self.filter.window())?;
+        let occurrences = occurrences_overlapping(alloc, series, rule, self.filter.window())?;
         add_occurrences(alloc, number, event, rule, &occurrences, matches)
     }
 }

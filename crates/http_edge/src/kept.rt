@@ -9,11 +9,11 @@ use std::alloc::Global;
 use std::marker::Model;
 
 /// The most bytes that are held at once, with those that were used: a head, a body, and a piece.
-pub const MOST_HELD: usize = MAX_HEAD + MAX_SIZE_REQUEST + PIECE;
+pub const MAX_HELD: usize = MAX_HEAD + MAX_SIZE_REQUEST + PIECE;
 
 /// Bytes that were read from a source and not used. Contracts see their list.
 ///
-/// With those that were used it holds at most `MOST_HELD` bytes, however many a connection has.
+/// With those that were used it holds at most `MAX_HELD` bytes, however many a connection has.
 #[derive(Drop)]
 pub struct Kept {
     bytes: Vec<u8>,
@@ -23,13 +23,13 @@ pub struct Kept {
 
 impl Model for Kept {
     ghost use Rattle.std.specs.Prelude.{List, ℕ, ◌≤◌, length, drop};
-    ghost use Rattle.http_edge.specs.declared.kept.TheConstants.{MOST_HELD};
+    ghost use Rattle.http_edge.specs.declared.kept.TheConstants.{MAX_HELD};
 
     ghost Value = { List ℕ };
 
     ghost view = { λ k. drop k.used k.bytes.items };
 
-    ghost invariant = { λ k. (k.used ≤ length k.bytes.items) × (length k.bytes.items ≤ MOST_HELD) };
+    ghost invariant = { λ k. (k.used ≤ length k.bytes.items) × (length k.bytes.items ≤ MAX_HELD) };
 }
 
 /// Why no more bytes came.

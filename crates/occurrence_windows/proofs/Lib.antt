@@ -1,5 +1,5 @@
 pub mod Walking
-pub mod Meeting
+pub mod Overlapping
 pub mod Listing
 pub mod Series
 pub mod Passing

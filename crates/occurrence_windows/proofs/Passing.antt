@@ -11,10 +11,10 @@ use Rattle.spec_series.specs.declared.occurrence.Occurrence.{Occurrence}
 use Rattle.spec_series.specs.declared.series.Series.{Series}
 use Rattle.spec_series.specs.Occurrences.{IsOccurrence, occurrence_with, passes_with}
 use Rattle.spec_windows.specs.Clocks.{instant_in}
-use Rattle.spec_windows.specs.Meetings.{has_meeting, has_passing}
-use Rattle.spec_windows.specs.Windows.{HasMeeting, meets_window}
+use Rattle.spec_windows.specs.Overlaps.{has_overlapping, has_passing}
+use Rattle.spec_windows.specs.Windows.{HasOverlapping, overlaps_window}
 use Rattle.spec_windows.specs.declared.window.Window.{Window}
-use Rattle.occurrence_windows.proofs.Meeting.{IsShowing, has_met, showing_near, some_holds}
+use Rattle.occurrence_windows.proofs.Overlapping.{IsShowing, has_overlap, showing_near, some_holds}
 use Rattle.occurrence_windows.proofs.Series.{rids_near, showing_is}
 use Rattle.rule_expand.proofs.Sets.{same_truth}
 use Rattle.zone_instants.proofs.Readings.{instant-none}
@@ -47,9 +47,9 @@ shows_at tz w t e = by_bool (is_showing w) (λ h. showing_is w h) (λ h. let no 
 pub rid_near : (s : Series) (tz : TzText) (o : Occurrence) (t : ℤ) → IsOccurrence s o → instant_in tz o.start ≡ Some t → IsWithin 400000000000 o.rid
 rid_near s tz o t m e = rids_near s o m (showing_near o.start (shows_at tz o.start t e))
 
-pub meeting_is : (s : Series) (tz : TzText) (w : Window) → (has_meeting s (instant_in tz) w ≡ true) ↔ HasMeeting s (instant_in tz) w
-meeting_is s tz w = passing_is (meets_window (instant_in tz) w) s (λ o m h. let met = has_met (instant_in tz) w o h in rid_near s tz o met.period.from m met.span.first)
+pub overlapping_is : (s : Series) (tz : TzText) (w : Window) → (has_overlapping s (instant_in tz) w ≡ true) ↔ HasOverlapping s (instant_in tz) w
+overlapping_is s tz w = passing_is (overlaps_window (instant_in tz) w) s (λ o m h. let overlap = has_overlap (instant_in tz) w o h in rid_near s tz o overlap.period.from m overlap.span.first)
 
 -- a test that holds just where there is one
-pub meeting_value : (s : Series) (tz : TzText) (w : Window) (b : Bool) → (IsTrue b ↔ HasMeeting s (instant_in tz) w) → b ≡ has_meeting s (instant_in tz) w
-meeting_value s tz w b h = let law = meeting_is s tz w in same_truth b (has_meeting s (instant_in tz) w) (λ e. law.1 (h.0 e)) (λ e. h.1 (law.0 e))
+pub overlapping_value : (s : Series) (tz : TzText) (w : Window) (b : Bool) → (IsTrue b ↔ HasOverlapping s (instant_in tz) w) → b ≡ has_overlapping s (instant_in tz) w
+overlapping_value s tz w b h = let law = overlapping_is s tz w in same_truth b (has_overlapping s (instant_in tz) w) (λ e. law.1 (h.0 e)) (λ e. h.1 (law.0 e))

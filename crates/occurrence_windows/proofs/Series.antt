@@ -18,7 +18,7 @@ use Rattle.spec_series.specs.SeriesLimits.{are_distinct, are_short, is_named, is
 use Rattle.spec_time.specs.declared.length.Length.{Length}
 use Rattle.spec_windows.specs.Clocks.{instant_in}
 use Rattle.occurrence_windows.specs.Bounds.{lasts_up_to}
-use Rattle.occurrence_windows.proofs.Meeting.{AreInstants, AreSingle, IsShowing}
+use Rattle.occurrence_windows.proofs.Overlapping.{AreInstants, AreSingle, IsShowing}
 use Rattle.rule_expand.proofs.Least.{by_lt}
 use Rattle.rule_expand.proofs.Places.{and_both}
 use Rattle.rule_expand.proofs.Regular.{named_near}

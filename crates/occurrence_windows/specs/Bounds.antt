@@ -1,4 +1,4 @@
--- Between which wall seconds occurrences start that meet a window.
+-- Between which wall seconds occurrences start that overlap a window.
 use Rattle.std.specs.Prelude.{ℕ, ℤ, pos, ◌+ℤ◌, ◌-ℤ◌, Bool, true, nat_le, Option, Some, None, IfSome}
 use Rattle.jiff_core.specs.Calendar.{IsWithin}
 use Rattle.spec_events.specs.declared.limits.TheConstants.{FIRST_START, LAST_START}

@@ -1,4 +1,4 @@
-//! The occurrences of a series that meet a window of instants.
+//! The occurrences of a series that overlap a window of instants.
 #![tactic(auto)]
 
 mod laws;
@@ -6,6 +6,6 @@ mod lengths;
 mod span;
 mod walk;
 
-pub use laws::meetings_are_found;
+pub use laws::overlaps_are_found;
 pub use span::span_of;
-pub use walk::{FARTHEST, expanded, matches_window, next_meeting};
+pub use walk::{FARTHEST, expanded, matches_window, next_overlapping};

@@ -1,11 +1,11 @@
-//! The walk from one occurrence that meets a window to the next.
+//! The walk from one occurrence that overlaps a window to the next.
 ghost use Rattle.std.specs.Prelude.{◌≡◌, ◌↔◌, ◌≤◌, int_lt, IfSome, IfOk, IsTrue};
 ghost use Rattle.jiff_core.specs.Calendar.{IsWithin};
 ghost use Rattle.jiff_tz.specs.PosixText.{tz_view};
 ghost use Rattle.spec_series.specs.SeriesLimits.{wall_seconds};
 ghost use Rattle.spec_windows.specs.Clocks.{instant_in};
-ghost use Rattle.spec_windows.specs.Meetings.{has_meeting};
-ghost use Rattle.spec_windows.specs.Windows.{HasMeeting, IsMeeting, meets_window};
+ghost use Rattle.spec_windows.specs.Overlaps.{has_overlapping};
+ghost use Rattle.spec_windows.specs.Windows.{HasOverlapping, IsOverlapping, overlaps_window};
 ghost use Rattle.occurrence_windows.specs.Bounds.{first_wall, last_wall, AreNear};
 ghost use Rattle.occurrence_windows.specs.Listing.{IsAfter, IsListOf};
 ghost use Rattle.rule_expand.specs.Later.{IsFirstOf};
@@ -24,20 +24,20 @@ use std::alloc::{AllocError, Global};
 /// The most seconds between a wall second and its instant, by any rule that `jiff` reads.
 pub const FARTHEST: i64 = 93_599;
 
-// Whether an occurrence meets the window.
-#[tactic(auto, unfolding(spec_windows::specs::Windows::meets_window))]
-fn meets_window(rule: &TimeZone, o: &Occurrence, window: Window) -> bool
+// Whether an occurrence overlaps the window.
+#[tactic(auto, unfolding(spec_windows::specs::Windows::overlaps_window))]
+fn overlaps_window(rule: &TimeZone, o: &Occurrence, window: Window) -> bool
     requires start { IsWithin 400000000000 o.now.start }
     requires length { wall_seconds o.now.length ≤ 31622400 }
-    ensures { result ≡ meets_window (instant_in (tz_view rule.now)) window o.now }
+    ensures { result ≡ overlaps_window (instant_in (tz_view rule.now)) window o.now }
 {
     match span_of(rule, o) {
         None => false,
-        Some(period) => window.is_met_by(period),
+        Some(period) => window.overlaps(period),
     }
 }
 
-// No occurrence that meets the window starts before this wall second.
+// No occurrence that overlaps the window starts before this wall second.
 fn first_wall(window: Window, longest: u64) -> Wall
     requires near { AreNear window }
     requires longest { longest ≤ 31622400 }
@@ -69,9 +69,9 @@ fn starts_after(o: &Occurrence, wall: &Wall) -> bool
     wall.seconds() < o.start.seconds()
 }
 
-/// The first occurrence, by start and then recurrence id, that meets the window and starts after `from`, or at it with a
+/// The first occurrence, by start and then recurrence id, that overlaps the window and starts after `from`, or at it with a
 /// recurrence id after `past`, if that is given. `None` where there is none on all days. Takes no memory.
-pub fn next_meeting(
+pub fn next_overlapping(
     series: &Series,
     rule: &TimeZone,
     window: Window,
@@ -81,7 +81,7 @@ pub fn next_meeting(
     requires near { AreNear window }
     requires from { IsWithin 400000000000 from }
     requires past { IfSome past (IsWithin 400000000000) }
-    ensures { IsFirstOf (IsAfter (IsMeeting series.now (instant_in (tz_view rule.now)) window) from past) result }
+    ensures { IsFirstOf (IsAfter (IsOverlapping series.now (instant_in (tz_view rule.now)) window) from past) result }
 {
     let last = last_wall(window);
     let mut here = from;
@@ -93,7 +93,7 @@ pub fn next_meeting(
         if starts_after(&o, &last) {
             return None;
         }
-        if meets_window(rule, &o, window) {
+        if overlaps_window(rule, &o, window) {
             return Some(o);
         }
         here = o.start;
@@ -104,10 +104,10 @@ pub fn next_meeting(
 /// Whether some one occurrence ends after the one limit and starts before the other. Takes no memory.
 pub fn matches_window(series: &Series, rule: &TimeZone, window: Window) -> bool
     requires { AreNear window }
-    ensures one { IsTrue result ↔ HasMeeting series.now (instant_in (tz_view rule.now)) window }
-    ensures value { result ≡ has_meeting series.now (instant_in (tz_view rule.now)) window }
+    ensures one { IsTrue result ↔ HasOverlapping series.now (instant_in (tz_view rule.now)) window }
+    ensures value { result ≡ has_overlapping series.now (instant_in (tz_view rule.now)) window }
 {
-    next_meeting(
+    next_overlapping(
         series,
         rule,
         window,
@@ -123,7 +123,7 @@ fn copied(o: &Occurrence) -> Occurrence
     *o
 }
 
-/// All occurrences that meet the window, by start and then recurrence id.
+/// All occurrences that overlap the window, by start and then recurrence id.
 pub fn expanded(
     alloc: Global,
     series: &Series,
@@ -131,13 +131,13 @@ pub fn expanded(
     window: Window,
 ) -> Result<Vec<Occurrence>, AllocError>
     requires { AreNear window }
-    ensures { IfOk result (λ os. IsListOf (IsMeeting series.now (instant_in (tz_view rule.now)) window) os.items) }
+    ensures { IfOk result (λ os. IsListOf (IsOverlapping series.now (instant_in (tz_view rule.now)) window) os.items) }
 {
     let mut list = Vec::new(alloc);
     let mut here = first_wall(window, longest(series));
     let mut seen = None;
     loop {
-        let Some(o) = next_meeting(series, rule, window, here, seen) else {
+        let Some(o) = next_overlapping(series, rule, window, here, seen) else {
             return Ok(list);
         };
         list.push(copied(&o))?;

@@ -5,7 +5,7 @@ use Rattle.std.specs.Option.{option_map_or}
 use Rattle.std.specs.Str.{bytes_eq}
 use Rattle.jiff_tz.specs.PosixText.{TzText}
 use Rattle.spec_filters.specs.Filters.{asks_time, holding, holds, operator_holds, said_at}
-use Rattle.spec_filters.specs.Matches.{asks, has_uid, instants_asked, is_in_calendar, meets_by, meets_condition, times_meet}
+use Rattle.spec_filters.specs.Matches.{asks, has_uid, instants_asked, is_in_calendar, meets_condition, overlaps_by, times_meet}
 use Rattle.spec_filters.specs.Members.{given_at, has_other_than, text_given}
 use Rattle.spec_json.specs.Data.{Data, null, truth, whole, text, list, object, Pair, pairs_of}
 use Rattle.spec_json.specs.Parts.{as_text, is_null, members_in}
@@ -58,10 +58,10 @@ module _ (clock : TzText) (series : Option Series) (rule : Option TzText) (event
   pub unmet_times : (ps : List Pair) → times_meet clock series rule ps ≡ false → meets_condition clock series rule event ps ≡ false
   unmet_times ps h = meets_apart ps ∙ rw h refl
 
-  object_holds : (ps : List Pair) (t : Times) → (asks_time ps ≡ true) × (condition_times clock ps ≡ t) → meets_condition clock series rule event ps ≡ (meets_by series rule t.window && others_meet event ps)
-  object_holds ps t k = meets_apart ps ∙ rw k.0 (ap (λ x. meets_by series rule x.window && others_meet event ps) k.1)
+  object_holds : (ps : List Pair) (t : Times) → (asks_time ps ≡ true) × (condition_times clock ps ≡ t) → meets_condition clock series rule event ps ≡ (overlaps_by series rule t.window && others_meet event ps)
+  object_holds ps t k = meets_apart ps ∙ rw k.0 (ap (λ x. overlaps_by series rule x.window && others_meet event ps) k.1)
 
-  pub kept_holds : (filter : Data) (t : Times) → times_of clock filter ≡ Some t → holds (meets_condition clock series rule event) filter ≡ (meets_by series rule t.window && others_meet event (members_in filter))
+  pub kept_holds : (filter : Data) (t : Times) → times_of clock filter ≡ Some t → holds (meets_condition clock series rule event) filter ≡ (overlaps_by series rule t.window && others_meet event (members_in filter))
   kept_holds null t h = cc
   kept_holds (truth b) t h = cc
   kept_holds (whole n) t h = cc
@@ -117,11 +117,11 @@ alone_meet clock event filter t h all =
 
 -- What comes of a filter by whether its times hold.
 module _ (clock : TzText) (series : Option Series) (rule : Option TzText) (event filter : Data) (t : Times) (h : times_of clock filter ≡ Some t) where
-  pub times_missed : meets_by series rule t.window ≡ false → holds (meets_condition clock series rule event) filter ≡ false
+  pub times_missed : overlaps_by series rule t.window ≡ false → holds (meets_condition clock series rule event) filter ≡ false
   times_missed missed = kept_holds clock series rule event filter t h ∙ rw missed refl
 
-  pub times_alone : meets_by series rule t.window ≡ true → t.are_all ≡ true → holds (meets_condition clock series rule event) filter ≡ true
+  pub times_alone : overlaps_by series rule t.window ≡ true → t.are_all ≡ true → holds (meets_condition clock series rule event) filter ≡ true
   times_alone met all = kept_holds clock series rule event filter t h ∙ rw (met, alone_meet clock event filter t h all) refl
 
-  pub times_met : meets_by series rule t.window ≡ true → holds (meets_condition clock series rule event) filter ≡ others_meet event (members_in filter)
+  pub times_met : overlaps_by series rule t.window ≡ true → holds (meets_condition clock series rule event) filter ≡ others_meet event (members_in filter)
   times_met met = kept_holds clock series rule event filter t h ∙ rw met refl

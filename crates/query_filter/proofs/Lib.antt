@@ -2,6 +2,6 @@ pub mod AsciiLemmas
 pub mod ConditionLemmas
 pub mod ClockLemmas
 pub mod KeptLemmas
-pub mod RefusalLemmas
+pub mod SkipLemmas
 pub mod TextLemmas
 pub mod TimeLemmas

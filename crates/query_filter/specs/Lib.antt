@@ -6,4 +6,4 @@ pub mod KeptTimes
 pub mod EventTests
 pub mod InZone
 pub mod AnyTime
-pub mod Refusals
+pub mod Skips

@@ -1,8 +1,8 @@
-//! Series whose occurrence can't meet a window, whatever the rule of the zone.
+//! Series whose occurrence can't overlap a window, whatever the rule of the zone.
 ghost use Rattle.std.specs.Prelude.{◌≡◌, ◌≤◌, option_map, true};
 ghost use Rattle.spec_series.specs.SeriesLimits.{wall_seconds};
 ghost use Rattle.spec_time.specs.Walls.{is_in_years};
-ghost use Rattle.query_filter.specs.Refusals.{is_alone, may_meet, widest};
+ghost use Rattle.query_filter.specs.Skips.{is_alone, may_overlap, widest};
 
 use occurrence_windows::FARTHEST;
 use spec_series::series::Series;
@@ -11,13 +11,13 @@ use spec_time::wall::Wall;
 use spec_windows::period::Period;
 use spec_windows::window::Window;
 
-/// Whether an event with this series may meet the window, as far as that can be told without the rule of its zone. Takes no memory.
-pub(crate) fn may_meet(series: Option<&Series>, window: Window) -> bool
-    ensures { result ≡ may_meet (option_map (λ s. s.now) series.entry) window }
+/// Whether an event with this series may overlap the window, as far as that can be told without the rule of its zone. Takes no memory.
+pub(crate) fn may_overlap(series: Option<&Series>, window: Window) -> bool
+    ensures { result ≡ may_overlap (option_map (λ s. s.now) series.entry) window }
 {
     match series {
         Some(series) => {
-            !is_alone(series) || window.is_met_by(widest(series.start, series.length))
+            !is_alone(series) || window.overlaps(widest(series.start, series.length))
         }
         None => false,
     }

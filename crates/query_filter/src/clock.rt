@@ -14,7 +14,7 @@ use time_text::read_local;
 use zone_instants::instant;
 
 /// The most times that are kept. Others are read for each event.
-const MOST_KEPT: usize = 16;
+const MAX_KEPT: usize = 16;
 
 /// The text of a LocalDateTime with its instant.
 #[derive(Drop)]
@@ -57,7 +57,7 @@ impl Clock {
     pub(crate) fn keep(&mut self, text: &Text) -> Result<(), AllocError>
         ensures { self.new ≡ self.old }
     {
-        if self.times.len() < MOST_KEPT {
+        if self.times.len() < MAX_KEPT {
             if let Some(instant) = instant_named(&self.rule, text) {
                 let text = text.copy()?;
                 self.times.push(TimeRead { text, instant })?;

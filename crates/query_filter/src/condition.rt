@@ -2,7 +2,7 @@
 ghost use Rattle.std.specs.Prelude.{◌≡◌, IfOk, IfSome, codes, option_and_then, option_map};
 ghost use Rattle.jiff_core.specs.Calendar.{IsWithin};
 ghost use Rattle.jiff_tz.specs.PosixText.{tz_view};
-ghost use Rattle.spec_filters.specs.Matches.{asks, contains_at, has_uid, instants_asked, is_in_calendar, meets_by, says, times_meet, wall_given};
+ghost use Rattle.spec_filters.specs.Matches.{asks, contains_at, has_uid, instants_asked, is_in_calendar, overlaps_by, says, times_meet, wall_given};
 ghost use Rattle.spec_json.specs.TreeData.{data_of};
 ghost use Rattle.spec_windows.specs.Clocks.{instant_in};
 ghost use Rattle.occurrence_windows.specs.Bounds.{AreNear};
@@ -123,16 +123,16 @@ impl<'a> EventTest<'a> {
         ensures { result ≡ times_meet self.now.clock.now (option_map (λ s. s.now) self.now.series) (option_map (λ r. tz_view r.now) self.now.rule) condition.now }
     {
         if asks_time(condition) {
-            self.meets_window(instants_asked(self.clock, condition))
+            self.overlaps_window(instants_asked(self.clock, condition))
         } else {
             true
         }
     }
 
     /// Whether one occurrence of the event ends after the one limit and starts before the other. Takes no memory.
-    pub(crate) fn meets_window(&self, window: Window) -> bool
+    pub(crate) fn overlaps_window(&self, window: Window) -> bool
         requires { AreNear window }
-        ensures { result ≡ meets_by (option_map (λ s. s.now) self.now.series) (option_map (λ r. tz_view r.now) self.now.rule) window }
+        ensures { result ≡ overlaps_by (option_map (λ s. s.now) self.now.series) (option_map (λ r. tz_view r.now) self.now.rule) window }
     {
         match (self.series, self.rule) {
             (Some(series), Some(rule)) => matches_window(series, rule, window),

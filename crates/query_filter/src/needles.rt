@@ -8,7 +8,7 @@ use spec_json::text::Text;
 use std::alloc::{AllocError, Global};
 
 /// The most texts that are kept. Others are folded for each event.
-const MOST_KEPT: usize = 16;
+const MAX_KEPT: usize = 16;
 
 /// The longest text, in bytes, that is searched for without folding, which may take as many steps as the product of both lengths.
 const LONGEST_UNFOLDED: usize = 64;
@@ -37,7 +37,7 @@ impl Needles {
 
     /// Folds a text, where there is room for it.
     pub(crate) fn keep(&mut self, alloc: Global, text: &Text) -> Result<(), AllocError> {
-        if self.items.len() < MOST_KEPT {
+        if self.items.len() < MAX_KEPT {
             let in_fold = FoldedText::new(alloc, text.as_str())?;
             self.items.push(Needle {
                 text: text.copy()?,

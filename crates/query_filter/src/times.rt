@@ -65,7 +65,7 @@ impl<'a> EventTest<'a> {
         requires near { AreNear times.window }
         ensures { IfOk result (λ b. b ≡ holds (event_meets self.now) (data_of filter.now)) }
     {
-        if !self.meets_window(times.window) {
+        if !self.overlaps_window(times.window) {
             return Ok(false);
         }
         if times.are_all {

@@ -8,9 +8,9 @@ ghost use Rattle.spec_json.specs.Parts.{as_text, members_in};
 ghost use Rattle.spec_json.specs.TreeData.{data_of};
 ghost use Rattle.occurrence_windows.specs.Bounds.{AreNear};
 ghost use Rattle.query_filter.specs.EventTests.{event_meets};
-ghost use Rattle.query_filter.specs.Refusals.{IsForNoneOf, may_match};
+ghost use Rattle.query_filter.specs.Skips.{IsForNoneOf, may_match};
 
-use crate::alone::may_meet;
+use crate::alone::may_overlap;
 use crate::clock::Clock;
 use crate::condition::{EventTest, instants_asked};
 use crate::conditions::conditions_of;
@@ -99,13 +99,13 @@ impl ZonedFilter {
 
     /// Whether the filter may hold of an event with this series, as far as that can be told without the rule of its zone. Takes no
     /// memory.
-    #[tactic(auto, using(crate::proofs::RefusalLemmas::refused))]
+    #[tactic(auto, using(crate::proofs::SkipLemmas::skipped))]
     pub fn may_match(&self, series: Option<&Series>) -> bool
         ensures value { result ≡ may_match self.now (option_map (λ s. s.now) series.entry) }
         ensures none { result ≡ false → IsForNoneOf self.now (option_map (λ s. s.now) series.entry) }
     {
         match self.times {
-            Some(times) => may_meet(series, times.window),
+            Some(times) => may_overlap(series, times.window),
             None => true,
         }
     }

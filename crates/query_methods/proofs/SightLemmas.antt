@@ -8,7 +8,7 @@ use Rattle.spec_series.specs.declared.series.Series.{Series}
 use Rattle.spec_site.specs.TimeZones.{ZoneText}
 use Rattle.spec_windows.specs.ZoneRules.{rule_of, rule_of_event, utc_rule}
 use Rattle.query_filter.specs.InZone.{FilterInZone}
-use Rattle.query_filter.specs.Refusals.{IsForNoneOf}
+use Rattle.query_filter.specs.Skips.{IsForNoneOf}
 
 pub not_matched : (f : FilterInZone) (series : Option Series) (zones : List ZoneText) (floating : List ℕ) (event : Data) → IsForNoneOf f series → series ≡ series_in zones event → f.clock ≡ unwrap_or (rule_of zones floating) utc_rule
     → false ≡ event_matches zones floating f.filter event

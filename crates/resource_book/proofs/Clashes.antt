@@ -1,4 +1,4 @@
--- The first meeting, booking by booking, and then the series with itself.
+-- The first shared second, booking by booking, and then of the series with itself.
 use Rattle.std.proofs.Common.{◌≡◌, ℕ, zero, suc, ℤ, Bool, true, false, ◌&&◌, ◌||◌, List, [], ◌∷◌, ◌++◌, Option, Some, None, IfSome, IfNone, refl, sym, ap, ◌∙◌, arith, ◌⊎◌, inl, inr, option_map, int_lt, ◌≤ℤ◌, ◌<ℤ◌, ◌<◌, ◌^◌, unsigned_abs, slice_get, if◌then◌else◌}
 use Rattle.std.proofs.lemmas.Int.{ints}
 use Rattle.std.proofs.lemmas.Option.{same_Some}
@@ -13,8 +13,8 @@ use Rattle.residue_clash.proofs.Covering.{covers_is, covers_twice_is}
 use Rattle.residue_clash.proofs.FirstSecond.{first_is}
 use Rattle.spec_bookings.specs.declared.booking.Booking.{Booking}
 use Rattle.spec_bookings.specs.Clashes.{IsClash, any_covers, is_clash, IsClear, first_covering, clash_at, second_of, first_clash}
-use Rattle.resource_book.specs.declared.check.Meeting.{Meeting}
-use Rattle.resource_book.specs.Meetings.{meets_booking, IsEarliest, IsEarliestOf, earlier_of, clash_of}
+use Rattle.resource_book.specs.declared.check.SharedSecond.{SharedSecond}
+use Rattle.resource_book.specs.SharedSeconds.{is_shared_with, IsEarliest, IsEarliestOf, earlier_of, clash_of}
 use Rattle.civil_days.proofs.WallLemmas.{wall_parts}
 use Rattle.spec_bookings.proofs.Tables.{by_test}
 
@@ -30,8 +30,8 @@ any_push : (bs : List Booking) (b : Booking) (x : ℤ) → any_covers (bs ++ b �
 any_push [] b x = or-false (covers b.series x)
 any_push (c ∷ cs) b x = ap (λ (t : Bool). covers c.series x || t) (any_push cs b x) ∙ sym (or_assoc (covers c.series x) (any_covers cs x) (covers b.series x))
 
-meets_push : (bs : List Booking) (s : Series) (b : Booking) (x : ℤ) → meets_booking (bs ++ b ∷ []) s x ≡ (meets_booking bs s x || (covers b.series x && covers s x))
-meets_push bs s b x = ap (λ (t : Bool). t && covers s x) (any_push bs b x) ∙ shared_out (any_covers bs x) (covers b.series x) (covers s x)
+shared_push : (bs : List Booking) (s : Series) (b : Booking) (x : ℤ) → is_shared_with (bs ++ b ∷ []) s x ≡ (is_shared_with bs s x || (covers b.series x && covers s x))
+shared_push bs s b x = ap (λ (t : Bool). t && covers s x) (any_push bs b x) ∙ shared_out (any_covers bs x) (covers b.series x) (covers s x)
 
 first_kept : (bs : List Booking) (b : Booking) (x : ℤ) → any_covers bs x ≡ true → first_covering (bs ++ b ∷ []) x ≡ first_covering bs x
 first_kept [] b x h = absurd (cc h)
@@ -52,11 +52,11 @@ first_none (b ∷ bs) x h =
     let p = or_parts (covers b.series x) (any_covers bs x) h in
     rw (p.0) (first_none bs x p.1)
 
--- none of the bookings covers x, where the series covers it and meets none there
-none_covers : (bs : List Booking) (s : Series) (x : ℤ) → covers s x ≡ true → (meets_booking bs s x ≡ true → ⊥) → any_covers bs x ≡ false
+-- none of the bookings covers x, where the series covers it and shares it with none
+none_covers : (bs : List Booking) (s : Series) (x : ℤ) → covers s x ≡ true → (is_shared_with bs s x ≡ true → ⊥) → any_covers bs x ≡ false
 none_covers bs s x e f = false_from_ne_true (any_covers bs x) (λ a. f (rw (a, e) refl))
 
--- the earlier of a meeting among some bookings and a second of another test: the first of the two tests together
+-- the earlier of a second shared with some bookings and a second of another test: the first of the two tests together
 module _ (bs cs : List Booking) (p q both : ℤ → Bool) (n : Option ℕ)
     (split : (x : ℤ) → both x ≡ (p x || q x))
     (old_first : (x : ℤ) → p x ≡ true → first_covering cs x ≡ first_covering bs x)
@@ -64,7 +64,7 @@ module _ (bs cs : List Booking) (p q both : ℤ → Bool) (n : Option ℕ)
   either : (x : ℤ) → both x ≡ true → (p x ≡ true) ⊎ (q x ≡ true)
   either x m = or_cases (p x) (q x) (sym (split x) ∙ m)
 
-  by_old : (m : Meeting) → IsEarliest p bs m → ((x : ℤ) → q x ≡ true → m.at ≤ℤ x) → IsEarliest both cs m
+  by_old : (m : SharedSecond) → IsEarliest p bs m → ((x : ℤ) → q x ≡ true → m.at ≤ℤ x) → IsEarliest both cs m
   by_old m h g = record {
     least = record {
       holds = split m.at ∙ or_left (p m.at) (q m.at) h.least.holds;
@@ -84,7 +84,7 @@ module _ (bs cs : List Booking) (p q both : ℤ → Bool) (n : Option ℕ)
     near = near;
   }
 
-  pub earlier_first : (best : Option Meeting) (found : Option ℤ) → IsEarliestOf p bs best → IsLeastOf (λ x. q x ≡ true) found → IfSome found (λ x. unsigned_abs x < 2 ^ 57)
+  pub earlier_first : (best : Option SharedSecond) (found : Option ℤ) → IsEarliestOf p bs best → IsLeastOf (λ x. q x ≡ true) found → IfSome found (λ x. unsigned_abs x < 2 ^ 57)
       → IsEarliestOf both cs (earlier_of best found n)
   earlier_first None None h g near = λ x m. elim (either x m) [ inl l ↦ h x l | inr r ↦ g x r ]
   earlier_first (Some m) None h g near = by_old m h (λ x e. absurd (g x e))
@@ -98,15 +98,15 @@ module _ (bs cs : List Booking) (p q both : ℤ → Bool) (n : Option ℕ)
       let le : m.at ≤ℤ x = omega (arith, ints, above) in
       by_old m h (λ y e. let f = g.least y e in omega (arith, ints, f, le)))
 
-pub nothing_met : (s : Series) → IsEarliestOf (meets_booking [] s) [] None
-nothing_met s = λ x h. absurd (cc h)
+pub nothing_shared : (s : Series) → IsEarliestOf (is_shared_with [] s) [] None
+nothing_shared s = λ x h. absurd (cc h)
 
-pub one_more : (bs : List Booking) (s : Series) (b : Booking) (best : Option Meeting) (found : Option ℤ) → IsEarliestOf (meets_booking bs s) bs best
+pub one_more : (bs : List Booking) (s : Series) (b : Booking) (best : Option SharedSecond) (found : Option ℤ) → IsEarliestOf (is_shared_with bs s) bs best
     → IsLeastOf (λ x. (covers b.series x && covers s x) ≡ true) found → IfSome found (λ x. unsigned_abs x < 2 ^ 57)
-    → IsEarliestOf (meets_booking (bs ++ b ∷ []) s) (bs ++ b ∷ []) (earlier_of best found (Some b.number))
+    → IsEarliestOf (is_shared_with (bs ++ b ∷ []) s) (bs ++ b ∷ []) (earlier_of best found (Some b.number))
 one_more bs s b best found h g near =
-    earlier_first bs (bs ++ b ∷ []) (meets_booking bs s) (λ x. covers b.series x && covers s x) (meets_booking (bs ++ b ∷ []) s) (Some b.number)
-    (meets_push bs s b)
+    earlier_first bs (bs ++ b ∷ []) (is_shared_with bs s) (λ x. covers b.series x && covers s x) (is_shared_with (bs ++ b ∷ []) s) (Some b.number)
+    (shared_push bs s b)
     (λ x e. first_kept bs b x (and_parts (any_covers bs x) (covers s x) e).0)
     (λ x e f. let c = and_parts (covers b.series x) (covers s x) e in sym (first_new bs b x (none_covers bs s x c.1 f) c.0))
     best found h g near
@@ -115,11 +115,11 @@ one_more bs s b best found h g near =
 covers_from_twice : (s : Series) (x : ℤ) → covers_twice s x ≡ true → covers s x ≡ true
 covers_from_twice s x h = let m = (covers_twice_is s x).0 h in (covers_is s x).1 (m.0, (m.2, m.5))
 
-and_self : (bs : List Booking) (s : Series) (best : Option Meeting) (found : Option ℤ) → IsEarliestOf (meets_booking bs s) bs best
+and_self : (bs : List Booking) (s : Series) (best : Option SharedSecond) (found : Option ℤ) → IsEarliestOf (is_shared_with bs s) bs best
     → IsLeastOf (λ x. covers_twice s x ≡ true) found → IfSome found (λ x. unsigned_abs x < 2 ^ 57) → IsEarliestOf (is_clash bs s) bs (earlier_of best found None)
 and_self bs s best found h g near =
-    earlier_first bs bs (meets_booking bs s) (covers_twice s) (is_clash bs s) None
-    (λ x. or_comm (covers_twice s x) (meets_booking bs s x))
+    earlier_first bs bs (is_shared_with bs s) (covers_twice s) (is_clash bs s) None
+    (λ x. or_comm (covers_twice s x) (is_shared_with bs s x))
     (λ x e. refl)
     (λ x e f. sym (first_none bs x (none_covers bs s x (covers_from_twice s x e) f)))
     best found h g near
@@ -146,7 +146,7 @@ shared_to a b x h g =
 
 pub clash_to : (bs : List Booking) (s : Series) (x : ℤ) → is_clash bs s x ≡ true → IsClash bs s x
 clash_to bs s x h =
-    elim (or_cases (covers_twice s x) (meets_booking bs s x) h) [
+    elim (or_cases (covers_twice s x) (is_shared_with bs s x) h) [
       | inl l ↦ inl ((covers_twice_is s x).0 l)
       | inr r ↦
           let p = and_parts (any_covers bs x) (covers s x) r in
@@ -155,33 +155,33 @@ clash_to bs s x h =
     ]
 
 pub to_clash : (bs : List Booking) (s : Series) (x : ℤ) → IsClash bs s x → is_clash bs s x ≡ true
-to_clash bs s x (inl h) = or_left (covers_twice s x) (meets_booking bs s x) ((covers_twice_is s x).1 h)
+to_clash bs s x (inl h) = or_left (covers_twice s x) (is_shared_with bs s x) ((covers_twice_is s x).1 h)
 to_clash bs s x (inr (k, b, e, m)) =
-    or_right (covers_twice s x) (meets_booking bs s x)
+    or_right (covers_twice s x) (is_shared_with bs s x)
     (and_from (any_covers bs x) (covers s x) (to_covered bs x k b e ((covers_is b.series x).1 (m.0, (m.2, m.4)))) ((covers_is s x).1 (m.1, (m.3, m.5))))
 
--- the clash of the first meeting
-least_at : (bs : List Booking) (s : Series) (o : Option Meeting) → IsEarliestOf (is_clash bs s) bs o → IsLeastOf (λ x. is_clash bs s x ≡ true) (option_map (λ m. m.at) o)
+-- the clash of the first shared second
+least_at : (bs : List Booking) (s : Series) (o : Option SharedSecond) → IsEarliestOf (is_clash bs s) bs o → IsLeastOf (λ x. is_clash bs s x ≡ true) (option_map (λ m. m.at) o)
 least_at bs s None h = h
 least_at bs s (Some m) h = h.least
 
-near_at : (bs : List Booking) (s : Series) (o : Option Meeting) → IsEarliestOf (is_clash bs s) bs o → IfSome (option_map (λ m. m.at) o) (λ x. unsigned_abs x < 2 ^ 57)
+near_at : (bs : List Booking) (s : Series) (o : Option SharedSecond) → IsEarliestOf (is_clash bs s) bs o → IfSome (option_map (λ m. m.at) o) (λ x. unsigned_abs x < 2 ^ 57)
 near_at bs s None h = tt
 near_at bs s (Some m) h = h.near
 
-clash_same : (bs : List Booking) (s : Series) (o : Option Meeting) → IsEarliestOf (is_clash bs s) bs o → option_map clash_of o ≡ option_map (clash_at bs) (option_map (λ m. m.at) o)
+clash_same : (bs : List Booking) (s : Series) (o : Option SharedSecond) → IsEarliestOf (is_clash bs s) bs o → option_map clash_of o ≡ option_map (clash_at bs) (option_map (λ m. m.at) o)
 clash_same bs s None h = refl
 clash_same bs s (Some m) h = ap (λ (n : Option ℕ). Some (record { with = n; day = day_of_wall m.at; second = second_of_wall m.at })) h.first
 
-second_same : (o : Option Meeting) → option_map second_of (option_map clash_of o) ≡ option_map (λ m. m.at) o
+second_same : (o : Option SharedSecond) → option_map second_of (option_map clash_of o) ≡ option_map (λ m. m.at) o
 second_same None = refl
 second_same (Some m) = ap Some (wall_parts m.at)
 
-clear_of : (bs : List Booking) (s : Series) (o : Option Meeting) → IsEarliestOf (is_clash bs s) bs o → IfNone (option_map clash_of o) (IsClear bs s)
+clear_of : (bs : List Booking) (s : Series) (o : Option SharedSecond) → IsEarliestOf (is_clash bs s) bs o → IfNone (option_map clash_of o) (IsClear bs s)
 clear_of bs s None h = λ x. false_from_ne_true (is_clash bs s x) (h x)
 clear_of bs s (Some m) h = tt
 
-module _ (bs : List Booking) (s : Series) (best : Option Meeting) (found : Option ℤ) (h : IsEarliestOf (meets_booking bs s) bs best)
+module _ (bs : List Booking) (s : Series) (best : Option SharedSecond) (found : Option ℤ) (h : IsEarliestOf (is_shared_with bs s) bs best)
     (g : IsLeastOf (λ x. covers_twice s x ≡ true) found) (near : IfSome found (λ x. unsigned_abs x < 2 ^ 57)) where
   pub exact_clash : option_map clash_of (earlier_of best found None) ≡ first_clash bs s
   exact_clash =

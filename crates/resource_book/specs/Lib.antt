@@ -1,3 +1,3 @@
 pub mod RoomView
 pub mod Rounds
-pub mod Meetings
+pub mod SharedSeconds

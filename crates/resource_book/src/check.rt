@@ -5,7 +5,7 @@ ghost use Rattle.rule_expand.specs.Least.{IsLeastOf};
 ghost use Rattle.spec_bookings.specs.declared.booking.Booking.{Booking as BookingView};
 ghost use Rattle.spec_bookings.specs.Bookings.{but};
 ghost use Rattle.spec_bookings.specs.Clashes.{IsClash, IsClear, first_clash, second_of};
-ghost use Rattle.resource_book.specs.Meetings.{meets_booking, earlier_of, IsEarliestOf, clash_of};
+ghost use Rattle.resource_book.specs.SharedSeconds.{is_shared_with, earlier_of, IsEarliestOf, clash_of};
 
 use crate::places::place_but;
 use residue_clash::{Shared, first_self_shared, first_shared};
@@ -15,34 +15,42 @@ use spec_series::series::Series;
 
 // A second that a series shares, and the number of the first booking that covers it, if one does.
 #[derive(Clone, Copy, Drop)]
-struct Meeting {
+struct SharedSecond {
     with: Option<u64>,
     at: Shared,
 }
 
-// The earlier of the meeting so far and the second that was found, with the event that covers it; the one so far where they are the
-// same second.
-fn earlier_of(best: Option<Meeting>, found: Option<Shared>, with: Option<u64>) -> Option<Meeting>
+// The earlier of the shared second so far and the one that was found, with the event that covers it; the one so far where they are the
+// same.
+fn earlier_of(
+    best: Option<SharedSecond>,
+    found: Option<Shared>,
+    with: Option<u64>,
+) -> Option<SharedSecond>
     ensures { result ≡ earlier_of best found with }
 {
     match (best, found) {
         (_, None) => best,
-        (None, Some(at)) => Some(Meeting { with, at }),
-        (Some(meeting), Some(at)) => {
-            if at.wall().seconds() < meeting.at.wall().seconds() {
-                Some(Meeting { with, at })
+        (None, Some(at)) => Some(SharedSecond { with, at }),
+        (Some(so_far), Some(at)) => {
+            if at.wall().seconds() < so_far.at.wall().seconds() {
+                Some(SharedSecond { with, at })
             } else {
-                Some(meeting)
+                Some(so_far)
             }
         }
     }
 }
 
-// Goes on from the meeting so far, which was found among earlier bookings, with these.
-fn earliest_among(best: Option<Meeting>, bookings: &[Booking], series: &Series) -> Option<Meeting>
+// Goes on from the shared second so far, which was found among earlier bookings, with these.
+fn earliest_among(
+    best: Option<SharedSecond>,
+    bookings: &[Booking],
+    series: &Series,
+) -> Option<SharedSecond>
     requires week { IsWeekLong series.now }
-    ensures { (before : List BookingView) → IsEarliestOf (meets_booking before series.now) before best
-        → IsEarliestOf (meets_booking (before ++ bookings.now) series.now) (before ++ bookings.now) result }
+    ensures { (before : List BookingView) → IsEarliestOf (is_shared_with before series.now) before best
+        → IsEarliestOf (is_shared_with (before ++ bookings.now) series.now) (before ++ bookings.now) result }
 {
     let mut best = best;
     for booking in bookings {
@@ -52,10 +60,14 @@ fn earliest_among(best: Option<Meeting>, bookings: &[Booking], series: &Series) 
     best
 }
 
-// The first meeting with a booking that isn't excepted.
-fn first_meeting(bookings: &[Booking], except: Option<u64>, series: &Series) -> Option<Meeting>
+// The earliest second that the series shares with a booking that isn't excepted.
+fn earliest_among_others(
+    bookings: &[Booking],
+    except: Option<u64>,
+    series: &Series,
+) -> Option<SharedSecond>
     requires week { IsWeekLong series.now }
-    ensures { IsEarliestOf (meets_booking (but except bookings.now) series.now) (but except bookings.now) result }
+    ensures { IsEarliestOf (is_shared_with (but except bookings.now) series.now) (but except bookings.now) result }
 {
     match place_but(bookings, except) {
         Some(i) => {
@@ -66,15 +78,15 @@ fn first_meeting(bookings: &[Booking], except: Option<u64>, series: &Series) -> 
     }
 }
 
-// The clash that a meeting is.
-fn clash_of(found: Option<Meeting>) -> Option<Clash>
+// The clash that a shared second is.
+fn clash_of(found: Option<SharedSecond>) -> Option<Clash>
     ensures { result ≡ option_map clash_of found }
 {
     match found {
-        Some(meeting) => Some(Clash {
-            with: meeting.with,
-            day: meeting.at.day(),
-            second: meeting.at.second(),
+        Some(shared) => Some(Clash {
+            with: shared.with,
+            day: shared.at.day(),
+            second: shared.at.second(),
         }),
         None => None,
     }
@@ -87,6 +99,6 @@ pub fn check(bookings: &[Booking], except: Option<u64>, series: &Series) -> Opti
     ensures clear { IfNone result (IsClear (but except bookings.now) series.now) }
     ensures least { IsLeastOf (IsClash (but except bookings.now) series.now) (option_map second_of result) }
 {
-    let met = first_meeting(bookings, except, series);
-    clash_of(earlier_of(met, first_self_shared(series), None))
+    let shared = earliest_among_others(bookings, except, series);
+    clash_of(earlier_of(shared, first_self_shared(series), None))
 }

@@ -16,7 +16,7 @@ use std::alloc::{AllocError, Global};
 use time_text::is_in_years;
 
 /// The most exceptions of a series.
-const MOST_EXCEPTIONS: usize = 128;
+const MAX_EXCEPTIONS: usize = 128;
 
 /// The series that a value tells, where it is one that may be booked.
 pub fn series_in(alloc: Global, tree: &Tree) -> Result<Option<Series>, AllocError>
@@ -85,7 +85,7 @@ fn booked(
     if !is_week(length) {
         return None;
     }
-    if exceptions.len() > MOST_EXCEPTIONS {
+    if exceptions.len() > MAX_EXCEPTIONS {
         return None;
     }
     if !are_in_years(&exceptions) {

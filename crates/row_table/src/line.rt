@@ -5,7 +5,7 @@ use std::alloc::{AllocError, Global};
 use std::fmt::Write;
 
 /// The most times that a text stands.
-const MOST_TIMES: u32 = 10_000_000;
+const MAX_TIMES: u32 = 10_000_000;
 
 /// The text of a line, in which a number, a blank and a text between backquotes stand for the text so many times; `%` in the text stands
 /// for which time it is, from 1.
@@ -31,7 +31,7 @@ fn repeated(alloc: Global, part: &str) -> Result<Option<String>, AllocError> {
         return Ok(None);
     };
     match times.parse::<u32>() {
-        Ok(times) if times <= MOST_TIMES => {
+        Ok(times) if times <= MAX_TIMES => {
             if text.contains('%') {
                 Ok(Some(counted(alloc, text, times)?))
             } else {

@@ -10,7 +10,7 @@ use Rattle.spec_json.specs.Data.{Data}
 use Rattle.spec_json.specs.Parts.{as_text, as_whole}
 use Rattle.spec_recurrence.specs.RulesOf.{ends_within, has_by_parts, is_interval, is_within_limits, rule_by_parts, rule_where, weeks_start_within}
 use Rattle.spec_series.specs.RuleLimits.{is_end, is_month, is_nday, is_place_to}
-use Rattle.spec_series.specs.RuleObjects.{RuleParts, each_in, end_in, filled, frequency_in, interval_in, is_rule_object, is_settled, local_at, month_in, nday_in, place_in, present_at, rule_in, settled_rule, thousand_in, thousand_of, week_start_in, with_lists, with_members}
+use Rattle.spec_series.specs.RuleObjects.{RuleParts, each_in, end_in, filled, frequency_of, interval_in, local_at, month_in, nday_in, place_in, present_at, rule_in, thousand_in, thousand_of, week_start_in}
 use Rattle.spec_series.specs.declared.by_part.End.{End}
 use Rattle.spec_series.specs.declared.by_part.End.TheVariants.{Count, Never, Until}
 use Rattle.spec_series.specs.declared.by_part.Freq.{Freq}
@@ -20,6 +20,7 @@ use Rattle.spec_time.specs.LocalTimes.{local_in, spaced_wall}
 use Rattle.spec_time.specs.Walls.{is_in_years}
 use Rattle.time_text.proofs.DateLemmas.{spaced_in_years}
 use Rattle.rule_read.proofs.ListLemmas.{day_pass, each_pass, month_pass, nday_pass, place_pass}
+use Rattle.rule_read.proofs.ReadingLemmas.{made}
 use Rattle.rule_read.proofs.RuleLemmas.{filled_parts}
 
 -- The members beside the lists.
@@ -77,62 +78,25 @@ filled_within n q h =
     let c = and_parts (has_by_parts q) (is_end q.end) b.1 in
     and_from _ _ a.0 (and_from _ _ b.0 (and_from _ _ (filled_parts q.frequency n q.by_day q.by_month_day q.by_month q.by_set c.0) c.1))
 
-settled_by : (n : ℤ) (q p : RuleParts) (b : Bool) → is_within_limits q ≡ true → (if b then Some (filled n q) else None) ≡ Some p → is_within_limits p ≡ true
-settled_by n q p true within h = subst (λ x. is_within_limits x ≡ true) (same_Some (filled n q) p h) (filled_within n q within)
-settled_by n q p false within h = absurd (none-some p h)
-
--- all that is there passes
-abbrev Pass : {X : Type 0} → (X → Bool) → Option X → Type 0
-Pass {X} test o = (x : X) → o ≡ Some x → test x ≡ true
-
-module _ (n : ℤ) (f : Freq) (p : RuleParts) where
-  lists_by : (i w : ℕ) (e : End) (ds : Option (List NDay)) (md m s : Option (List ℤ)) → is_interval i ≡ true → nat_lt w 7 ≡ true → is_end e ≡ true
-      → Pass (list_all (is_nday f)) ds → Pass (list_all (is_place_to 31)) md → Pass (list_all is_month) m → Pass (list_all (is_place_to 366)) s
-      → option_and_then (λ by_day. option_and_then (λ by_month_day. option_and_then (λ by_month. option_and_then (λ by_set.
-      settled_rule n (record { frequency = f; interval = i; week_start = w; by_day = by_day; by_month_day = by_month_day; by_month = by_month; by_set = by_set; end = e })) s) m) md) ds ≡ Some p
-      → is_within_limits p ≡ true
-  lists_by i w e None md m s hi hw he hd hmd hm hs h = absurd (none-some p h)
-  lists_by i w e (Some ds) None m s hi hw he hd hmd hm hs h = absurd (none-some p h)
-  lists_by i w e (Some ds) (Some md) None s hi hw he hd hmd hm hs h = absurd (none-some p h)
-  lists_by i w e (Some ds) (Some md) (Some m) None hi hw he hd hmd hm hs h = absurd (none-some p h)
-  lists_by i w e (Some ds) (Some md) (Some m) (Some s) hi hw he hd hmd hm hs h =
-      let q : RuleParts = record { frequency = f; interval = i; week_start = w; by_day = ds; by_month_day = md; by_month = m; by_set = s; end = e } in
-      settled_by n q p (is_settled q)
-      (and_from _ _ hi (and_from _ _ hw (and_from _ _ (and_from _ _ (hd ds refl) (and_from _ _ (hmd md refl) (and_from _ _ (hm m refl) (hs s refl)))) he))) h
-
-  with_lists_within : (d : Data) (i w : ℕ) (e : End) → is_interval i ≡ true → nat_lt w 7 ≡ true → is_end e ≡ true → with_lists n d f i w e ≡ Some p → is_within_limits p ≡ true
-  unfolding with_lists
-  with_lists_within d i w e hi hw he h =
-      lists_by i w e (each_in (nday_in f) (present_at (codes "byDay") d)) (each_in (place_in 31) (present_at (codes "byMonthDay") d))
-      (each_in month_in (present_at (codes "byMonth") d)) (each_in (place_in 366) (present_at (codes "bySetPosition") d)) hi hw he
-      (λ xs g. each_pass (nday_in f) (is_nday f) (nday_pass f) (present_at (codes "byDay") d) xs (sym g))
-      (λ xs g. each_pass (place_in 31) (is_place_to 31) (place_pass 31) (present_at (codes "byMonthDay") d) xs (sym g))
-      (λ xs g. each_pass month_in is_month month_pass (present_at (codes "byMonth") d) xs (sym g))
-      (λ xs g. each_pass (place_in 366) (is_place_to 366) (place_pass 366) (present_at (codes "bySetPosition") d) xs (sym g)) h
-
-  members_by : (d : Data) (i w : Option ℕ) (e : Option End) → Pass is_interval i → Pass (λ k. nat_lt k 7) w → Pass is_end e
-      → option_and_then (λ interval. option_and_then (λ week_start. option_and_then (λ end. with_lists n d f interval week_start end) e) w) i ≡ Some p → is_within_limits p ≡ true
-  members_by d None w e hi hw he h = absurd (none-some p h)
-  members_by d (Some i) None e hi hw he h = absurd (none-some p h)
-  members_by d (Some i) (Some w) None hi hw he h = absurd (none-some p h)
-  members_by d (Some i) (Some w) (Some e) hi hw he h = with_lists_within d i w e (hi i refl) (hw w refl) (he e refl) h
-
-  with_members_within : (d : Data) → with_members n d f ≡ Some p → is_within_limits p ≡ true
-  unfolding with_members
-  with_members_within d h =
-      members_by d (interval_in (present_at (codes "interval") d)) (week_start_in (present_at (codes "firstDayOfWeek") d))
-      (end_in (present_at (codes "count") d) (present_at (codes "until") d))
-      (interval_pass (present_at (codes "interval") d)) (week_start_pass (present_at (codes "firstDayOfWeek") d))
-      (end_pass (present_at (codes "count") d) (present_at (codes "until") d)) h
-
-rule_by : (n : ℤ) (d : Data) (p : RuleParts) (b : Bool) (o : Option Freq) → (if b then option_and_then (with_members n d) o else None) ≡ Some p → is_within_limits p ≡ true
-rule_by n d p true None h = absurd (none-some p h)
-rule_by n d p true (Some f) h = with_members_within n f p d h
-rule_by n d p false o h = absurd (none-some p h)
+-- The place of a day in its month or year is read by the frequency.
+days_pass : (o : Option Data) (f : Freq) (g : Option Freq) (ds : List NDay) → g ≡ Some f → option_and_then (λ h. each_in (nday_in h) o) g ≡ Some ds → list_all (is_nday f) ds ≡ true
+days_pass o f g ds e h = each_pass (nday_in f) (is_nday f) (nday_pass f) o ds (sym (rw e at h))
 
 rule_within : (n : ℤ) (d : Data) (p : RuleParts) → rule_in n d ≡ Some p → is_within_limits p ≡ true
-unfolding rule_in
-rule_within n d p h = rule_by n d p (is_rule_object d) (option_and_then frequency_in (present_at (codes "frequency") d)) h
+rule_within n d p h =
+    let m = made n d p h in
+    let q = m.0 in
+    let r = m.1.read in
+    let days = days_pass (present_at (codes "byDay") d) q.frequency (frequency_of d) q.by_day r.frequency r.by_day in
+    let month_days = each_pass (place_in 31) (is_place_to 31) (place_pass 31) (present_at (codes "byMonthDay") d) q.by_month_day (sym r.by_month_day) in
+    let months = each_pass month_in is_month month_pass (present_at (codes "byMonth") d) q.by_month (sym r.by_month) in
+    let places = each_pass (place_in 366) (is_place_to 366) (place_pass 366) (present_at (codes "bySetPosition") d) q.by_set (sym r.by_set) in
+    let by_parts = and_from _ _ days (and_from _ _ month_days (and_from _ _ months places)) in
+    let end = end_pass (present_at (codes "count") d) (present_at (codes "until") d) q.end r.end in
+    let week = week_start_pass (present_at (codes "firstDayOfWeek") d) q.week_start r.week_start in
+    let interval = interval_pass (present_at (codes "interval") d) q.interval r.interval in
+    let within : is_within_limits q ≡ true = and_from _ _ interval (and_from _ _ week (and_from _ _ by_parts end)) in
+    subst (λ x. is_within_limits x ≡ true) m.1.filled (filled_within n q within)
 
 where_some : (p : RuleParts) (b : Bool) (h : is_within_limits p ≡ b) → b ≡ true → is_some (rule_where p b h) ≡ true
 where_some p false h e = cc

@@ -1,11 +1,10 @@
 -- A rule that was written is read back.
-use Rattle.std.proofs.Common.{zero, suc, ◌≡◌, ◌&&◌, ◌≤◌, ◌<◌, ℕ, ℤ, pos, negsuc, List, [], ◌∷◌, Bool, true, false, Option, Some, None, map, codes, nat_le, nat_lt, int_le, if◌then◌else◌, refl, ap, ◌∙◌, arith, subst, option_and_then, option_map}
+use Rattle.std.proofs.Common.{zero, suc, ◌≡◌, ◌&&◌, ◌≤◌, ◌<◌, ℕ, ℤ, pos, negsuc, List, [], ◌∷◌, Bool, true, false, Option, Some, None, map, nat_le, nat_lt, int_le, if◌then◌else◌, refl, ap, ◌∙◌, arith, subst, option_and_then, option_map}
 use Rattle.std.specs.List.{list_all}
 use Rattle.std.specs.Int.{IsInRange}
 use Rattle.std.proofs.lemmas.Bool.{and_from, and_parts}
 use Rattle.std.proofs.lemmas.Bool.Decides.{nat_tests}
 use Rattle.std.proofs.lemmas.Int.{ints}
-use Rattle.std.proofs.lemmas.Option.{none-some, same_Some}
 use Rattle.spec_json.specs.Data.{Data, whole, list, items_of, items_back}
 use Rattle.spec_json.specs.Parts.{all_some}
 use Rattle.spec_series.specs.declared.by_part.Freq.{Freq}
@@ -15,7 +14,8 @@ use Rattle.spec_series.specs.declared.by_part.End.TheVariants.{Never, Count, Unt
 use Rattle.spec_series.specs.declared.by_part.NDay.{NDay}
 use Rattle.spec_series.specs.declared.rule.Rule.{Rule}
 use Rattle.spec_series.specs.RuleLimits.{is_end, is_month, is_nday, is_nth, is_place_to}
-use Rattle.spec_series.specs.RuleObjects.{RuleParts, count_data, each_in, end_in, filled, frequency_in, frequency_named, frequency_text, interval_in, is_empty, is_rule_object, is_settled, month_data, month_in, month_of_number, nday_data, nday_in, nth_data, nth_in, parts_of, place_in, present, rule_data, rule_in, settled_rule, thousand_of, until_data, present_at, week_start_in, weekday_named, weekday_text, with_lists, with_members}
+use Rattle.spec_series.specs.RuleObjects.{RuleParts, count_data, each_in, end_in, filled, frequency_named, frequency_text, is_empty, is_settled, month_data, month_in, month_of_number, nday_data, nday_in, nth_data, nth_in, parts_of, parts_read, place_in, present, rule_data, rule_in, thousand_of, until_data, weekday_named, weekday_text}
+use Rattle.rule_read.proofs.ReadingLemmas.{made}
 use Rattle.time_text.proofs.NumberLemmas.{decimal_back}
 use Rattle.time_text.proofs.WrittenLemmas.{read_back as local_back}
 
@@ -127,57 +127,9 @@ module _ (n : ℤ) (i w : ℕ) (s : List ℤ) (e : End) where
   settled Yearly (d ∷ ds) (x ∷ xs) [] = simp (some_left x xs) refl
   settled Yearly (d ∷ ds) (x ∷ xs) (y ∷ ys) = simp (some_left y ys) refl
 
--- what was read is filled in: some parts make it up
-abbrev Made : ℤ → RuleParts → Type 0
-Made n p = (q : RuleParts) × (filled n q ≡ p)
-
-made_by : (n : ℤ) (q p : RuleParts) (b : Bool) → (if b then Some (filled n q) else None) ≡ Some p → Made n p
-made_by n q p true h = (q, same_Some (filled n q) p h)
-made_by n q p false h = absurd (none-some p h)
-
-lists_by : (n : ℤ) (f : Freq) (i w : ℕ) (e : End) (p : RuleParts) (ds : Option (List NDay)) (md m s : Option (List ℤ))
-    → option_and_then (λ by_day. option_and_then (λ by_month_day. option_and_then (λ by_month. option_and_then (λ by_set.
-    settled_rule n (record { frequency = f; interval = i; week_start = w; by_day = by_day; by_month_day = by_month_day; by_month = by_month; by_set = by_set; end = e })) s) m) md) ds ≡ Some p
-    → Made n p
-lists_by n f i w e p None md m s h = absurd (none-some p h)
-lists_by n f i w e p (Some ds) None m s h = absurd (none-some p h)
-lists_by n f i w e p (Some ds) (Some md) None s h = absurd (none-some p h)
-lists_by n f i w e p (Some ds) (Some md) (Some m) None h = absurd (none-some p h)
-lists_by n f i w e p (Some ds) (Some md) (Some m) (Some s) h =
-    made_by n (record { frequency = f; interval = i; week_start = w; by_day = ds; by_month_day = md; by_month = m; by_set = s; end = e }) p
-    (is_settled (record { frequency = f; interval = i; week_start = w; by_day = ds; by_month_day = md; by_month = m; by_set = s; end = e })) h
-
-made_with_lists : (n : ℤ) (d : Data) (f : Freq) (i w : ℕ) (e : End) (p : RuleParts) → with_lists n d f i w e ≡ Some p → Made n p
-unfolding with_lists
-made_with_lists n d f i w e p h =
-    lists_by n f i w e p (each_in (nday_in f) (present_at (codes "byDay") d)) (each_in (place_in 31) (present_at (codes "byMonthDay") d))
-    (each_in month_in (present_at (codes "byMonth") d)) (each_in (place_in 366) (present_at (codes "bySetPosition") d)) h
-
-members_by : (n : ℤ) (d : Data) (f : Freq) (p : RuleParts) (i w : Option ℕ) (e : Option End)
-    → option_and_then (λ interval. option_and_then (λ week_start. option_and_then (λ end. with_lists n d f interval week_start end) e) w) i ≡ Some p → Made n p
-members_by n d f p None w e h = absurd (none-some p h)
-members_by n d f p (Some i) None e h = absurd (none-some p h)
-members_by n d f p (Some i) (Some w) None h = absurd (none-some p h)
-members_by n d f p (Some i) (Some w) (Some e) h = made_with_lists n d f i w e p h
-
-made_with_members : (n : ℤ) (d : Data) (f : Freq) (p : RuleParts) → with_members n d f ≡ Some p → Made n p
-unfolding with_members
-made_with_members n d f p h =
-    members_by n d f p (interval_in (present_at (codes "interval") d)) (week_start_in (present_at (codes "firstDayOfWeek") d))
-    (end_in (present_at (codes "count") d) (present_at (codes "until") d)) h
-
-made_if : (n : ℤ) (d : Data) (p : RuleParts) (b : Bool) (o : Option Freq) → (if b then option_and_then (with_members n d) o else None) ≡ Some p → Made n p
-made_if n d p true None h = absurd (none-some p h)
-made_if n d p true (Some f) h = made_with_members n d f p h
-made_if n d p false o h = absurd (none-some p h)
-
-made : (n : ℤ) (d : Data) (p : RuleParts) → rule_in n d ≡ Some p → Made n p
-unfolding rule_in
-made n d p h = made_if n d p (is_rule_object d) (option_and_then frequency_in (present_at (codes "frequency") d)) h
-
 -- a rule whose implied parts are filled in is read back
 filled_back : (r : Rule) (n : ℤ) → is_settled (parts_of r) ≡ true → filled n (parts_of r) ≡ parts_of r → rule_in n (rule_data (parts_of r)) ≡ Some (parts_of r)
-unfolding rule_in rule_data with_members with_lists
+unfolding rule_in rule_data parts_read
 filled_back r n still same =
     let f = r.frequency in
     let a = and_parts (list_all (is_nday f) r.by_day) _ r.by_parts_in in
@@ -201,4 +153,4 @@ read_back r n d h =
     let p = q.0 in
     let same = again n p.interval p.week_start p.by_set p.end p.frequency p.by_day p.by_month_day p.by_month in
     let still = settled n p.interval p.week_start p.by_set p.end p.frequency p.by_day p.by_month_day p.by_month in
-    filled_back r n (subst (λ x. is_settled x ≡ true) q.1 still) (subst (λ x. filled n x ≡ x) q.1 same)
+    filled_back r n (subst (λ x. is_settled x ≡ true) q.1.filled still) (subst (λ x. filled n x ≡ x) q.1.filled same)

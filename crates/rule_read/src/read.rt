@@ -3,7 +3,7 @@ ghost use Rattle.std.specs.Prelude.{◌≡◌, ◌≤◌, ◌<◌, ◌^◌, Some
 ghost use Rattle.spec_json.specs.Parts.{all_some};
 ghost use Rattle.spec_json.specs.TreeData.{data_of};
 ghost use Rattle.spec_series.specs.RuleLimits.{are_by_parts};
-ghost use Rattle.spec_series.specs.RuleObjects.{filled, frequency_in, parts_of, rule_in, rules_in, rules_of, settled_rule, with_lists, with_members};
+ghost use Rattle.spec_series.specs.RuleObjects.{filled, frequency_of, frequency_in, parts_of, parts_read, readings_of, rule_in, rules_in, rules_of, settled_rule};
 ghost use Rattle.spec_time.specs.Walls.{day_of_wall, is_in_years};
 ghost use Rattle.rule_read.specs.declared.error.RulesError.TheVariants.{BadRules};
 
@@ -93,12 +93,10 @@ fn rule(alloc: Global, tree: &Tree, day: i64) -> Result<Option<Rule>, AllocError
     requires { unsigned_abs day < 2 ^ 42 }
     ensures { IfOk result (λ o. option_map parts_of o ≡ rule_in day (data_of tree.now)) }
 {
-    if !is_rule_object(tree) {
-        return Ok(None);
-    }
-    match frequency_at(present_at(tree, "frequency")) {
-        Some(frequency) => with_members(alloc, tree, day, frequency),
-        None => Ok(None),
+    if is_rule_object(tree) {
+        with_members(alloc, tree, day)
+    } else {
+        Ok(None)
     }
 }
 
@@ -111,16 +109,14 @@ fn frequency_at(value: Option<&Tree>) -> Option<Freq>
     }
 }
 
-#[tactic(auto, unfolding(spec_series::specs::RuleObjects::with_members))]
-fn with_members(
-    alloc: Global,
-    tree: &Tree,
-    day: i64,
-    frequency: Freq,
-) -> Result<Option<Rule>, AllocError>
+#[tactic(auto, unfolding(spec_series::specs::RuleObjects::parts_read))]
+fn with_members(alloc: Global, tree: &Tree, day: i64) -> Result<Option<Rule>, AllocError>
     requires { unsigned_abs day < 2 ^ 42 }
-    ensures { IfOk result (λ o. option_map parts_of o ≡ with_members day (data_of tree.now) frequency) }
+    ensures { IfOk result (λ o. option_map parts_of o ≡ option_and_then (settled_rule day) (parts_read (readings_of (data_of tree.now)))) }
 {
+    let Some(frequency) = frequency_at(present_at(tree, "frequency")) else {
+        return Ok(None);
+    };
     let Some(interval) = interval(present_at(tree, "interval")) else {
         return Ok(None);
     };
@@ -139,15 +135,19 @@ fn with_members(
     with_lists(alloc, tree, day, frame)
 }
 
-#[tactic(auto, unfolding(spec_series::specs::RuleObjects::with_lists))]
+#[tactic(auto, unfolding(spec_series::specs::RuleObjects::parts_read))]
 fn with_lists(
     alloc: Global,
     tree: &Tree,
     day: i64,
     frame: Frame,
 ) -> Result<Option<Rule>, AllocError>
-    requires { unsigned_abs day < 2 ^ 42 }
-    ensures { IfOk result (λ o. option_map parts_of o ≡ with_lists day (data_of tree.now) frame.frequency frame.interval frame.week_start frame.end) }
+    requires day { unsigned_abs day < 2 ^ 42 }
+    requires frequency { (readings_of (data_of tree.now)).frequency ≡ Some frame.frequency }
+    requires interval { (readings_of (data_of tree.now)).interval ≡ Some frame.interval }
+    requires week_start { (readings_of (data_of tree.now)).week_start ≡ Some frame.week_start }
+    requires end { (readings_of (data_of tree.now)).end ≡ Some frame.end }
+    ensures { IfOk result (λ o. option_map parts_of o ≡ option_and_then (settled_rule day) (parts_read (readings_of (data_of tree.now)))) }
 {
     let Some(by_day) = ndays(alloc, frame.frequency, present_at(tree, "byDay"))? else {
         return Ok(None);

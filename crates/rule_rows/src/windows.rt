@@ -15,7 +15,7 @@ use std::fmt::Write;
 use time_text::{is_in_years, utc_text};
 use zone_instants::instant;
 
-/// What is told of a row: the instant of a wall time, the starts of the occurrences that meet a window, whether there is one, or busy
+/// What is told of a row: the instant of a wall time, the starts of the occurrences that overlap a window, whether there is one, or busy
 /// periods. None where the row can't be read.
 pub fn told(alloc: Global, asked: &Tree) -> Result<Option<String>, AllocError> {
     if let Some(wall) = wall_in_years(asked, "at") {

@@ -10,7 +10,7 @@ use Rattle.spec_series.specs.declared.series.Series.{Series}
 use Rattle.spec_site.specs.TimeZones.{ZoneText}
 use Rattle.spec_windows.specs.BusyPeriods.{occupies}
 use Rattle.spec_windows.specs.Clocks.{instant_in}
-use Rattle.spec_windows.specs.Meetings.{has_passing}
+use Rattle.spec_windows.specs.Overlaps.{has_passing}
 use Rattle.spec_windows.specs.ZoneRules.{rule_of_event}
 
 -- an occurrence of the series takes up the instant

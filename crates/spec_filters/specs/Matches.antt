@@ -16,7 +16,7 @@ use Rattle.spec_series.specs.declared.series.Series.{Series}
 use Rattle.spec_site.specs.TimeZones.{ZoneText}
 use Rattle.spec_time.specs.LocalTimes.{local_in}
 use Rattle.spec_windows.specs.Clocks.{instant_in}
-use Rattle.spec_windows.specs.Meetings.{has_meeting}
+use Rattle.spec_windows.specs.Overlaps.{has_overlapping}
 use Rattle.spec_windows.specs.ZoneRules.{rule_of, rule_of_event, utc_rule}
 use Rattle.spec_windows.specs.declared.window.Window.{Window}
 
@@ -68,14 +68,14 @@ abbrev pub window_asked : Data → Option (ℤ × ℤ)
 window_asked filter = if is_some (given_at (codes "operator") (members_in filter)) then None else walls_asked (members_in filter)
 
 -- one occurrence ends after the one instant and starts before the other; an event without series, or whose zone has no rule, has none
-abbrev pub meets_by : Option Series → Option TzText → Window → Bool
-meets_by None rule w = false
-meets_by (Some s) None w = false
-meets_by (Some s) (Some rule) w = has_meeting s (instant_in rule) w
+abbrev pub overlaps_by : Option Series → Option TzText → Window → Bool
+overlaps_by None rule w = false
+overlaps_by (Some s) None w = false
+overlaps_by (Some s) (Some rule) w = has_overlapping s (instant_in rule) w
 
 -- where either member stands
 abbrev pub times_meet : TzText → Option Series → Option TzText → List Pair → Bool
-times_meet clock series rule ps = if asks_time ps then meets_by series rule (instants_asked clock ps) else true
+times_meet clock series rule ps = if asks_time ps then overlaps_by series rule (instants_asked clock ps) else true
 
 -- `participant` and `participationStatus`, where either stands: one participant meets both
 abbrev pub people_meet : Data → Option (List ℕ) → Option (List ℕ) → Bool

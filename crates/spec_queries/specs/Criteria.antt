@@ -53,7 +53,7 @@ asks_window filter = option_map_or (λ w. int_le (w.1 -ℤ w.0) (pos MAX_EXPANDE
 
 -- Each occurrence is a result of its own where `expand` is true.
 
--- not all of the filter is known, or it lacks the window that occurrences are to meet
+-- not all of the filter is known, or it lacks the window that occurrences are to overlap
 abbrev pub lacks_support : Bool → Data → Bool
 lacks_support expand filter = is_unsupported_filter filter || (expand && not (asks_window filter))
 

@@ -35,20 +35,20 @@ use Rattle.spec_series.specs.Numbers.{seconds_around}
 use Rattle.spec_series.specs.Occurrences.{occurrence_with, passes_with}
 use Rattle.spec_site.specs.TimeZones.{ZoneText}
 use Rattle.spec_time.specs.LocalTimes.{local_text}
-use Rattle.spec_windows.specs.Windows.{meets_window}
+use Rattle.spec_windows.specs.Windows.{overlaps_window}
 use Rattle.spec_windows.specs.ZoneRules.{rule_of, rule_of_event, utc_rule}
 use Rattle.spec_windows.specs.Clocks.{instant_in}
 use Rattle.spec_windows.specs.declared.window.Window.{Window}
 
--- The occurrences of a series that meet a window.
+-- The occurrences of a series that overlap a window.
 
 -- the wall seconds that pass, rising, looked for around 1970-01-01T00:00:00
 unfoldable pub passing_seconds : (ℤ → Bool) → List ℤ
 passing_seconds p = filter p (seconds_around (pos 0))
 
--- the occurrences that meet the window, by their recurrence ids
-unfoldable pub occurrences_meeting : Series → (ℤ → Option ℤ) → Window → List Occurrence
-occurrences_meeting s at w = flat_map (λ rid. some_of (occurrence_with s rid)) (passing_seconds (passes_with (meets_window at w) s))
+-- the occurrences that overlap the window, by their recurrence ids
+unfoldable pub occurrences_overlapping : Series → (ℤ → Option ℤ) → Window → List Occurrence
+occurrences_overlapping s at w = flat_map (λ rid. some_of (occurrence_with s rid)) (passing_seconds (passes_with (overlaps_window at w) s))
 
 -- An occurrence as a result.
 
@@ -78,11 +78,11 @@ result_id n event rid = if has_recurrence event then occurrence_id_text n rid el
 abbrev pub occurrence_result : (ℤ → Option ℤ) → ℕ → Data → Occurrence → List ℕ × Item
 occurrence_result at n event o = (result_id n event o.rid, item_of_occurrence at event o)
 
--- the occurrences of event n that meet the window; an event without series, or whose zone has no rule, has none
+-- the occurrences of event n that overlap the window; an event without series, or whose zone has no rule, has none
 abbrev pub results_by : Option Series → Option TzText → Window → ℕ → Data → List (List ℕ × Item)
 results_by None rule w n event = []
 results_by (Some s) None w n event = []
-results_by (Some s) (Some rule) w n event = map (occurrence_result (instant_in rule) n event) (occurrences_meeting s (instant_in rule) w)
+results_by (Some s) (Some rule) w n event = map (occurrence_result (instant_in rule) n event) (occurrences_overlapping s (instant_in rule) w)
 
 -- The result of a query.
 
@@ -92,7 +92,7 @@ module _ (zones : List ZoneText) (zone : List ℕ) (filter : Data) where
   abbrev pub query_window : Window
   query_window = instants_asked (unwrap_or (rule_of zones zone) utc_rule) (members_in filter)
 
-  -- what event n gives: where the filter holds of it, its occurrences that meet the window
+  -- what event n gives: where the filter holds of it, its occurrences that overlap the window
   abbrev pub results_of_event : ℕ → Data → List (List ℕ × Item)
   results_of_event n event =
       if event_matches zones zone filter event then results_by (series_in zones event) (rule_of_event zones zone event) query_window n event else []

@@ -1,5 +1,5 @@
 pub mod Clocks
 pub mod ZoneRules
 pub mod Windows
-pub mod Meetings
+pub mod Overlaps
 pub mod BusyPeriods

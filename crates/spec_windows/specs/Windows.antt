@@ -1,4 +1,4 @@
--- The instants from the start to the end of an occurrence, and the windows of instants that it meets.
+-- The instants from the start to the end of an occurrence, and the windows of instants that it overlaps.
 use Rattle.std.specs.Prelude.{◌≡◌, ◌*◌, ℤ, pos, ◌+ℤ◌, ◌&&◌, int_lt, Bool, true, false, Option, Some, None, option_map}
 use Rattle.std.specs.Option.{option_map_or}
 use Rattle.spec_series.specs.declared.occurrence.Occurrence.{Occurrence}
@@ -23,13 +23,13 @@ span_at at o = period_of (at o.start) (option_map (λ t. t +ℤ pos o.length.sec
 unfoldable pub keeps_limits : Window → Period → Bool
 keeps_limits w p = option_map_or (λ a. int_lt a p.to) w.after true && option_map_or (λ b. int_lt p.from b) w.before true
 
--- an occurrence meets the window; one without both instants meets none
-unfoldable pub meets_window : (ℤ → Option ℤ) → Window → Occurrence → Bool
-meets_window at w o = option_map_or (keeps_limits w) (span_at at o) false
+-- an occurrence overlaps the window; one without both instants overlaps none
+unfoldable pub overlaps_window : (ℤ → Option ℤ) → Window → Occurrence → Bool
+overlaps_window at w o = option_map_or (keeps_limits w) (span_at at o) false
 
 -- an occurrence of the series does
-abbrev pub IsMeeting : Series → (ℤ → Option ℤ) → Window → Occurrence → Type 0
-IsMeeting s at w o = IsOccurrence s o × (meets_window at w o ≡ true)
+abbrev pub IsOverlapping : Series → (ℤ → Option ℤ) → Window → Occurrence → Type 0
+IsOverlapping s at w o = IsOccurrence s o × (overlaps_window at w o ≡ true)
 
-abbrev pub HasMeeting : Series → (ℤ → Option ℤ) → Window → Type 0
-HasMeeting s at w = (o : Occurrence) × IsMeeting s at w o
+abbrev pub HasOverlapping : Series → (ℤ → Option ℤ) → Window → Type 0
+HasOverlapping s at w = (o : Occurrence) × IsOverlapping s at w o

@@ -16,7 +16,7 @@ pub struct Window {
 impl Window {
     /// Whether a period ends after the one limit and begins before the other. Takes no memory.
     #[tactic(auto, unfolding(crate::specs::Windows::keeps_limits))]
-    pub fn is_met_by(self, period: Period) -> bool
+    pub fn overlaps(self, period: Period) -> bool
         ensures { result ≡ keeps_limits self period }
     {
         let ends = match self.after {

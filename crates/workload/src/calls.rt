@@ -20,7 +20,7 @@ pub(crate) const CREATION_ID: &str = "new";
 /// The number of 2024-01-01.
 const FIRST_DAY: i64 = 19723;
 /// The most ids that a page of changes may have.
-const MOST_IDS: i128 = 500;
+const MAX_IDS: i128 = 500;
 
 /// What a draw makes of the number before it.
 pub(crate) fn drawn(number: u32) -> u32
@@ -125,7 +125,7 @@ pub(crate) fn page_call(alloc: Global, since: Text) -> Call
         Asks::Changes(ChangesArguments {
             kind: Kind::Event,
             since,
-            max: Some(Num::new(MOST_IDS)),
+            max: Some(Num::new(MAX_IDS)),
         }),
     )
 }

@@ -10,9 +10,9 @@ use io_edge::source::Source;
 use std::alloc::{AllocError, Global};
 
 /// The most calls for one input.
-const MOST_CALLS: u32 = 1000;
+const MAX_CALLS: u32 = 1000;
 /// The most bytes of an input that is also cut after each byte, and whose takes fail one after the other.
-const MOST_CUT: usize = 1000;
+const MAX_CUT: usize = 1000;
 
 /// What came of an input.
 #[derive(Drop)]
@@ -32,7 +32,7 @@ fn outcome_of<S: Source>(alloc: Global, source: &mut S) -> Result<Outcome, Alloc
         faults: 0,
         wants: 0,
     };
-    for _ in 0..MOST_CALLS {
+    for _ in 0..MAX_CALLS {
         match next_message(alloc, source, &mut kept) {
             Next::Message(message) => {
                 let parts = Parts::of(alloc, &message)?;
@@ -64,7 +64,7 @@ pub fn try_input(
     try_in_pieces(alloc, input, input.len() + 1, wanted, findings)?;
     try_in_pieces(alloc, input, 1, wanted, findings)?;
     try_in_pieces(alloc, input, 7, wanted, findings)?;
-    if input.len() <= MOST_CUT {
+    if input.len() <= MAX_CUT {
         try_cut(alloc, input, wanted, findings)?;
         try_failing_takes(alloc, input, wanted, findings)?;
     }

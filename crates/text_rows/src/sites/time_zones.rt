@@ -10,7 +10,7 @@ use std::alloc::{AllocError, Global};
 use zone_table::{ZoneError, Zones};
 
 /// The most zones of a table.
-const MOST_ZONES: usize = 64;
+const MAX_ZONES: usize = 64;
 
 /// What came of a list of pairs of a name and a rule, where it isn't what the table has.
 ///
@@ -24,7 +24,7 @@ pub fn other_than_zones(
     let Some(pairs) = pairs_in(alloc, list)? else {
         return other(alloc, NOT_READ);
     };
-    if pairs.len() > MOST_ZONES {
+    if pairs.len() > MAX_ZONES {
         return other(alloc, "the row has too many zones");
     }
     match Zones::read(alloc, &pairs) {

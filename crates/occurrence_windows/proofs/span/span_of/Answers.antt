@@ -2,7 +2,7 @@ use Rattle.std.proofs.Common.{FitsSigned, w64, rules, sym}
 use Rattle.std.proofs.lemmas.Int.{to_z-of_z}
 use Rattle.jiff_tz.specs.PosixText.{tz_view}
 use Rattle.spec_windows.specs.Clocks.{instant_in}
-use Rattle.occurrence_windows.proofs.Meeting.{instant_near}
+use Rattle.occurrence_windows.proofs.Overlapping.{instant_near}
 use Rattle.occurrence_windows.proofs.Series.{rule_instants}
 use Rattle.occurrence_windows.proofs.span.span_of.Goals as goal
 

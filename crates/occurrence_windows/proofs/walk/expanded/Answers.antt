@@ -1,9 +1,9 @@
 use Rattle.std.proofs.Common.{rules}
 use Rattle.jiff_tz.specs.PosixText.{tz_view}
 use Rattle.spec_windows.specs.Clocks.{instant_in}
-use Rattle.spec_windows.specs.Windows.{IsMeeting}
+use Rattle.spec_windows.specs.Windows.{IsOverlapping}
 use Rattle.occurrence_windows.proofs.Walking.{moves_on}
-use Rattle.occurrence_windows.proofs.Meeting.{at_first, met_single, shows, showing_near}
+use Rattle.occurrence_windows.proofs.Overlapping.{at_first, overlapping_single, shows, showing_near}
 use Rattle.occurrence_windows.proofs.Listing.{list_begun, list_ended, list_more}
 use Rattle.occurrence_windows.proofs.Series.{rids_near, rule_instants, single}
 use Rattle.occurrence_windows.proofs.walk.expanded.Goals as goal
@@ -12,13 +12,13 @@ pub loop-o-init : goal.loop-o-init
 loop-o-init c = record {
   here = c.first_wall-here.ensures.near;
   seen = search rules;
-  list = rw c.new-list.ensures.items (list_begun (IsMeeting c.args.series.now (instant_in (tz_view c.args.rule.now)) c.args.window) c.first_wall-here.result
+  list = rw c.new-list.ensures.items (list_begun (IsOverlapping c.args.series.now (instant_in (tz_view c.args.rule.now)) c.args.window) c.first_wall-here.result
       (λ q m. at_first (instant_in (tz_view c.args.rule.now)) c.args.window q c.longest.result c.first_wall-here.result (rule_instants c.args.rule.now) (c.longest.ensures.all q m.0) c.first_wall-here.ensures.value m.1));
 }
 
 pub returns-in_default : goal.returns-in_default
 returns-in_default c =
-    list_ended (IsMeeting c.args.series.now (instant_in (tz_view c.args.rule.now)) c.args.window) c.loop-o.here c.loop-o.seen c.loop-o.list.items c.loop-o.invariant.list c.in_default.ensures
+    list_ended (IsOverlapping c.args.series.now (instant_in (tz_view c.args.rule.now)) c.args.window) c.loop-o.here c.loop-o.seen c.loop-o.list.items c.loop-o.invariant.list c.in_default.ensures
 
 pub loop-o-smaller : goal.loop-o-smaller
 loop-o-smaller c =
@@ -33,6 +33,6 @@ loop-o-preserved c =
     record {
       here = near;
       seen = rids_near c.args.series.now c.in-Some.o first.0.0.0 near;
-      list = rw (c.in_ok-push.ensures.items, c.copied.ensures) (list_more (IsMeeting c.args.series.now (instant_in (tz_view c.args.rule.now)) c.args.window) c.loop-o.here c.loop-o.seen c.loop-o.list.items c.in-Some.o
-          (met_single c.args.series.now (instant_in (tz_view c.args.rule.now)) c.args.window (single c.args.series.now)) c.loop-o.invariant.list first);
+      list = rw (c.in_ok-push.ensures.items, c.copied.ensures) (list_more (IsOverlapping c.args.series.now (instant_in (tz_view c.args.rule.now)) c.args.window) c.loop-o.here c.loop-o.seen c.loop-o.list.items c.in-Some.o
+          (overlapping_single c.args.series.now (instant_in (tz_view c.args.rule.now)) c.args.window (single c.args.series.now)) c.loop-o.invariant.list first);
     }

@@ -3,7 +3,7 @@ use Rattle.std.specs.Int.{int_gap}
 use Rattle.jiff_core.specs.Calendar.{IsWithin}
 use Rattle.jiff_tz.specs.PosixText.{tz_view}
 use Rattle.spec_windows.specs.Clocks.{instant_in}
-use Rattle.spec_windows.specs.Windows.{IsMeeting}
+use Rattle.spec_windows.specs.Windows.{IsOverlapping}
 use Rattle.occurrence_windows.specs.Listing.{IsListOf}
 use Rattle.occurrence_windows.proofs.Walking.{key, TOP}
 use Rattle.occurrence_windows.proofs.Listing.{UpTo}
@@ -13,7 +13,7 @@ abbrev pub invariant-loop-o : goal.invariant-loop-o
 invariant-loop-o l = record {
   here : IsWithin 400000000000 l.here;
   seen : IfSome l.seen (IsWithin 400000000000);
-  list : IsListOf (UpTo (IsMeeting l.series (instant_in (tz_view l.rule)) l.window) l.here l.seen) l.list.items;
+  list : IsListOf (UpTo (IsOverlapping l.series (instant_in (tz_view l.rule)) l.window) l.here l.seen) l.list.items;
 }
 
 abbrev pub decreases-loop-o : goal.decreases-loop-o

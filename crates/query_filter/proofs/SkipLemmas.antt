@@ -1,4 +1,4 @@
--- Events that are refused before the rule of their zone is known.
+-- Events that a filter skips before the rule of their zone is known.
 use Rattle.std.proofs.Common.{◌≡◌, ◌∙◌, ℕ, ◌+ℤ◌, ◌≤ℤ◌, ℤ, pos, inl, inr, List, [], ◌∷◌, length, slice_get, ◌&&◌, ◌||◌, Bool, true, false, not, int_lt, Option, Some, None, refl, sym, ap, arith, subst, ◌*◌}
 use Rattle.std.specs.Prelude.{◌==◌, unwrap_or, codes}
 use Rattle.std.specs.Option.{option_map_or}
@@ -8,7 +8,7 @@ use Rattle.jiff_core.proofs.SignedLemmas.{signed_arith}
 use Rattle.jiff_tz.specs.PosixText.{TzText}
 use Rattle.spec_events.specs.Events.{time_zone_in}
 use Rattle.spec_events.specs.Values.{is_showing}
-use Rattle.spec_filters.specs.Matches.{matches_by, meets_by}
+use Rattle.spec_filters.specs.Matches.{matches_by, overlaps_by}
 use Rattle.spec_json.specs.Data.{Data}
 use Rattle.spec_series.proofs.Occurrences.{kinds}
 use Rattle.spec_series.specs.Occurrences.{IsOccurrence, is_day}
@@ -19,17 +19,17 @@ use Rattle.spec_series.specs.declared.series.Series.{Series}
 use Rattle.spec_site.specs.TimeZones.{ZoneText}
 use Rattle.spec_time.specs.Walls.{day_of_wall, second_of_wall}
 use Rattle.spec_windows.specs.Clocks.{instant_in}
-use Rattle.spec_windows.specs.Meetings.{has_meeting}
-use Rattle.spec_windows.specs.Windows.{keeps_limits, meets_window}
+use Rattle.spec_windows.specs.Overlaps.{has_overlapping}
+use Rattle.spec_windows.specs.Windows.{keeps_limits, overlaps_window}
 use Rattle.spec_windows.specs.ZoneRules.{listed_rule, rule_of, rule_of_event, utc_rule}
 use Rattle.spec_windows.specs.declared.window.Window.{Window}
-use Rattle.occurrence_windows.proofs.Meeting.{AreInstants, has_met}
-use Rattle.occurrence_windows.proofs.Passing.{meeting_is}
+use Rattle.occurrence_windows.proofs.Overlapping.{AreInstants, has_overlap}
+use Rattle.occurrence_windows.proofs.Passing.{overlapping_is}
 use Rattle.occurrence_windows.proofs.Series.{showing_is}
 use Rattle.query_filter.proofs.KeptLemmas.{times_missed}
 use Rattle.query_filter.specs.InZone.{FilterInZone}
 use Rattle.query_filter.specs.KeptTimes.{times_of}
-use Rattle.query_filter.specs.Refusals.{is_alone, may_match, may_meet, widest}
+use Rattle.query_filter.specs.Skips.{is_alone, may_match, may_overlap, widest}
 use Rattle.query_filter.specs.declared.times.Times.{Times}
 use Rattle.rule_expand.proofs.Places.{and_both, is_late, late_is}
 use Rattle.rule_expand.proofs.Sets.{both_and, not_true}
@@ -74,10 +74,10 @@ before_wider : (limit : Option ℤ) (from earlier : ℤ) → earlier ≤ℤ from
 before_wider None from earlier le h = refl
 before_wider (Some b) from earlier le h = let x = late_is from b h in is_late earlier b (omega (arith, signed_arith, x, le))
 
-met_widest : (at : ℤ → Option ℤ) (w : Window) (o : Occurrence) → AreInstants at → meets_window at w o ≡ true → keeps_limits w (widest o.start (wall_seconds o.length)) ≡ true
+met_widest : (at : ℤ → Option ℤ) (w : Window) (o : Occurrence) → AreInstants at → overlaps_window at w o ≡ true → keeps_limits w (widest o.start (wall_seconds o.length)) ≡ true
 unfolding keeps_limits
 met_widest at w o i h =
-    let m = has_met at w o h in
+    let m = has_overlap at w o h in
     let begins = i.near o.start m.period.from m.span.first in
     let ends = i.near (o.start +ℤ pos (86400 * o.length.days)) m.span.last m.span.ends in
     let to = m.span.to in
@@ -114,33 +114,33 @@ neither : (a b : Bool) → (not a || b) ≡ false → (a ≡ true) × (b ≡ fal
 neither true b h = (refl, h)
 neither false b h = cc
 
-alone_missed : (s : Series) (tz : TzText) (w : Window) → HasNearOffsets tz → may_meet (Some s) w ≡ false → has_meeting s (instant_in tz) w ≡ false
+alone_missed : (s : Series) (tz : TzText) (w : Window) → HasNearOffsets tz → may_overlap (Some s) w ≡ false → has_overlapping s (instant_in tz) w ≡ false
 alone_missed s tz w near h =
     let parts = neither (is_alone s) _ h in
-    not_true (has_meeting s (instant_in tz) w) (λ met.
-    let o = (meeting_is s tz w).0 met in
+    not_true (has_overlapping s (instant_in tz) w) (λ met.
+    let o = (overlapping_is s tz w).0 met in
     let at = alone_at s o.0 parts.0 o.1.0 in
     let wide = met_widest (instant_in tz) w o.0 (near_instants tz near) o.1.1 in
     let same : keeps_limits w (widest s.start (wall_seconds s.length)) ≡ true = ap (λ x. keeps_limits w (widest x (wall_seconds s.length))) (sym at.0) ∙ ap (λ l. keeps_limits w (widest o.0.start (wall_seconds l))) (sym at.1) ∙ wide in
     let no = parts.1 in
     cc)
 
-missed : (series : Option Series) (rule : Option TzText) (w : Window) → ((tz : TzText) → rule ≡ Some tz → HasNearOffsets tz) → may_meet series w ≡ false → meets_by series rule w ≡ false
+missed : (series : Option Series) (rule : Option TzText) (w : Window) → ((tz : TzText) → rule ≡ Some tz → HasNearOffsets tz) → may_overlap series w ≡ false → overlaps_by series rule w ≡ false
 missed None rule w near h = refl
 missed (Some s) None w near h = refl
 missed (Some s) (Some tz) w near h = alone_missed s tz w (near tz refl) h
 
-refused_by : (f : FilterInZone) (series : Option Series) (times : Option Times) → times_of f.clock f.filter ≡ times → option_map_or (λ t. may_meet series t.window) times true ≡ false
+skipped_by : (f : FilterInZone) (series : Option Series) (times : Option Times) → times_of f.clock f.filter ≡ times → option_map_or (λ t. may_overlap series t.window) times true ≡ false
     → (zones : List ZoneText) (floating : List ℕ) (event : Data) → matches_by f.clock series (rule_of_event zones floating event) f.filter event ≡ false
-refused_by f series None e h zones floating event = cc
-refused_by f series (Some t) e h zones floating event =
+skipped_by f series None e h zones floating event = cc
+skipped_by f series (Some t) e h zones floating event =
     times_missed f.clock series (rule_of_event zones floating event) event f.filter t e
     (missed series (rule_of_event zones floating event) t.window (λ tz r. zone_near zones (unwrap_or (time_zone_in event) floating) tz r) h)
 
-pub refused : (f : FilterInZone) (series : Option Series) → may_match f series ≡ false
+pub skipped : (f : FilterInZone) (series : Option Series) → may_match f series ≡ false
     → (zones : List ZoneText) (floating : List ℕ) (event : Data) → matches_by f.clock series (rule_of_event zones floating event) f.filter event ≡ false
-refused f series h zones floating event = refused_by f series (times_of f.clock f.filter) refl h zones floating event
+skipped f series h zones floating event = skipped_by f series (times_of f.clock f.filter) refl h zones floating event
 
 -- What is kept of a filter says it.
-pub kept_says : (f : FilterInZone) (series : Option Series) (times : Option Times) → times_of f.clock f.filter ≡ times → option_map_or (λ t. may_meet series t.window) times true ≡ may_match f series
-kept_says f series times e = ap (λ o. option_map_or (λ t. may_meet series t.window) o true) (sym e)
+pub kept_says : (f : FilterInZone) (series : Option Series) (times : Option Times) → times_of f.clock f.filter ≡ times → option_map_or (λ t. may_overlap series t.window) times true ≡ may_match f series
+kept_says f series times e = ap (λ o. option_map_or (λ t. may_overlap series t.window) o true) (sym e)

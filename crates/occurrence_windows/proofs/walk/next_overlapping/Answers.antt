@@ -3,10 +3,10 @@ use Rattle.jiff_tz.specs.PosixText.{tz_view}
 use Rattle.spec_series.specs.Occurrences.{IsOccurrence}
 use Rattle.spec_windows.specs.Clocks.{instant_in}
 use Rattle.occurrence_windows.proofs.Walking.{moves_on, late_not}
-use Rattle.occurrence_windows.proofs.Meeting.{none_left, none_high, found_first, onward_more, left_more, start_in}
+use Rattle.occurrence_windows.proofs.Overlapping.{none_left, none_high, found_first, onward_more, left_more, start_in}
 use Rattle.occurrence_windows.proofs.Series.{lengths, rids_near, rule_instants, single}
 use Rattle.rule_expand.proofs.Places.{late_is}
-use Rattle.occurrence_windows.proofs.walk.next_meeting.Goals as goal
+use Rattle.occurrence_windows.proofs.walk.next_overlapping.Goals as goal
 
 pub returns-in_default : goal.returns-in_default
 returns-in_default c =
@@ -18,18 +18,18 @@ returns-then-starts_after c =
     none_high c.args.series.now (instant_in (tz_view c.args.rule.now)) c.args.window c.args.from c.loop-o.here c.last_wall-last.result c.args.past c.loop-o.seen c.in-Some.o
     (rule_instants c.args.rule.now) c.last_wall-last.ensures.value c.loop-o.invariant.left c.in-Some.ensures above
 
-pub meets_window-requires-clause-start : goal.meets_window-requires-clause-start
-meets_window-requires-clause-start c =
+pub overlaps_window-requires-clause-start : goal.overlaps_window-requires-clause-start
+overlaps_window-requires-clause-start c =
     let upto = late_not c.last_wall-last.result c.in-Some.o.start (sym c.starts_after.ensures ∙ c.if-starts_after.false) in
     start_in (IsOccurrence c.args.series.now) c.loop-o.here c.last_wall-last.result c.loop-o.seen c.in-Some.o c.in-Some.ensures c.loop-o.invariant.here c.last_wall-last.ensures.near upto
 
-pub meets_window-requires-clause-length : goal.meets_window-requires-clause-length
-meets_window-requires-clause-length c = lengths c.args.series.now c.in-Some.o c.in-Some.ensures.0.0
+pub overlaps_window-requires-clause-length : goal.overlaps_window-requires-clause-length
+overlaps_window-requires-clause-length c = lengths c.args.series.now c.in-Some.o c.in-Some.ensures.0.0
 
-pub returns-then-meets_window : goal.returns-then-meets_window
-returns-then-meets_window c =
+pub returns-then-overlaps_window : goal.returns-then-overlaps_window
+returns-then-overlaps_window c =
     found_first c.args.series.now (instant_in (tz_view c.args.rule.now)) c.args.window c.args.from c.loop-o.here c.args.past c.loop-o.seen c.in-Some.o
-    c.loop-o.invariant.onward c.loop-o.invariant.left c.in-Some.ensures (sym c.meets_window.ensures ∙ c.if-meets_window.true)
+    c.loop-o.invariant.onward c.loop-o.invariant.left c.in-Some.ensures (sym c.overlaps_window.ensures ∙ c.if-overlaps_window.true)
 
 pub loop-o-smaller : goal.loop-o-smaller
 loop-o-smaller c =
@@ -46,5 +46,5 @@ loop-o-preserved c =
       seen = rids_near c.args.series.now c.in-Some.o c.in-Some.ensures.0.0 near;
       onward = onward_more c.args.series.now (instant_in (tz_view c.args.rule.now)) c.args.window c.args.from c.loop-o.here c.args.past c.loop-o.seen c.in-Some.o c.loop-o.invariant.onward c.in-Some.ensures;
       left = left_more c.args.series.now (instant_in (tz_view c.args.rule.now)) c.args.window c.args.from c.loop-o.here c.args.past c.loop-o.seen c.in-Some.o
-          (single c.args.series.now) c.loop-o.invariant.left c.in-Some.ensures (sym c.meets_window.ensures ∙ c.if-meets_window.false);
+          (single c.args.series.now) c.loop-o.invariant.left c.in-Some.ensures (sym c.overlaps_window.ensures ∙ c.if-overlaps_window.false);
     }

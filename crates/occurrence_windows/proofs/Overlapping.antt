@@ -1,4 +1,4 @@
--- Occurrences that meet a window.
+-- Occurrences that overlap a window.
 use Rattle.std.proofs.Common.{◌≡◌, ℕ, ◌*◌, ◌≤◌, inl, inr, Bool, true, false, refl, sym, ap, arith, ℤ, pos, ◌≤ℤ◌, ◌<ℤ◌, ◌+ℤ◌, ◌-ℤ◌, int_lt, Option, Some, None, IsTrue}
 use Rattle.std.specs.Prelude.{option_map, is_some}
 use Rattle.std.specs.Option.{option_map_or}
@@ -12,7 +12,7 @@ use Rattle.spec_series.specs.Occurrences.{IsOccurrence}
 use Rattle.spec_series.specs.SeriesLimits.{wall_seconds}
 use Rattle.spec_windows.specs.declared.period.Period.{Period}
 use Rattle.spec_windows.specs.declared.window.Window.{Window}
-use Rattle.spec_windows.specs.Windows.{IsMeeting, period_of, span_at, keeps_limits, meets_window}
+use Rattle.spec_windows.specs.Windows.{IsOverlapping, period_of, span_at, keeps_limits, overlaps_window}
 use Rattle.occurrence_windows.specs.Bounds.{first_wall, last_wall}
 use Rattle.occurrence_windows.specs.Listing.{IsAfter}
 use Rattle.occurrence_windows.proofs.Walking.{after_trans, beyond, after_by, after_cases, sooner_after}
@@ -58,30 +58,30 @@ pub some_holds : {A : Type 0} (test : A → Bool) (x : Option A) → option_map_
 some_holds test None h = cc
 some_holds test (Some p) h = (p, (refl, h))
 
--- what a meeting occurrence has
-pub record HasMet (at : ℤ → Option ℤ) (w : Window) (o : Occurrence) : Type 0 where
+-- what an overlapping occurrence has
+pub record HasOverlap (at : ℤ → Option ℤ) (w : Window) (o : Occurrence) : Type 0 where
   pub period : Period
   pub span : HasSpan at o period
   pub after : option_map_or (λ a. int_lt a period.to) w.after true ≡ true
   pub before : option_map_or (λ b. int_lt period.from b) w.before true ≡ true
 
-pub has_met : (at : ℤ → Option ℤ) (w : Window) (o : Occurrence) → meets_window at w o ≡ true → HasMet at w o
-unfolding meets_window keeps_limits
-has_met at w o h =
+pub has_overlap : (at : ℤ → Option ℤ) (w : Window) (o : Occurrence) → overlaps_window at w o ≡ true → HasOverlap at w o
+unfolding overlaps_window keeps_limits
+has_overlap at w o h =
     let x = some_holds (keeps_limits w) (span_at at o) h in
     let both = and_both (option_map_or (λ a. int_lt a x.0.to) w.after true) _ x.1.1 in
     record { period = x.0; span = has_span at o x.0 x.1.0; after = both.0; before = both.1 }
 
-pub shows : (at : ℤ → Option ℤ) (w : Window) (o : Occurrence) → AreInstants at → meets_window at w o ≡ true → IsShowing o.start
-shows at w o i h = let m = has_met at w o h in i.showing o.start m.period.from m.span.first
+pub shows : (at : ℤ → Option ℤ) (w : Window) (o : Occurrence) → AreInstants at → overlaps_window at w o ≡ true → IsShowing o.start
+shows at w o i h = let m = has_overlap at w o h in i.showing o.start m.period.from m.span.first
 
 low_by : (a : Option ℤ) (longest : ℕ) (start to : ℤ) → IsShowing start → option_map_or (λ x. int_lt x to) a true ≡ true → to ≤ℤ (start +ℤ pos longest +ℤ pos 93599) → first_wall a longest ≤ℤ start
 low_by None longest start to s h le = s.0
 low_by (Some a) longest start to s h le = let x = late_is a to h in omega (arith, signed_arith)
 
-pub low_holds : (at : ℤ → Option ℤ) (w : Window) (o : Occurrence) (longest : ℕ) → AreInstants at → wall_seconds o.length ≤ longest → meets_window at w o ≡ true → first_wall w.after longest ≤ℤ o.start
+pub low_holds : (at : ℤ → Option ℤ) (w : Window) (o : Occurrence) (longest : ℕ) → AreInstants at → wall_seconds o.length ≤ longest → overlaps_window at w o ≡ true → first_wall w.after longest ≤ℤ o.start
 low_holds at w o longest i le h =
-    let m = has_met at w o h in
+    let m = has_overlap at w o h in
     let near = i.near (o.start +ℤ pos (86400 * o.length.days)) m.span.last m.span.ends in
     let t = m.span.to in
     low_by w.after longest o.start m.period.to (shows at w o i h) m.after (omega (arith, signed_arith, near, t, le))
@@ -90,9 +90,9 @@ high_by : (b : Option ℤ) (start from : ℤ) → IsShowing start → option_map
 high_by None start from s h le = s.1
 high_by (Some b) start from s h le = let x = late_is from b h in omega (arith, signed_arith)
 
-pub high_holds : (at : ℤ → Option ℤ) (w : Window) (o : Occurrence) → AreInstants at → meets_window at w o ≡ true → o.start ≤ℤ last_wall w.before
+pub high_holds : (at : ℤ → Option ℤ) (w : Window) (o : Occurrence) → AreInstants at → overlaps_window at w o ≡ true → o.start ≤ℤ last_wall w.before
 high_holds at w o i h =
-    let m = has_met at w o h in
+    let m = has_overlap at w o h in
     let near = i.near o.start m.period.from m.span.first in
     high_by w.before o.start m.period.from (shows at w o i h) m.before (omega (arith, signed_arith, near))
 
@@ -108,12 +108,12 @@ AreSingle occurs = (a b : Occurrence) → occurs a → occurs b → a.start ≡ 
 
 module _ (s : Series) (at : ℤ → Option ℤ) (w : Window) where
   abbrev P : Occurrence → Type 0
-  P = IsMeeting s at w
+  P = IsOverlapping s at w
 
   pub onward_more : (from here : ℤ) (past seen : Option ℤ) (x : Occurrence) → IsOnward from past here seen → IsFirstOf (IsAfter (IsOccurrence s) here seen) (Some x) → IsOnward from past x.start (Some x.rid)
   onward_more from here past seen x old first = λ s r h. old s r (after_trans here seen x.start x.rid s r first.0.1 h)
 
-  pub left_more : (from here : ℤ) (past seen : Option ℤ) (x : Occurrence) → AreSingle (IsOccurrence s) → AreLeft P from past here seen → IsFirstOf (IsAfter (IsOccurrence s) here seen) (Some x) → meets_window at w x ≡ false
+  pub left_more : (from here : ℤ) (past seen : Option ℤ) (x : Occurrence) → AreSingle (IsOccurrence s) → AreLeft P from past here seen → IsFirstOf (IsAfter (IsOccurrence s) here seen) (Some x) → overlaps_window at w x ≡ false
       → AreLeft P from past x.start (Some x.rid)
   left_more from here past seen x single old first missed = λ o m late.
       beyond x o (first.1 o (m.0, old o m late)) (λ e f. let same = single o x m.0 first.0.0 e f in let y = rw same at m.1 in cc)
@@ -129,14 +129,14 @@ module _ (s : Series) (at : ℤ → Option ℤ) (w : Window) where
       let sooner = sooner_after o x (after_by o.start (Some o.rid) x.start x.rid (inl (omega (arith, signed_arith, le, past_it, e)))) in
       cc
 
-  pub found_first : (from here : ℤ) (past seen : Option ℤ) (x : Occurrence) → IsOnward from past here seen → AreLeft P from past here seen → IsFirstOf (IsAfter (IsOccurrence s) here seen) (Some x) → meets_window at w x ≡ true
+  pub found_first : (from here : ℤ) (past seen : Option ℤ) (x : Occurrence) → IsOnward from past here seen → AreLeft P from past here seen → IsFirstOf (IsAfter (IsOccurrence s) here seen) (Some x) → overlaps_window at w x ≡ true
       → IsFirstOf (IsAfter P from past) (Some x)
   found_first from here past seen x on old first is = (((first.0.0, is), on x.start x.rid first.0.1), λ o m. first.1 o (m.0.0, old o m.0 m.1))
 
 pub instant_near : (at : ℤ → Option ℤ) → AreInstants at → (w t : ℤ) → at w ≡ Some t → IsWithin 500000000000 t
 instant_near at i w t e = omega (arith, signed_arith, i.showing w t e, i.near w t e)
 
-pub at_first : (at : ℤ → Option ℤ) (w : Window) (o : Occurrence) (longest : ℕ) (low : ℤ) → AreInstants at → wall_seconds o.length ≤ longest → low ≡ first_wall w.after longest → meets_window at w o ≡ true → is_after low None o.start o.rid ≡ true
+pub at_first : (at : ℤ → Option ℤ) (w : Window) (o : Occurrence) (longest : ℕ) (low : ℤ) → AreInstants at → wall_seconds o.length ≤ longest → low ≡ first_wall w.after longest → overlaps_window at w o ≡ true → is_after low None o.start o.rid ≡ true
 at_first at w o longest low i le e h =
     let x = low_holds at w o longest i le h in
     after_by low None o.start o.rid (by_lt_z low o.start (λ lt. inl lt) (λ ge. inr (omega (arith, signed_arith, x, e, ge), refl)))
@@ -158,5 +158,5 @@ start_in occurs here high seen x first near top le = elim (after_cases here seen
 pub showing_near : (w : ℤ) → IsShowing w → IsWithin 400000000000 w
 showing_near w h = omega (arith, signed_arith, h)
 
-pub met_single : (s : Series) (at : ℤ → Option ℤ) (w : Window) → AreSingle (IsOccurrence s) → AreSingle (IsMeeting s at w)
-met_single s at w h = λ a b m n e f. h a b m.0 n.0 e f
+pub overlapping_single : (s : Series) (at : ℤ → Option ℤ) (w : Window) → AreSingle (IsOccurrence s) → AreSingle (IsOverlapping s at w)
+overlapping_single s at w h = λ a b m n e f. h a b m.0 n.0 e f

@@ -1,4 +1,4 @@
--- Events that are refused before the rule of their zone is known.
+-- Events that a filter skips before the rule of their zone is known.
 use Rattle.std.specs.Prelude.{◌≡◌, ◌==◌, ◌&&◌, ◌||◌, ◌+ℤ◌, ◌-ℤ◌, ℕ, ℤ, pos, List, length, Bool, true, false, not, Option, Some, None}
 use Rattle.std.specs.Option.{option_map_or}
 use Rattle.spec_filters.specs.Matches.{matches_by}
@@ -26,10 +26,10 @@ is_alone s = (length s.rules == 0) && (length s.exceptions == 0)
 abbrev pub widest : ℤ → ℕ → Period
 widest start seconds = record { from = start -ℤ FARTHEST; to = start +ℤ pos seconds +ℤ FARTHEST }
 
-abbrev pub may_meet : Option Series → Window → Bool
-may_meet None w = false
-may_meet (Some s) w = not (is_alone s) || keeps_limits w (widest s.start (wall_seconds s.length))
+abbrev pub may_overlap : Option Series → Window → Bool
+may_overlap None w = false
+may_overlap (Some s) w = not (is_alone s) || keeps_limits w (widest s.start (wall_seconds s.length))
 
--- an event with this series may meet the times that are kept of a filter
+-- an event with this series may overlap the times that are kept of a filter
 abbrev pub may_match : FilterInZone → Option Series → Bool
-may_match f series = option_map_or (λ t. may_meet series t.window) (times_of f.clock f.filter) true
+may_match f series = option_map_or (λ t. may_overlap series t.window) (times_of f.clock f.filter) true

@@ -1,7 +1,7 @@
 use Rattle.std.proofs.Common.{rules}
 use Rattle.jiff_tz.specs.PosixText.{tz_view}
 use Rattle.expanded_query.proofs.Sorted.{put_in_order, sorted_are, sorted_in_years}
-use Rattle.expanded_query.proofs.occurrences.occurrences_meeting.Goals as goal
+use Rattle.expanded_query.proofs.occurrences.occurrences_overlapping.Goals as goal
 
 pub returns-clause-value : goal.returns-clause-value
 returns-clause-value c =
