@@ -5,7 +5,7 @@ mod ending;
 mod words;
 
 use crate::ending::finish;
-use crate::words::words;
+use crate::words::program_words;
 use io_edge::streams::{ReaderSource, WriterSink};
 use io_edge::system_clock::SystemClock;
 use io_edge::system_files::SystemFiles;
@@ -16,7 +16,7 @@ use std::io;
 use std::process::ExitCode;
 
 fn main(rt: HostRuntime) -> ExitCode {
-    let words = match words(&rt) {
+    let words = match program_words(&rt) {
         Ok(words) => words,
         Err(status) => return finish(&rt, status),
     };

@@ -8,7 +8,7 @@ use std::env;
 use std::io::ErrorKind;
 
 /// The words after the program's name, or how the run ends without them. Takes memory for them.
-pub fn words(rt: &HostRuntime) -> Result<Vec<String>, Status> {
+pub fn program_words(rt: &HostRuntime) -> Result<Vec<String>, Status> {
     match env::args(rt) {
         Ok(all) => match behind_name(rt.alloc(), all) {
             Ok(words) => Ok(words),
