@@ -34,11 +34,11 @@ module _ (user : User) (moment : ℤ) (d : Data) (fronts fronts' : List Front) (
     summary s t (made_in steps) b.progress.chain,
     b.progress.fronts_grew,
     (
-      let few = few_asked d b.request b.is_asked in
-      let made = few_calls b.request steps rest b.progress.invoked in
-      let turns = turns_counted s t (made_in steps) b.progress.chain in
-      omega arith
-    ),
+        let few = few_asked d b.request b.is_asked in
+        let made = few_calls b.request steps rest b.progress.invoked in
+        let turns = turns_counted s t (made_in steps) b.progress.chain in
+        omega arith
+        ),
   )
 
   stopped : (e : DeskError) → IsStopped user moment d fronts fronts' s t e → Stands
@@ -49,17 +49,16 @@ module _ (user : User) (moment : ℤ) (d : Data) (fronts fronts' : List Front) (
       let begun = b.3 in
       let these = NextMeans user begun.request moment steps rest in
       let chain = begun.progress.chain in
-      let all = summaries_join s u t (made_in steps) [] (summary s u (made_in steps) chain) (stop_adds_nothing these moment e u t b.4) in
-      (
+      let all = summaries_join s u t (made_in steps) [] (summary s u (made_in steps) chain) (stop_adds_nothing these moment e u t b.4) in (
         made_in steps,
         subst (Summary s t) (append-nil (made_in steps)) all,
         begun.progress.fronts_grew,
         (
-          let few = few_asked d begun.request begun.is_asked in
-          let more = few_stopped user begun.request moment steps u t rest e begun.progress.invoked b.4 in
-          let turns = turns_counted s u (made_in steps) chain in
-          omega arith
-        ),
+            let few = few_asked d begun.request begun.is_asked in
+            let more = few_stopped user begun.request moment steps u t rest e begun.progress.invoked b.4 in
+            let turns = turns_counted s u (made_in steps) chain in
+            omega arith
+            ),
       )
 
 pub requests_stand : RequestsStandInHistories

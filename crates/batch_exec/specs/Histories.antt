@@ -9,7 +9,7 @@ use Rattle.spec_core.specs.declared.user.User.{User}
 use Rattle.spec_json.specs.Data.{Data}
 use Rattle.spec_json.specs.declared.tree.Tree.{Tree}
 
--- However answering it ended, the calls that were answered stand in the histories, each with its front, and nothing else was added; and the desk made
+-- However answering it ended, the calls that were answered stand in the histories, each with its front, and no other entry there is the desk's; and the desk made
 -- no more calls than a request may have (RFC 8620 section 2).
 abbrev pub RequestsStandInHistories : Type 0
 RequestsStandInHistories = (user : User) (moment : ℤ) (d : Data) (fronts fronts' : List Front) (s t : Shown) (r : Result Tree BatchError) → IsBatch user moment d fronts fronts' s t r

@@ -72,11 +72,11 @@ module _ {site : Site} where
   leaves_one {u} {v} {unwritten} t same one few = record {
     adds = subst (λ (x : Shown). Summary u x []) (sym same) (nothing_done u);
     turns = (
-      let turns = ap (λ (x : Shown). x.turns) same in
-      let made = ap (λ (ts : List Exchange). length (all_made ts)) one ∙ ap length (append-nil t.made) in
-      let count = ap length one in
-      omega arith
-    );
+        let turns = ap (λ (x : Shown). x.turns) same in
+        let made = ap (λ (ts : List Exchange). length (all_made ts)) one ∙ ap length (append-nil t.made) in
+        let count = ap length one in
+        omega arith
+        );
   }
 
   leaves_begun : {close : Bool} {t : Exchange} {e : DeskError} {u v : Shown} {unwritten : List Exchange} → unwritten ≡ t ∷ [] → Begun site close t e u v → Leaves u v unwritten
@@ -87,13 +87,13 @@ module _ {site : Site} where
       record {
         adds = stop_adds_nothing these (clamped b.moment) e u v r.stops;
         turns = (
-          let few = few_in t.message.body r.request r.is_request in
-          let more = few_stopped (user_at site b.user) r.request (clamped b.moment) r.steps u v r.rest e r.invoked r.stops in
-          let calls = ap length r.made_is in
-          let made = ap (λ (ts : List Exchange). length (all_made ts)) one ∙ ap length (append-nil t.made) in
-          let count = ap length one in
-          omega arith
-        );
+            let few = few_in t.message.body r.request r.is_request in
+            let more = few_stopped (user_at site b.user) r.request (clamped b.moment) r.steps u v r.rest e r.invoked r.stops in
+            let calls = ap length r.made_is in
+            let made = ap (λ (ts : List Exchange). length (all_made ts)) one ∙ ap length (append-nil t.made) in
+            let count = ap length one in
+            omega arith
+            );
       }
 
   module _ {most : ℕ} {x x' : Setting} {served : Served} (s : Serves site most x x' served) where
@@ -117,18 +117,17 @@ pub connections_stand : ConnectionsStandInHistories
 connections_stand site most x x' served s =
     let made = all_made (s.exchanges ++ s.unwritten) in
     let left = leaves_at s served.end s.rests s.how in
-    let all = summaries_join x.desk s.desk x'.desk made [] (summary x.desk s.desk made s.told.chain) left.adds in
-    (
+    let all = summaries_join x.desk s.desk x'.desk made [] (summary x.desk s.desk made s.told.chain) left.adds in (
       made,
       subst (Summary x.desk x'.desk) (append-nil made) all,
       sym s.told.added,
       (
-        let turns = turns_counted x.desk s.desk made s.told.chain in
-        let parts = ap length (flat_map-append (λ (t : Exchange). t.made) s.exchanges s.unwritten) ∙ length-append (all_made s.exchanges) (all_made s.unwritten) in
-        let few = all_fit_few most 0 s.exchanges s.fit in
-        let last = left.turns in
-        let count = s.count in
-        let room = s.room in
-        omega arith
-      ),
+          let turns = turns_counted x.desk s.desk made s.told.chain in
+          let parts = ap length (flat_map-append (λ (t : Exchange). t.made) s.exchanges s.unwritten) ∙ length-append (all_made s.exchanges) (all_made s.unwritten) in
+          let few = all_fit_few most 0 s.exchanges s.fit in
+          let last = left.turns in
+          let count = s.count in
+          let room = s.room in
+          omega arith
+          ),
     )

@@ -53,8 +53,7 @@ each_stands site t u [] e = (
 each_stands site t u (v ∷ vs) e =
     let s = e.0 in
     let first = connections_stand site MAX_MESSAGES (setting_of t v.handed.input v.handed.output) (setting_of s v.back.input v.back.output) v.back.served e.1 in
-    let rest = each_stands site s u vs e.2 in
-    (
+    let rest = each_stands site s u vs e.2 in (
       first.0 ++ rest.0,
       summaries_join t.desk s.desk u.desk first.0 rest.0 first.1 rest.1,
       map-append front_of first.0 rest.0 ∙ (λ k. first.2 k ++ rest.2 k),

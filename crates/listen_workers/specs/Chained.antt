@@ -16,7 +16,7 @@ abbrev pub CallsAreAChain : Type 0
 CallsAreAChain = (site : Site) (connections : ℕ) (l l' : ListenerShown) (t u : Tools) (done : WorkerDone) (w : Works site connections l l' t u done) → NoneIsCutShort w.visits
     → (made : List Made) × Chain t.desk u.desk made × (map front_of made ≡ flat_map (λ v. v.back.served.fronts.items) w.visits)
 
--- However they ended, the calls that were answered on a worker's connections stand in the histories of its desk's accounts, and nothing else was added.
+-- However they ended, the calls that were answered on a worker's connections stand in the histories of its desk's accounts, and no other entry there is the desk's.
 -- Their fronts, joined in order, are those of the connections, and the desk made no more calls than so many connections may.
 abbrev pub WorkersStandInHistories : Type 0
 WorkersStandInHistories = (site : Site) (connections : ℕ) (l l' : ListenerShown) (t u : Tools) (done : WorkerDone) (w : Works site connections l l' t u done)
