@@ -33,7 +33,7 @@ invariant_of-self c =
       kept_told = l.kept_told;
       told = rw (c.push_reserved.ensures.items, c.follow.ensures.staged, ← append_assoc)
           (tally_counted l.tally c.count.new.self _ c.args.change c.args.size l.told c.requires.fit.number c.requires.size c.count.ensures.entries c.count.ensures.size c.count.ensures.created);
-      series_read = one_read zones (history l) (staged l) c.push_reserved.new.self.items c.args.change l.series c.follow.new.series l.series_read more
+      series_read = one_read zones (history l) (staged l) c.push_reserved.new.self.items c.args.change l.series c.follow.new.log l.series_read more
           (c.in-Ok.ensures.series ∙ ap (λ s. l.series ++ s ∷ []) c.requires.series);
       kept_rooms = subst (AreRooms zones (history l)) (sym c.follow.ensures.kept) l.kept_rooms;
       rooms_now = one_staged zones (history l) (staged l) c.push_reserved.new.self.items c.args.change l.rooms.rooms c.follow.new.rooms.rooms l.rooms_now c.requires.fit new more after;
