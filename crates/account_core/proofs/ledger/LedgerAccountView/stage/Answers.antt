@@ -1,4 +1,4 @@
-use Rattle.std.proofs.Common.{◌++◌, ◌∷◌, [], ap, append_assoc, subst, sym, ◌∙◌}
+use Rattle.std.proofs.Common.{◌++◌, ◌∷◌, [], ap, append-nil, append_assoc, subst, sym, ◌∙◌}
 use Rattle.std.specs.Arc.{arc_value}
 use Rattle.account_core.proofs.Counting.{next, tally_counted}
 use Rattle.account_core.proofs.Numbers.{new_is_next}
@@ -33,8 +33,19 @@ invariant_of-self c =
       kept_told = l.kept_told;
       told = rw (c.push_reserved.ensures.items, c.follow.ensures.staged, ← append_assoc)
           (tally_counted l.tally c.count.new.self _ c.args.change c.args.size l.told c.requires.fit.number c.requires.size c.count.ensures.entries c.count.ensures.size c.count.ensures.created);
-      series_read = one_read zones (history l) (staged l) c.push_reserved.new.self.items c.args.change l.series c.follow.new.series l.series_read more
+      series_read = one_read zones (history l) (staged l) c.push_reserved.new.self.items c.args.change l.series c.follow.new.log l.series_read more
           (c.in-Ok.ensures.series ∙ ap (λ s. l.series ++ s ∷ []) c.requires.series);
       kept_rooms = subst (AreRooms zones (history l)) (sym c.follow.ensures.kept) l.kept_rooms;
       rooms_now = one_staged zones (history l) (staged l) c.push_reserved.new.self.items c.args.change l.rooms.rooms c.follow.new.rooms.rooms l.rooms_now c.requires.fit new more after;
     }
+
+pub returns-in-Ok-clause-ok : goal.returns-in-Ok-clause-ok
+returns-in-Ok-clause-ok c =
+    let l = c.args.self.now in
+    let more = c.push_reserved.ensures.items ∙ ap (λ ds. ds ++ c.args.change ∷ []) c.follow.ensures.staged in
+    ap (λ ds. history l ++ ds) more ∙ sym (append_assoc (history l) (staged l) (c.args.change ∷ []))
+
+pub returns-in-Err-clause-err : goal.returns-in-Err-clause-err
+returns-in-Err-clause-err c =
+    let cs = history c.args.self.now in
+    ap (λ ds. cs ++ ds) c.clear.ensures.items ∙ append-nil cs
