@@ -1,8 +1,7 @@
 -- What a series gives far behind its start it gives some cycles of the calendar earlier too.
-use Rattle.std.proofs.Common.{◌≡◌, ◌∙◌, ℕ, ◌+◌, ◌-◌, ◌*◌, ◌≤◌, ℤ, pos, ◌+ℤ◌, ◌-ℤ◌, ◌*ℤ◌, ◌≤ℤ◌, ◌<ℤ◌, ◌==◌, ◌&&◌, inl, inr, Bool, true, false, List, [], ◌∷◌, slice_get, zero, suc, Some, refl, sym, ap, arith, mul_assoc, mul_comm}
-use Rattle.std.specs.List.{list_all, list_any}
+use Rattle.std.proofs.Common.{◌≡◌, ◌∙◌, ℕ, ◌+◌, ◌-◌, ◌*◌, ◌≤◌, ℤ, pos, ◌+ℤ◌, ◌-ℤ◌, ◌*ℤ◌, ◌≤ℤ◌, ◌<ℤ◌, ◌==◌, inl, inr, Bool, true, false, List, [], ◌∷◌, refl, sym, ap, arith, mul_assoc, mul_comm}
+use Rattle.std.specs.List.{list_any}
 use Rattle.std.proofs.lemmas.Bool.Decides.{nat_tests, Decides-int_eq}
-use Rattle.std.proofs.lemmas.Option.{same_Some}
 use Rattle.jiff_core.proofs.SignedLemmas.{signed_arith}
 use borrow.Author.Differences.{up, down}
 use Rattle.spec_time.specs.Walls.{day_of_wall, is_in_years, second_of_wall}
@@ -11,10 +10,9 @@ use Rattle.spec_series.specs.Occurrences.{Covers, IsOccurrence, IsOfKinds, IsReg
 use Rattle.spec_series.specs.Periods.{is_in_phase, period_number}
 use Rattle.spec_series.specs.Places.{count_from}
 use Rattle.spec_series.specs.RuleSets.{is_by_end, is_counted, is_due, is_in_set, is_kept, is_within_count}
-use Rattle.spec_series.specs.SeriesLimits.{is_named, is_span_in_years, is_span_short, wall_seconds}
+use Rattle.spec_series.specs.SeriesLimits.{is_named, wall_seconds}
 use Rattle.spec_series.specs.declared.by_part.End.{End}
 use Rattle.spec_series.specs.declared.by_part.End.TheVariants.{Count, Never, Until}
-use Rattle.spec_series.specs.declared.exception.Exception.{Exception}
 use Rattle.spec_series.specs.declared.occurrence.Occurrence.{Occurrence}
 use Rattle.spec_series.specs.declared.rule.Rule.{Rule}
 use Rattle.spec_series.specs.declared.series.Series.{Series}

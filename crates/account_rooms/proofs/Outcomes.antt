@@ -1,16 +1,16 @@
 -- What comes of storing an event is a clash exactly where there is one.
-use Rattle.std.proofs.Common.{◌≡◌, ◌∙◌, ℕ, ℤ, Bool, true, false, ◌||◌, List, [], ◌∷◌, Option, Some, None, Result, Ok, Err, codes, is_some, option_and_then, option_map, refl, sym, ap, subst, if◌then◌else◌}
+use Rattle.std.proofs.Common.{◌≡◌, ◌∙◌, ℕ, ℤ, Bool, true, false, ◌||◌, List, [], ◌∷◌, Option, Some, None, Result, Ok, Err, codes, is_some, option_and_then, option_map, refl, sym, ap, subst}
 use Rattle.std.proofs.lemmas.Option.{same_Some}
 use Rattle.cal_model.specs.Calendar.{calendar_in, stored}
 use Rattle.cal_model.specs.CreatedIds.{object_named, resolved_object, resolved_patch}
 use Rattle.cal_model.specs.Occurrences.{occurrence_named}
-use Rattle.cal_model.specs.Operations.{Ground, Operation, destroy, update, after_tests, bad_of_calendar, bad_of_event, calendar_outcome, destroyed_outcome, exceeds_resources, has_other_id, is_in_use, object_outcome, outcome_of, patched_outcome, put, removal, if_holds, unless, unless_occurrence, updated_outcome, with_own_id, within_quota}
+use Rattle.cal_model.specs.Operations.{Ground, Operation, destroy, update, after_tests, bad_of_calendar, bad_of_event, calendar_outcome, destroyed_outcome, exceeds_resources, has_other_id, is_in_use, outcome_of, patched_outcome, put, removal, if_holds, unless, unless_occurrence, updated_outcome, with_own_id, within_quota}
 use Rattle.cal_model.specs.Quota.{exceeds_quota, size_of_object}
 use Rattle.cal_model.specs.declared.outcome.Outcome.{Outcome}
 use Rattle.cal_model.specs.declared.outcome.Outcome.TheVariants.{Accepted, Refused}
 use Rattle.cal_model.specs.declared.set_error.SetError.TheVariants.{CalendarHasEvent, Clashes, OverQuota}
 use Rattle.account_rooms.proofs.Resources.{FirstIn, at_resource, first_of_all, resource_at}
-use Rattle.account_rooms.specs.Storing.{ClashesAreExact, ClashesAreFirst, ClashesAreOfStoring, IsClashed, IsPatchedEvent, IsStoringAlone, IsToldClash, MeetsNoEarlier, OthersAreStored, Stores, WouldClash, outcome, stored_event, stored_members}
+use Rattle.account_rooms.specs.Storing.{ClashesAreExact, ClashesAreFirst, ClashesAreOfStoring, IsClashed, IsToldClash, MeetsNoEarlier, OthersAreStored, Stores, WouldClash, outcome, stored_event, stored_members}
 use Rattle.account_rooms.specs.Twice.{WouldCoverTwice}
 use Rattle.spec_history.specs.declared.entry.Change.{Change}
 use Rattle.spec_history.specs.History.{next_number}
@@ -186,7 +186,7 @@ module _ (g : Ground) (cs : List Change) where
     others_store (update id patch is_destroyed is_repeated) h =
         let event = whole (occurrence_named cs Event id) is_destroyed (updated_outcome g cs Event (resolved_patch created Event patch) is_destroyed is_repeated (object_named cs Event id)) h in
         let is = updated_is (resolved_patch created Event patch) is_destroyed is_repeated (object_named cs Event id) event.1 in
-        (is.n, (is.before, (is.d, (record { whole = event.0; named = is.named; applies = is.applies }, (is.stays, is.first)))))
+        (is.n, (is.before, (is.d, (record { whole = event.0; named = is.named; applies = is.applies }, is.stays, is.first))))
     others_store (destroy id) h =
         let event = whole (occurrence_named cs Event id) false (destroyed_outcome g cs Event (object_named cs Event id)) h in
         absurd (destroyed_not Event (object_named cs Event id) event.1)
@@ -197,7 +197,7 @@ module _ (g : Ground) (cs : List Change) where
 
     updates_store : (o : Operation) (n : ℕ) (before : Tree) (d : Data) → Stores cs created o n before d
         → outcome_of g cs Event created o ≡ outcome g cs n (Some before) (has_other_id Event n (members_in d)) (members_in d)
-    updates_store (update id patch is_destroyed is_repeated) n before d (is, (stays, first)) =
+    updates_store (update id patch is_destroyed is_repeated) n before d (is, stays, first) =
         let resolved = resolved_patch created Event patch in
         ap (λ t. unless_occurrence g cs t is_destroyed (updated_outcome g cs Event resolved is_destroyed is_repeated (object_named cs Event id))) is.whole
         ∙ ap (λ b. updated_outcome g cs Event resolved b is_repeated (object_named cs Event id)) stays

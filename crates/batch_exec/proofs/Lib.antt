@@ -3,3 +3,4 @@ pub mod Finishing
 pub mod Granting
 pub mod Responding
 pub mod Progressing
+mod HistoryLemmas

@@ -2,3 +2,4 @@ pub mod Answering
 pub mod Judgements
 pub mod Refusal
 pub mod Stepping
+pub mod Histories

@@ -4,6 +4,7 @@
 mod arguments;
 mod batch;
 mod call;
+pub mod laws;
 mod meaning;
 pub mod problem;
 mod request;

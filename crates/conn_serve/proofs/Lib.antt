@@ -3,3 +3,4 @@ pub mod Exchanging
 pub mod Messaging
 pub mod Standing
 pub mod Completeness
+pub mod HistoryLemmas

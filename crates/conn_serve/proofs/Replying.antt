@@ -3,6 +3,7 @@ use Rattle.std.proofs.Common.{◌≡◌, ℕ, ℤ, ◌≤◌, List, [], ◌∷�
 use Rattle.std.proofs.lemmas.Bool.Decides.{nat_tests}
 use Rattle.std.proofs.lemmas.List.{length-map}
 use Rattle.std.specs.Prelude.{◌<◌, if◌then◌else◌, not, nat_lt}
+use Rattle.spec_batch.proofs.CallCounts.{few_asked, few_calls}
 use Rattle.spec_batch.proofs.Chains.{still}
 use Rattle.spec_batch.specs.Asked.{Asked, asked, asked_by, checked, is_refused, refused}
 use Rattle.spec_core.specs.Capabilities.{is_capability}
@@ -31,34 +32,6 @@ use Rattle.spec_core.specs.declared.user.User.{User}
 use Rattle.conn_serve.specs.Answering.{IsProblem, IsOutcome}
 use Rattle.conn_serve.specs.declared.reply.RequestOutcome.{RequestOutcome}
 
--- ---- a request has few calls
-
-few_if : (all many : Bool) (e f : RequestError) (x r : Request) → (if not all then refused e else if many then refused f else asked x) ≡ asked r → (many ≡ false) × (asked x ≡ asked r)
-few_if false many e f x r is = absurd (true≢false (ap is_refused is))
-few_if true true e f x r is = absurd (true≢false (ap is_refused is))
-few_if true false e f x r is = (refl, is)
-
-abbrev request_in : Request → Asked → Request
-request_in d (asked r) = r
-request_in d (refused e) = d
-
-few_checked : (o : Option Request) (r : Request) → checked o ≡ asked r → length r.calls ≤ 16
-few_checked None r is = absurd (true≢false (ap is_refused is))
-few_checked (Some x) r is =
-    let parts = few_if (list_all is_capability x.using) (nat_lt MAX_CALLS_IN_REQUEST (length x.calls)) UnknownCapability (Limit CallsInRequest) x r is in
-    let same : x ≡ r = ap (request_in x) parts.1 in
-    let few : nat_lt MAX_CALLS_IN_REQUEST (length x.calls) ≡ false = parts.0 in
-    let most : length x.calls ≤ 16 = search (arith, nat_tests, few) in
-    subst (λ (y : Request). length y.calls ≤ 16) same most
-
-some_few : (o : Option Made) → length (some_of o) ≤ 1
-some_few None = omega arith
-some_few (Some m) = omega arith
-
-made_few : (steps : List Step) → length (made_in steps) ≤ length steps
-made_few [] = omega arith
-made_few (s ∷ ss) = (let e = length-append (some_of s.made) (made_in ss) in let one = some_few s.made in let rest = made_few ss in omega arith)
-
 module _ {user : User} {moment : ℤ} where
   -- ---- nothing was called
 
@@ -86,11 +59,7 @@ module _ {user : User} {moment : ℤ} where
 
     few_made : (u : Shown) (steps : List Step) (rest : List Invocation) → IsBegun user moment d f0 f1 d0 u steps rest → length (made_in steps) ≤ 16
     few_made u steps rest b =
-        let few = few_checked (request_of d) b.request b.is_asked in
-        let each = made_few steps in
-        let whole = ap length b.progress.invoked ∙ length-append (map (λ (x : Step). x.invocation) steps) rest in
-        let count = length-map steps (λ (x : Step). x.invocation) in
-        omega arith
+        (let few = few_asked d b.request b.is_asked in let made = few_calls b.request steps rest b.progress.invoked in omega arith)
 
   module _ (d : Data) {f0 f1 : List Front} {d0 d1 : Shown} where
     pub batch_reply : (tree : Tree) → IsBatch user moment d f0 f1 d0 d1 (Ok tree) → IsOutcome user moment (asked_by d) f0 f1 d0 d1 (Ok (record { tree = tree; is_refusal = false }))

@@ -1,5 +1,6 @@
 //! What follows of a connection that was served. Laws; they do nothing.
 ghost use Rattle.conn_serve.specs.Complete.{FaultlessConnectionsAreAnswered, FaultlessConnectionsAreDetermined, ReadFaultsComeLast};
+ghost use Rattle.conn_serve.specs.Histories.{ConnectionsStandInHistories};
 
 /// Where the counts of faults of source and sink did not rise and the desk may make more calls, a connection ran out of memory, or all
 /// its messages were answered, with nothing else written, and it ended as its bytes do.
@@ -17,4 +18,11 @@ pub fn read_faults_come_last()
 /// its site, its sink, its desk and its clock are.
 pub fn faultless_connections_are_determined()
     ensures { FaultlessConnectionsAreDetermined }
+{}
+
+/// However a connection ended, the calls that were answered on it stand in the histories of the desk's accounts, each with its front, and
+/// no other entry there is the desk's. It made at most 16 calls for each of the messages.
+#[tactic(auto, using(crate::proofs::HistoryLemmas::connections_stand))]
+pub fn connections_stand_in_histories()
+    ensures { ConnectionsStandInHistories }
 {}

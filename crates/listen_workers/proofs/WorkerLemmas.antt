@@ -3,75 +3,32 @@ use Rattle.std.proofs.Common.{◌≡◌, ℕ, ℤ, ◌+◌, ◌*◌, ◌<◌, �
 use Rattle.std.proofs.lemmas.List.{length-append, map-append}
 use mathlib.Core.Logic.{inl, inr}
 use Rattle.conn_serve.proofs.Completeness.{How, spent_turns}
+use Rattle.conn_serve.proofs.HistoryLemmas.{connections_stand}
 use Rattle.io_edge.specs.Outside.{Rose, SinkShown, SourceShown}
 use Rattle.listen_edge.specs.Listening.{Connection, Connections, ListenerShown, Returned, handing_out, taking_back}
 use Rattle.listen_edge.specs.declared.job.WorkerEnd.{WorkerEnd}
 use Rattle.listen_edge.specs.declared.job.WorkerEnd.TheVariants.{AcceptFault}
-use Rattle.spec_batch.proofs.Chains.{accounts_stay, turns_counted}
-use Rattle.spec_batch.specs.Batch.{NextMeans}
-use Rattle.spec_batch.specs.Chain.{Shown, Stops}
-use Rattle.spec_batch.specs.declared.desk.DeskError.{DeskError}
-use Rattle.spec_calls.specs.declared.call.Call.{Call}
-use Rattle.spec_batch.specs.declared.desk.DeskError.TheVariants as reason
-use Rattle.spec_connection.specs.Exchanges.{Begun, Exchange, all_made, called, uncalled}
-use Rattle.spec_connection.specs.Serving.{Rests, Serves, Setting}
+use Rattle.spec_batch.specs.Chain.{Made, Summary, front_of}
+use Rattle.spec_connection.specs.Serving.{Serves, Setting}
 use Rattle.spec_connection.specs.declared.served.ConnEnd.{ConnEnd}
 use Rattle.spec_connection.specs.declared.served.ConnEnd.TheVariants as end
 use Rattle.spec_connection.specs.declared.served.Served.{Served}
 use Rattle.spec_connection.specs.declared.served.TheConstants.{MAX_MESSAGES}
 use Rattle.spec_history.specs.MostTurns.{most_turns}
-use Rattle.spec_site.specs.Configuration.{Site, user_at}
-use Rattle.spec_time.specs.Moments.{clamped}
+use Rattle.spec_site.specs.Configuration.{Site}
 use Rattle.listen_workers.specs.Working.{WorkerHow, MAX_CALLS, ServesEach, Tools, Visit, Works, setting_of, with_visits}
 
 -- ---- what one connection makes of the desk
 
--- the desk has as many accounts as before, and at most one call more was made that wasn't answered
-pub record IsLeft (u v : Shown) : Type 0 where
-  pub accounts : v.accounts ≡ u.accounts
-  pub turns : v.turns ≤ u.turns + 1
-
-left_same : {u v : Shown} → v ≡ u → IsLeft u v
-left_same same = record { accounts = ap (λ (d : Shown). d.accounts) same; turns = (let e = ap (λ (d : Shown). d.turns) same in omega (arith, e)) }
-
-left_stop : (these : ℕ → Call → Type 0) (moment : ℤ) (e : DeskError) (u v : Shown) → Stops these moment e u v → IsLeft u v
-left_stop these moment e u v (inl p) = left_same p.1
-left_stop these moment reason.NoMemory u v (inr p) = record { accounts = p.3.1.beside.accounts; turns = (let e = p.3.1.beside.turns in omega (arith, e)) }
-left_stop these moment reason.PassSpent u v (inr p) = left_same p.3.1
-
-left_begun : {site : Site} {close : Bool} {t : Exchange} {e : DeskError} {u v : Shown} → Begun site close t e u v → IsLeft u v
-left_begun (uncalled is moments none same) = left_same same
-left_begun {site} {close} {t} {e} {u} {v} (called b) =
-    (let r = b.begins in left_stop (NextMeans (user_at site b.user) r.request (clamped b.moment) r.steps r.rest) (clamped b.moment) e u v r.stops)
-
 module _ {site : Site} {x x' : Setting} {served : Served} (s : Serves site MAX_MESSAGES x x' served) where
-  left_at : (e : ConnEnd) → Rests e s.desk x'.desk → How s e → IsLeft s.desk x'.desk
-  left_at end.Closed r how = left_same r
-  left_at end.CloseAsked r how = left_same r
-  left_at (end.BadHead status) r how = left_same r
-  left_at end.Truncated r how = left_same r
-  left_at end.Quota r how = left_same r
-  left_at end.ReadFault r how = left_same r
-  left_at end.WriteFault r how = left_same r
-  left_at end.PassSpent r how = left_begun how.0.begun
-  left_at end.NoMemory r (inl unanswered, open_) = left_begun unanswered.begun
-  left_at end.NoMemory r (inr idle, open_) = left_same idle.2
-
-  left : IsLeft s.desk x'.desk
-  left = left_at served.end s.rests s.how
+  abbrev stands : (made : List Made) × Summary x.desk x'.desk made × (map front_of made ≡ served.fronts.items) × (x'.desk.turns ≤ x.desk.turns + MAX_CALLS)
+  stands = connections_stand site MAX_MESSAGES x x' served s
 
   pub same_accounts : x'.desk.accounts ≡ x.desk.accounts
-  same_accounts = left.accounts ∙ accounts_stay x.desk s.desk (all_made (s.exchanges ++ s.unwritten)) s.told.chain
+  same_accounts = stands.1.accounts
 
   pub few_calls : x'.desk.turns ≤ x.desk.turns + MAX_CALLS
-  few_calls =
-      let few = s.told.few in
-      let made = turns_counted x.desk s.desk (all_made (s.exchanges ++ s.unwritten)) s.told.chain in
-      let all = length-append s.exchanges s.unwritten in
-      let count = s.count in
-      let last = left.turns in
-      let room : served.requests + length s.unwritten ≤ 10000 = s.room in
-      omega arith
+  few_calls = stands.3
 
   pub spent_end : served.end ≡ end.PassSpent → x'.desk.turns ≡ most_turns
   spent_end is = (let how : How s end.PassSpent = subst (How s) is s.how in spent_turns how.0.begun)

@@ -1,5 +1,5 @@
 -- What a worker does, whatever bytes come on its connections and whatever others do meanwhile.
-use Rattle.std.specs.Prelude.{◌≡◌, ℕ, ℤ, ◌<◌, ◌≤◌, ◌++◌, List, [], ◌∷◌, Option, length, map, option_map}
+use Rattle.std.specs.Prelude.{◌≡◌, ℕ, ℤ, ◌*◌, ◌<◌, ◌≤◌, ◌++◌, List, [], ◌∷◌, Option, length, map, option_map}
 use Rattle.io_edge.specs.Outside.{Rose, SinkShown, SourceShown}
 use Rattle.listen_edge.specs.Listening.{Connection, Connections, ListenerShown, Returned}
 use Rattle.listen_edge.specs.declared.job.WorkerDone.{WorkerDone}
@@ -8,12 +8,13 @@ use Rattle.listen_edge.specs.declared.job.WorkerEnd.TheVariants.{AcceptFault, Al
 use Rattle.spec_batch.specs.Chain.{Shown}
 use Rattle.spec_connection.specs.Serving.{Serves, Setting}
 use Rattle.spec_connection.specs.declared.served.TheConstants.{MAX_MESSAGES}
+use Rattle.spec_core.specs.declared.limits.TheConstants.{MAX_CALLS_IN_REQUEST}
 use Rattle.spec_history.specs.MostTurns.{most_turns}
 use Rattle.spec_site.specs.Configuration.{Site}
 
--- the most turns of a desk that one connection takes: the calls of its messages, and one that wasn't answered
+-- the most turns of a desk that one connection takes: the calls of its messages, with one that isn't answered
 abbrev pub MAX_CALLS : ℕ
-MAX_CALLS = 160001
+MAX_CALLS = MAX_CALLS_IN_REQUEST * MAX_MESSAGES
 
 -- what is shown of what all connections of a worker use
 pub record Tools : Type 0 where

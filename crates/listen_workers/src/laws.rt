@@ -1,8 +1,15 @@
 //! What follows of what is promised of a worker. Laws; they do nothing.
-ghost use Rattle.listen_workers.specs.Chained.{CallsAreAChain};
+ghost use Rattle.listen_workers.specs.Chained.{CallsAreAChain, WorkersStandInHistories};
 
 /// What the connections of a worker asked of its desk is one chain, and its fronts are theirs, joined in order: where the desk answered all that it was asked.
 #[tactic(auto, using(crate::proofs::ChainLemmas::calls_are_a_chain))]
 pub fn calls_are_a_chain()
     ensures { CallsAreAChain }
+{}
+
+/// However its connections ended, the calls that were answered on them stand in the histories of its desk's accounts, with the fronts of the
+/// connections, joined in order, and no other entry there is the desk's. It made at most 160,000 calls for each connection.
+#[tactic(auto, using(crate::proofs::ChainLemmas::workers_stand))]
+pub fn workers_stand_in_histories()
+    ensures { WorkersStandInHistories }
 {}

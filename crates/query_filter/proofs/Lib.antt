@@ -1,4 +1,5 @@
 pub mod AsciiLemmas
+pub mod LengthLemmas
 pub mod ConditionLemmas
 pub mod ClockLemmas
 pub mod KeptLemmas

@@ -1,10 +1,11 @@
 //! The instants that the times of a filter stand for.
-ghost use Rattle.std.specs.Prelude.{◌≡◌, IfSome, option_and_then, true};
+ghost use Rattle.std.specs.Prelude.{◌≡◌, ◌≤◌, IfSome, option_and_then, true, vec_len};
 ghost use Rattle.jiff_core.specs.Calendar.{IsWithin};
 ghost use Rattle.jiff_tz.specs.PosixText.{tz_view};
 ghost use Rattle.spec_time.specs.LocalTimes.{local_in};
 ghost use Rattle.spec_windows.specs.Clocks.{instant_in};
 ghost use Rattle.query_filter.specs.TimesRead.{are_times};
+ghost use Rattle.query_filter.specs.declared.clock.TheConstants.{MAX_KEPT};
 
 use jiff_tz::posix::TimeZone;
 use spec_json::text::Text;
@@ -28,6 +29,7 @@ struct TimeRead {
 pub(crate) struct Clock {
     rule: TimeZone,
     times: Vec<TimeRead>,
+    ghost are_few: { vec_len times ≤ MAX_KEPT },
 }
 
 impl Model for Clock {

@@ -7,6 +7,7 @@ mod clock;
 mod condition;
 mod conditions;
 mod filter;
+mod lengths;
 mod members;
 mod needles;
 mod sought;

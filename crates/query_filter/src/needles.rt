@@ -1,8 +1,10 @@
 //! Texts that are looked for, with their case folded.
-ghost use Rattle.std.specs.Prelude.{◌≡◌, IfOk, IfSome};
+ghost use Rattle.std.specs.Prelude.{◌≡◌, ◌≤◌, IfOk, IfSome, vec_len};
 ghost use Rattle.folded_text.specs.Contains.{contains, folded};
+ghost use Rattle.query_filter.specs.declared.needles.TheConstants.{MAX_KEPT};
 
 use crate::ascii::stands_in;
+use crate::lengths::is_too_short;
 use folded_text::FoldedText;
 use spec_json::text::Text;
 use std::alloc::{AllocError, Global};
@@ -25,6 +27,7 @@ struct Needle {
 #[derive(Drop)]
 pub(crate) struct Needles {
     items: Vec<Needle>,
+    ghost are_few: { vec_len items ≤ MAX_KEPT },
 }
 
 impl Needles {
@@ -71,6 +74,9 @@ impl Needles {
         let sought = needle.as_str();
         if sought.len() <= LONGEST_UNFOLDED && sought.is_ascii() && text.is_ascii() {
             return Ok(stands_in(text.as_bytes(), sought.as_bytes()));
+        }
+        if is_too_short(text, sought) {
+            return Ok(false);
         }
         match self.find(needle) {
             Some(in_fold) => in_fold.is_in(alloc, text),

@@ -6,7 +6,7 @@ use Rattle.std.proofs.Math.Seq.{drop-append_seam, take-append_seam}
 use mathlib.Core.Logic.{dite}
 use native.Mathlib.Decide.{ℕ_discrete}
 use Rattle.spec_history.specs.Base.{Base}
-use Rattle.spec_batch.specs.Chain.{Rules, Shown, Made, on, stamp_of, added_by, Stands, Stand, SummaryOn, Summary, IsStep, Chain, Answered, Stops}
+use Rattle.spec_batch.specs.Chain.{Rules, Shown, Made, on, stamp_of, added_by, Stands, Stand, SummaryOn, Summary, IsStep, Chain, Answered, Missed, Stops}
 use Rattle.spec_history.specs.MostTurns.{most_turns}
 use Rattle.spec_history.specs.Signed.{AreSigned, written_by}
 use Rattle.spec_calls.specs.declared.call.Call.{Call}
@@ -170,10 +170,11 @@ made_of t k call moment reply = record { account = k; turn = t.last k; call = ca
 none_same : (rules : Rules) (base : Base) (author : ℕ) (b a : List Entry) (late upto : ℕ) → a ≡ b → late ≤ upto → SummaryOn rules base author b a late upto []
 none_same rules base author b a late upto is later = subst (λ (l : List Entry). SummaryOn rules base author b l late upto []) (append-nil b ∙ sym is) (none_on rules base author b [] late upto refl later)
 
-nothing_done : (s : Shown) → Summary s s []
+-- no call, and nothing of others
+pub nothing_done : (s : Shown) → Summary s s []
 nothing_done s = record { accounts = refl; rules = refl; base = λ k. refl; author = λ k. refl; each = λ k. none_same s.rules (s.base k) (s.author k) (s.seen k) (s.seen k) (s.last k) (s.last k) refl (omega arith) }
 
-summaries_join : (s t u : Shown) (xs ys : List Made) → Summary s t xs → Summary t u ys → Summary s u (xs ++ ys)
+pub summaries_join : (s t u : Shown) (xs ys : List Made) → Summary s t xs → Summary t u ys → Summary s u (xs ++ ys)
 summaries_join s t u xs ys p q = record {
   accounts = q.accounts ∙ p.accounts;
   rules = q.rules ∙ p.rules;
@@ -213,3 +214,25 @@ one_step s t m p =
 pub summary : (s t : Shown) (ms : List Made) → Chain s t ms → Summary s t ms
 summary s t [] p = subst (λ (x : Shown). Summary s x []) (sym p) (nothing_done s)
 summary s t (m ∷ ms) p = summaries_join s p.0 t (m ∷ []) ms (one_step s p.0 m p.1) (summary p.0 t ms p.2)
+
+-- ---- what follows where a desk answers no more
+
+-- a call that found no memory added nothing, and others may have
+missed_call : (s t : Shown) (k : ℕ) → Missed s t k → Summary s t []
+missed_call s t k g = record {
+  accounts = g.beside.accounts;
+  rules = g.beside.rules;
+  base = g.beside.base;
+  author = g.beside.author;
+  each = λ j. dite (ℕ_discrete k j)
+      (λ e. subst (λ (i : ℕ). SummaryOn s.rules (s.base i) (s.author i) (s.seen i) (t.seen i) (s.last i) (t.last i) []) e
+      (subst (λ (l : List Entry). SummaryOn s.rules (s.base k) (s.author k) (s.seen k) l (s.last k) (t.last k) []) (sym g.begins.1)
+      (none_on s.rules (s.base k) (s.author k) (s.seen k) g.begins.0 (s.last k) (t.last k) g.begins.2 g.later)))
+      (λ ne. none_same s.rules (s.base j) (s.author j) (s.seen j) (t.seen j) (s.last j) (t.last j) (g.beside.seen j (λ e. ne (sym e))) (g.beside.last j (λ e. ne (sym e))));
+}
+
+-- a desk that answered no more added nothing
+pub stop_adds_nothing : (these : ℕ → Call → Type 0) (moment : ℤ) (e : DeskError) (s t : Shown) → Stops these moment e s t → Summary s t []
+stop_adds_nothing these moment e s t (inl p) = subst (λ (x : Shown). Summary s x []) (sym p.1) (nothing_done s)
+stop_adds_nothing these moment NoMemory s t (inr p) = missed_call s t p.0 p.3.1
+stop_adds_nothing these moment PassSpent s t (inr p) = subst (λ (x : Shown). Summary s x []) (sym p.3.1) (nothing_done s)
