@@ -17,8 +17,8 @@ MAX_GROWTH = 1.5
 class Connection:
     """One kept connection to a program of its own, whose accounts are fresh."""
 
-    def __init__(self, binary):
-        words = [binary, "stdio", "--config", CONFIGURATION]
+    def __init__(self, binary, configuration=CONFIGURATION):
+        words = [binary, "stdio", "--config", configuration]
         self.program = subprocess.Popen(words, stdin=subprocess.PIPE, stdout=subprocess.PIPE, env=service_environment())
 
     def send(self, call, times):

@@ -26,8 +26,8 @@ def write_messages(count, out):
         out.write(head.encode() + body)
 
 
-def next_body(stream):
-    """The body of the message that comes next, None where none comes."""
+def next_length(stream):
+    """How many bytes the body has of the message that comes next, whose head is taken; None where none comes."""
     length = None
     line = stream.readline()
     while line not in (b"\r\n", b""):
@@ -35,6 +35,12 @@ def next_body(stream):
         if name.lower() == b"content-length":
             length = int(value)
         line = stream.readline()
+    return length
+
+
+def next_body(stream):
+    """The body of the message that comes next, None where none comes."""
+    length = next_length(stream)
     return None if length is None else stream.read(length)
 
 

@@ -46,39 +46,40 @@ replies_few user moment bytes (asked r) made reply is h =
     omega arith
 replies_few user moment bytes (refused e) made reply is h = (let count = ap length h.0 in omega arith)
 
+fits_few : {site : Site} {close : Bool} {t : Exchange} → Fits site close t → length t.made ≤ MAX_CALLS_IN_REQUEST
+fits_few (at_once f) = (let count = ap length f.uncalled in omega arith)
+fits_few {site} {close} {t} (by_calls f) = replies_few (user_at site f.user) (clamped f.moment) t.message.body (asked_in t.message.body) t.made f.reply refl f.replied
+
+all_fit_few : (site : Site) (most before : ℕ) (ts : List Exchange) → AllFit site most before ts → length (all_made ts) ≤ MAX_CALLS_IN_REQUEST * length ts
+all_fit_few site most before [] fit = omega arith
+all_fit_few site most before (t ∷ ts) fit =
+    (let one = fits_few fit.0 in let rest = all_fit_few site most (suc before) ts fit.1 in let both = length-append t.made (all_made ts) in omega arith)
+
+-- ---- what stands behind the messages that were answered
+
+-- the desk added nothing more, and with its last call it made no more than these messages may have
+record Leaves (u v : Shown) (unwritten : List Exchange) : Type 0 where
+  pub adds : Summary u v []
+  pub turns : v.turns + length (all_made unwritten) ≤ u.turns + MAX_CALLS_IN_REQUEST * length unwritten
+
+leaves_none : {u v : Shown} {unwritten : List Exchange} → v ≡ u → unwritten ≡ [] → Leaves u v unwritten
+leaves_none {u} {v} {unwritten} same none = record {
+  adds = subst (λ (x : Shown). Summary u x []) (sym same) (nothing_done u);
+  turns = (let turns = ap (λ (x : Shown). x.turns) same in let made = ap (λ (ts : List Exchange). length (all_made ts)) none in omega arith);
+}
+
+leaves_one : {u v : Shown} {unwritten : List Exchange} (t : Exchange) → v ≡ u → unwritten ≡ t ∷ [] → length t.made ≤ MAX_CALLS_IN_REQUEST → Leaves u v unwritten
+leaves_one {u} {v} {unwritten} t same one few = record {
+  adds = subst (λ (x : Shown). Summary u x []) (sym same) (nothing_done u);
+  turns = (
+      let turns = ap (λ (x : Shown). x.turns) same in
+      let made = ap (λ (ts : List Exchange). length (all_made ts)) one ∙ ap length (append-nil t.made) in
+      let count = ap length one in
+      omega arith
+      );
+}
+
 module _ {site : Site} where
-  fits_few : {close : Bool} {t : Exchange} → Fits site close t → length t.made ≤ MAX_CALLS_IN_REQUEST
-  fits_few (at_once f) = (let count = ap length f.uncalled in omega arith)
-  fits_few {close} {t} (by_calls f) = replies_few (user_at site f.user) (clamped f.moment) t.message.body (asked_in t.message.body) t.made f.reply refl f.replied
-
-  all_fit_few : (most before : ℕ) (ts : List Exchange) → AllFit site most before ts → length (all_made ts) ≤ MAX_CALLS_IN_REQUEST * length ts
-  all_fit_few most before [] fit = omega arith
-  all_fit_few most before (t ∷ ts) fit = (let one = fits_few fit.0 in let rest = all_fit_few most (suc before) ts fit.1 in let both = length-append t.made (all_made ts) in omega arith)
-
-  -- ---- what stands behind the messages that were answered
-
-  -- the desk added nothing more, and with its last call it made no more than these messages may have
-  record Leaves (u v : Shown) (unwritten : List Exchange) : Type 0 where
-    pub adds : Summary u v []
-    pub turns : v.turns + length (all_made unwritten) ≤ u.turns + MAX_CALLS_IN_REQUEST * length unwritten
-
-  leaves_none : {u v : Shown} {unwritten : List Exchange} → v ≡ u → unwritten ≡ [] → Leaves u v unwritten
-  leaves_none {u} {v} {unwritten} same none = record {
-    adds = subst (λ (x : Shown). Summary u x []) (sym same) (nothing_done u);
-    turns = (let turns = ap (λ (x : Shown). x.turns) same in let made = ap (λ (ts : List Exchange). length (all_made ts)) none in omega arith);
-  }
-
-  leaves_one : {u v : Shown} {unwritten : List Exchange} (t : Exchange) → v ≡ u → unwritten ≡ t ∷ [] → length t.made ≤ MAX_CALLS_IN_REQUEST → Leaves u v unwritten
-  leaves_one {u} {v} {unwritten} t same one few = record {
-    adds = subst (λ (x : Shown). Summary u x []) (sym same) (nothing_done u);
-    turns = (
-        let turns = ap (λ (x : Shown). x.turns) same in
-        let made = ap (λ (ts : List Exchange). length (all_made ts)) one ∙ ap length (append-nil t.made) in
-        let count = ap length one in
-        omega arith
-        );
-  }
-
   leaves_begun : {close : Bool} {t : Exchange} {e : DeskError} {u v : Shown} {unwritten : List Exchange} → unwritten ≡ t ∷ [] → Begun site close t e u v → Leaves u v unwritten
   leaves_begun {close} {t} one (uncalled is moments none same) = leaves_one t same one (let count = ap length none in omega arith)
   leaves_begun {close} {t} {e} {u} {v} {unwritten} one (called b) =
@@ -124,7 +125,7 @@ connections_stand site most x x' served s =
       (
           let turns = turns_counted x.desk s.desk made s.told.chain in
           let parts = ap length (flat_map-append (λ (t : Exchange). t.made) s.exchanges s.unwritten) ∙ length-append (all_made s.exchanges) (all_made s.unwritten) in
-          let few = all_fit_few most 0 s.exchanges s.fit in
+          let few = all_fit_few site most 0 s.exchanges s.fit in
           let last = left.turns in
           let count = s.count in
           let room = s.room in

@@ -22,7 +22,6 @@ pub fn faultless_connections_are_determined()
 
 /// However a connection ended, the calls that were answered on it stand in the histories of the desk's accounts, each with its front, and
 /// no other entry there is the desk's. It made at most 16 calls for each of the messages.
-#[tactic(auto, using(crate::proofs::HistoryLemmas::connections_stand))]
 pub fn connections_stand_in_histories()
     ensures { ConnectionsStandInHistories }
 {}

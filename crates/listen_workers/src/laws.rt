@@ -9,7 +9,6 @@ pub fn calls_are_a_chain()
 
 /// However its connections ended, the calls that were answered on them stand in the histories of its desk's accounts, with the fronts of the
 /// connections, joined in order, and no other entry there is the desk's. It made at most 160,000 calls for each connection.
-#[tactic(auto, using(crate::proofs::ChainLemmas::workers_stand))]
 pub fn workers_stand_in_histories()
     ensures { WorkersStandInHistories }
 {}
