@@ -14,10 +14,20 @@ import subprocess
 import sys
 import tempfile
 
-from peers import free_port, is_answered
+sys.dont_write_bytecode = True
+from peers import free_port, is_answered  # noqa: E402
 
 RUNS = "examples/exits.json"
+PROGRAM = "crates/jmapd/out/jmapd"
 SECONDS = 20
+
+
+def build():
+    """Proves and builds the program, where it isn't built."""
+    if not os.path.exists(PROGRAM):
+        with open("examples/first.json", "rb") as request:
+            subprocess.run(["rt", "run", "--", "batch"], cwd="crates/jmapd", stdin=request, stdout=subprocess.DEVNULL, check=True)
+    return PROGRAM
 
 
 def input_of(run):
@@ -70,7 +80,7 @@ def listen_ends(program, folder):
 
 
 def main():
-    program = os.path.abspath(sys.argv[1] if len(sys.argv) > 1 else "crates/jmapd/out/jmapd")
+    program = os.path.abspath(sys.argv[1] if len(sys.argv) > 1 else build())
     with open(RUNS, encoding="utf-8") as file:
         table = json.load(file)
     bad = 0

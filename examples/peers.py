@@ -126,6 +126,13 @@ def first_byte(peer):
         return b""
 
 
+def is_answered_late(peer):
+    """The answer to a message that was sent before; the worker is free for another peer then."""
+    with peer:
+        peer.settimeout(10)
+        return first_byte(peer) == b"H"
+
+
 def no_more_files(server, port):
     """Peers that come while the process may open no more files. A worker that waits in `accept` has its file already: it can't share that connection, and ends it."""
     kind = resource.RLIMIT_NOFILE
@@ -139,13 +146,10 @@ def no_more_files(server, port):
         came = [first_byte(peer) for peer in peers]
     finally:
         resource.prlimit(server.pid, kind, (soft, most))
-    waiting = [peer for peer, byte in zip(peers, came) if byte is None]
-    for peer in waiting:
-        peer.settimeout(10)
-    answered = [first_byte(peer) for peer in waiting]
+    answered = [is_answered_late(peer) for peer, byte in zip(peers, came) if byte is None]
     for peer in peers:
         peer.close()
-    return b"H" not in came and bool(waiting) and all(byte == b"H" for byte in answered)
+    return b"H" not in came and bool(answered) and all(answered)
 
 
 def silent_peer(program, bad):

@@ -1,5 +1,5 @@
 //! Accounts whose calls meet.
-ghost use Rattle.std.specs.Prelude.{◌≡◌, IfOk};
+ghost use Rattle.std.specs.Prelude.{◌≡◌, ◌<◌, ◌^◌, IfOk, length};
 ghost use Rattle.account_desk.specs.SoleDesk.{fresh_accounts};
 
 use crate::meeting::Meeting;
@@ -113,6 +113,7 @@ pub fn gated_accounts(
     meeting: &Arc<Meeting>,
 ) -> Result<Vec<Gated>, AllocError>
     ensures fresh { IfOk result (λ gated. gated.items ≡ fresh_accounts site.now) }
+    ensures few { IfOk result (λ gated. length gated.items < 2 ^ 32) }
 {
     let accounts = fresh_accounts(alloc, site)?;
     gated_by(alloc, accounts, meeting)
@@ -124,6 +125,7 @@ fn gated_by(
     accounts: Vec<Account>,
     meeting: &Arc<Meeting>,
 ) -> Result<Vec<Gated>, AllocError>
+    requires { length accounts.items < 2 ^ 32 }
     ensures { IfOk result (λ gated. gated.items ≡ accounts.items) }
 {
     let mut gated = Vec::new(alloc);
