@@ -102,7 +102,7 @@ missing_is o name bytes has missing =
     ap loaded (sym has.2 ∙ subst (λ (f : Option (List (List ℕ × List ℕ))). IfSome f (λ files. file_named files name ≡ None)) has.1 missing)
 
 module _ (asked : Option Command) (o o' : OpenerShown) (bytes : Option (List ℕ)) (has : HasConfiguration (configuration_named asked) o bytes) (quiet : Rose o.faults o'.faults → ⊥) where
-  of_command : (c : Option Command) → asked ≡ c → start_of_command bytes (asked) ≡ start_of_command bytes c
+  of_command : (c : Option Command) → asked ≡ c → start_of_command bytes asked ≡ start_of_command bytes c
   of_command c e = ap (start_of_command bytes) e
 
   has_named : (c : Command) → asked ≡ Some c → HasConfiguration (configuration_of c) o bytes
@@ -112,17 +112,17 @@ module _ (asked : Option Command) (o o' : OpenerShown) (bytes : Option (List ℕ
   has_name c name e f = subst (λ (n : Option (List ℕ)). HasConfiguration n o bytes) f (has_named c e)
 
   by_configuration : (c : Command) (name : List ℕ) (r : Option (Result Site Fault)) (start : Start) → asked ≡ Some c → configuration_of c ≡ Some name → loaded bytes ≡ r
-      → ((who : Option (List ℕ)) → batch_start r who ≡ start) → stdio_start r ≡ start → start_of_command bytes (asked) ≡ start
+      → ((who : Option (List ℕ)) → batch_start r who ≡ start) → stdio_start r ≡ start → ((asks : Listen) → listen_start asks r ≡ start) → start_of_command bytes asked ≡ start
   by_configuration (batch config who) name r start e f l b s w = of_command _ e ∙ (ap (λ (x : Option (List ℕ)). batch_start (site_of x bytes) who) f ∙ (ap (λ x. batch_start x who) l ∙ b who))
   by_configuration (stdio config) name r start e f l b s w = of_command _ e ∙ (ap stdio_start l ∙ s)
   by_configuration (workload number size) name r start e f l b s w = cc
   by_configuration (listen asks) name r start e f l b s w = of_command _ e ∙ (ap (listen_start asks) l ∙ w asks)
 
-  no_file : (c : Command) (name : List ℕ) → asked ≡ Some c → configuration_of c ≡ Some name → IsNotOpened o o' name → start_of_command bytes (asked) ≡ not_opened
+  no_file : (c : Command) (name : List ℕ) → asked ≡ Some c → configuration_of c ≡ Some name → IsNotOpened o o' name → start_of_command bytes asked ≡ not_opened
   no_file c name e f (inl missing) = by_configuration c name None not_opened e f (missing_is o name bytes (has_name c name e f) missing) (λ who. refl) refl (λ l. refl)
   no_file c name e f (inr rose) = absurd (quiet rose)
 
-  pub start_is : (start : Start) → IsStart o o' asked start → start_of_command bytes (asked) ≡ start
+  pub start_is : (start : Start) → IsStart o o' asked start → start_of_command bytes asked ≡ start
   start_is usage (inl h) = of_command None h.0
   start_is usage (inr h) = of_command _ h.3 ∙ (ap (λ x. batch_start x (Some h.1)) (site_is o o' h.0 bytes h.2 (has_named _ h.3) h.4) ∙ ap (by_user h.2) h.5)
   start_is not_opened h = no_file h.0 h.1 h.2 h.3 h.4
