@@ -1,5 +1,6 @@
 //! What a command and the configuration come to.
-ghost use Rattle.std.specs.Prelude.{◌≡◌, ◌≤◌, ◌+◌, IfOk, option_map};
+ghost use Rattle.std.specs.Prelude.{◌≡◌, ◌≤◌, ◌+◌, IfOk, Some, option_map};
+ghost use Rattle.command_line.specs.Commands.{stdio};
 ghost use Rattle.command_line.specs.Shown.{command_shown};
 ghost use Rattle.jmapd_run.specs.Runs.{streamed};
 ghost use Rattle.spec_site.specs.Configuration.{configured};
@@ -39,10 +40,36 @@ pub(crate) fn start_from<O: Opener>(
     ensures user { IfOk result HasItsUser }
 {
     match command {
-        Some(Command::Batch { config, user }) => start_batch(alloc, opener, config, user),
-        Some(Command::Stdio { config }) => Ok(Start::Stdio(load_site(alloc, opener, config)?)),
-        Some(Command::Workload(work)) => Ok(Start::Workload(work)),
-        Some(Command::Listen(_)) | None => Err(Status::Usage),
+        Some(command) => start_of(alloc, command, opener),
+        None => Err(Status::Usage),
+    }
+}
+
+fn start_of<O: Opener>(alloc: Global, command: Command<'_>, opener: &mut O) -> Result<Start, Status>
+    ensures how { StartHow (O.shown opener.old) (O.shown opener.new) (streamed (Some (command_shown command.entry))) result }
+    ensures files { (O.shown opener.new).files ≡ (O.shown opener.old).files }
+    ensures once { (O.shown opener.new).loads ≤ (O.shown opener.old).loads + 1 }
+    ensures user { IfOk result HasItsUser }
+{
+    match command {
+        Command::Batch { config, user } => start_batch(alloc, opener, config, user),
+        Command::Stdio { config } => start_stdio(alloc, opener, config),
+        Command::Workload(work) => Ok(Start::Workload(work)),
+        Command::Listen(_) => Err(Status::Usage),
+    }
+}
+
+// One connection, for the users of the site of this name.
+#[tactic(auto, using(crate::proofs::Starting::stdio_refused))]
+fn start_stdio<O: Opener>(alloc: Global, opener: &mut O, config: &str) -> Result<Start, Status>
+    ensures how { StartHow (O.shown opener.old) (O.shown opener.new) (Some (stdio config.now)) result }
+    ensures files { (O.shown opener.new).files ≡ (O.shown opener.old).files }
+    ensures once { (O.shown opener.new).loads ≤ (O.shown opener.old).loads + 1 }
+    ensures user { IfOk result HasItsUser }
+{
+    match load_site(alloc, opener, config) {
+        Ok(site) => Ok(Start::Stdio(site)),
+        Err(status) => Err(status),
     }
 }
 
