@@ -8,10 +8,13 @@ use Rattle.account_desk.specs.FreshDesk.{account_rules, bases, fresh_desk}
 use Rattle.spec_history.specs.Signed.{written_by}
 use Rattle.spec_site.specs.Configuration.{Site, SiteAccount}
 use Rattle.spec_history.specs.declared.entry.Entry.{Entry}
-use Rattle.account_desk.specs.SoleDesk.{IsSoleDesk, account_at, fresh_account, fresh_accounts, shown_of}
+use Rattle.account_desk.specs.SoleDesk.{IsSoleDesk, account_at, fresh_account, shown_of}
 
 abbrev pub opened : Base → Base × List Entry
 opened b = (b, [])
+
+abbrev pub fresh_accounts : Site → List (Base × List Entry)
+fresh_accounts site = map opened (bases site)
 
 abbrev base_of : Site → SiteAccount → Base
 base_of site a = record { account_id = a.id; zones = site.zones }

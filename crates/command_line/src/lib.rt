@@ -2,7 +2,6 @@
 #![tactic(auto)]
 
 pub mod command;
-mod counts;
 pub mod listen;
 mod options;
 pub mod workload;

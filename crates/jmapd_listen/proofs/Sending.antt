@@ -1,7 +1,10 @@
--- A worker's job and its answer may go to another thread, whatever its listener, clock and desk are that may, and so may the desk of a worker.
+-- A worker's job and its answer may go to another thread, whatever its listener, clock and handle are that may.
 use denote.RattleType.{RattleType}
 use denote.Param.Send.{IsSend, IsSync, sendable}
 use Rattle.std.proofs.Crossing.{crosses}
+use Rattle.account_desk.proofs.Crossing.{gated_sent}
+use Rattle.account_lock.proofs.locked.Locked.TheSendSync as locked
+use Rattle.account_lock.proofs.pass.Pass.TheSendSync as pass
 use Rattle.spec_json.proofs.Crossing.{text_sent, text_shared}
 use Rattle.spec_json.proofs.tree.TreeList.TheLaws.TheKnot as tree
 use Rattle.session_doc.specs.contracts.site.Site as site
@@ -14,8 +17,8 @@ site_sent = search (text_sent, text_shared, crosses, tree.crosses, sendable) dep
 site_shared : IsSync site.the_row
 site_shared = search (text_sent, text_shared, crosses, tree.crosses, sendable) depth 60 fits 20000
 
-pub job_sent : (L C D : RattleType) → IsSend L → IsSend C → IsSend D → IsSend (job.the_row L C D)
-job_sent L C D l c d = search (site_sent, site_shared, crosses, sendable) depth 60 fits 20000
+pub job_sent : (L C W : RattleType) → IsSend L → IsSend C → IsSend W → IsSend (job.the_row L C W)
+job_sent L C W l c w = search (locked.the_send, locked.the_sync, pass.the_send, gated_sent, site_sent, site_shared, crosses, sendable) depth 60 fits 20000
 
-pub back_sent : (L C D : RattleType) → IsSend L → IsSend C → IsSend D → IsSend (back.the_row L C D)
-back_sent L C D l c d = search (crosses, sendable) depth 60 fits 20000
+pub back_sent : (L C W : RattleType) → IsSend L → IsSend C → IsSend W → IsSend (back.the_row L C W)
+back_sent L C W l c w = search (locked.the_send, locked.the_sync, pass.the_send, gated_sent, crosses, sendable) depth 60 fits 20000

@@ -1,3 +1,2 @@
 pub mod Faultless
 pub mod Listens
-pub mod Program

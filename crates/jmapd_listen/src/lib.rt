@@ -1,7 +1,6 @@
-//! The command `listen`, by which workers serve the users of a site at the same time, and the program with all its commands.
+//! The command `listen`: workers serve the users of a site at the same time, over any host, spawner and clock.
 #![tactic(auto)]
 
 pub mod job;
 pub mod laws;
 pub mod listen;
-pub mod program;

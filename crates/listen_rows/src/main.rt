@@ -2,8 +2,6 @@
 #![tactic(auto)]
 
 mod connections;
-mod gated;
-mod meeting;
 mod sites;
 mod workers;
 

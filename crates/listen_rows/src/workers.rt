@@ -1,12 +1,11 @@
 //! One worker over a listener in memory.
 
 use crate::connections::{connections_of, failing, tell_output};
-use account_core::account::Account;
-use account_desk::sole_desk::fresh_accounts;
-use account_lock::locked::Locked;
+use account_desk::gate::Gate;
+use account_desk::shared_desk::SharedDesk;
 use io_edge::memory_clock::StillClock;
 use listen_edge::memory_listener::MemListener;
-use listen_workers::desks::open_desks;
+use listen_workers::accounts::{Office, open_office};
 use listen_workers::worker::worker;
 use row_table::files::bytes_of;
 use session_doc::Site;
@@ -33,9 +32,12 @@ pub fn told<R: Wait + Copy + Drop>(
     };
     let waiting = connections_of(alloc, asked.list_at("input").unwrap_or(&[]))?;
     let mut listener = MemListener::new(alloc, waiting, failing(alloc, asked)?)?;
-    let accounts = fresh_accounts(alloc, &site)?;
-    let mut desks = open_desks::<Locked<Account>, R>(alloc, rt, accounts, 1)?;
-    let mut desk = desks.remove(0);
+    let Office {
+        site,
+        accounts,
+        mut hands,
+    } = open_office(alloc, site, &Gate::Open, 1)?;
+    let mut desk = SharedDesk::new(rt, accounts, hands.remove(0));
     let mut clock = StillClock { moment: 0 };
     let connections = u64::try_from(connections.get()).unwrap_or(0);
     let done = worker(
