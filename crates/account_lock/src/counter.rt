@@ -8,10 +8,10 @@ use std::alloc::{AllocError, Global};
 use std::marker::Model;
 
 /// The most entries of a book. One that has them adds none.
-const MOST_ENTRIES: usize = 1 << 40;
+const MAX_ENTRIES: usize = 1 << 40;
 
 /// The most that one call adds. More counts as this.
-const MOST_AMOUNT: u64 = 1000;
+const MAX_AMOUNT: u64 = 1000;
 
 /// A call of a counter book: adds an amount. An amount of 0 adds no entry.
 #[derive(Clone, Copy, Debug, PartialEq, Eq, Drop)]
@@ -85,8 +85,8 @@ impl Book for CounterBook {
         call: &Add,
         moment: Moment,
     ) -> Result<u64, AllocError> {
-        let amount = call.0.min(MOST_AMOUNT);
-        if amount == 0 || self.entries.len() == MOST_ENTRIES {
+        let amount = call.0.min(MAX_AMOUNT);
+        if amount == 0 || self.entries.len() == MAX_ENTRIES {
             return Ok(self.sum);
         }
         self.entries.push(Entry {

@@ -24,7 +24,7 @@ use std::snapshot::Snapshot;
 use std::sync::Wait;
 
 /// The most calls of one pass.
-const MOST_TURNS: u64 = 1 << 40;
+const MAX_TURNS: u64 = 1 << 40;
 
 /// Why a call of a pass wasn't answered.
 #[derive(Clone, Copy, Debug, PartialEq, Eq, Drop)]
@@ -97,7 +97,7 @@ impl<B: Book> Locked<B> {
         // Outside of calls a pass is idle: one that used up a turn has given it back.
         ensures idle { (pass.old.phase ≡ Idle) × (pass.new.phase ≡ Idle) }
     {
-        if pass.turns == MOST_TURNS {
+        if pass.turns == MAX_TURNS {
             return Err(CallError::PassSpent);
         }
         pass.turns += 1;

@@ -10,7 +10,7 @@ use crate::source::Source;
 use std::io::{ErrorKind, Read, Write};
 
 /// How often a read or a write is tried that signals interrupt.
-const MOST_TRIES: u64 = 1 << 32;
+const MAX_TRIES: u64 = 1 << 32;
 
 /// A source over a reader. It tells what the reader tells: of what is left of standard input, nothing.
 ///
@@ -48,7 +48,7 @@ fn read_some<R: Read>(reader: &mut R, buf: &mut [u8]) -> Result<usize, Failed>
     ensures bound { ReadsAtMost result buf.new }
     ensures bytes { ReadConsumes (R.remaining reader.old) (R.remaining reader.new) result buf.new }
 {
-    for _ in 0..MOST_TRIES {
+    for _ in 0..MAX_TRIES {
         match reader.read(buf) {
             Ok(count) => return Ok(count),
             Err(error) if error.kind() == ErrorKind::Interrupted => {}
@@ -104,7 +104,7 @@ fn write_some<W: Write>(writer: &mut W, bytes: &[u8]) -> Result<usize, Failed>
     ensures bound { WritesAtMost result bytes.now }
     ensures some { IfOk result (λ n. 0 < length bytes.now → 0 < n) }
 {
-    for _ in 0..MOST_TRIES {
+    for _ in 0..MAX_TRIES {
         match writer.write(bytes) {
             Ok(0) if !bytes.is_empty() => return Err(Failed),
             Ok(count) => return Ok(count),
