@@ -86,6 +86,7 @@ class Watch(threading.Thread):
             self.look()
             if self.last > self.most:
                 self.connection.program.kill()
+                return
 
     def stop(self):
         """The seconds of processor, the bytes that were held before, and the most that were held."""
@@ -127,6 +128,8 @@ def spent(binary, row, most):
             watch = Watch(connection, most)
             ends = connection.answer(body)
             seconds, held, peak = watch.stop()
+        except (BrokenPipeError, TypeError, ValueError):
+            return 0, 0.0, 0, 0, "no account", False
         finally:
             connection.end()
     return len(body), seconds, held, peak, *told(row, ends)

@@ -10,10 +10,10 @@ from availability import fill, local
 from clashes import placed
 from connections import CONFIGURATION
 from occurrences import ENDLESS
-from rooms import DATES, date
+from rooms import date
 from shapes import SHAPES
 
-STRANGE = {"name": "Far/Strange", "rule": "<aa>24:59:59<bb>-24:59:59,J1/-167:59:59,J365/167:59:59"}
+STRANGE = {"name": "Far/Strange", "rule": "<aaa>24:59:59<bbb>-24:59:59,J1/-167:59:59,J365/167:59:59"}
 YEAR = {"after": "2024-06-01T00:00:00", "before": "2025-06-02T00:00:00"}
 LAST_DAY = b'"utcStart":"2025-06-01T00:00:00Z"'
 NOTHING = b'"ids":[]'
@@ -348,14 +348,14 @@ RULES = [
 
 BOOKINGS = [
     Hostile(
-        "36 yearly hours in a room of 300",
-        room(*DATES[:300]),
-        lambda: [set_of(create={f"k{number}": booking(date(number)) for number in range(300, 336)})],
+        "336 yearly hours in one room",
+        room(),
+        lambda: [set_of(create={f"k{number}": booking(date(number)) for number in range(336)})],
     ),
     Hostile(
         "two bookings by places among working days",
-        room(placed("2024-01-09T09:00:00", (5, 10, 15, 20), 6)),
-        lambda: [set_of(create={"k": booking(placed("2024-07-09T09:00:00", (140, 150, 160, 170), 12))})],
+        room(placed("2024-01-05T09:00:00", (5, 10, 15, 20), 6)),
+        lambda: [set_of(create={"k": booking(placed("2024-07-12T09:00:00", (140, 150, 160, 170), 12))})],
     ),
 ]
 
