@@ -106,7 +106,7 @@ def set_with_overrides(chosen):
     connection = Connection(chosen.binary)
     taken = full_room(connection, bookings)
     # The account has this state only where each booking was made.
-    connection.send(["CalendarEvent/changes", {"accountId": "A1", "sinceState": str(MAX_OBJECTS)}], 1)
+    connection.send(["CalendarEvent/changes", {"accountId": "A1", "sinceState": f"0-{MAX_OBJECTS}"}], 1)
     connection.close()
     return taken / 1_000
 
@@ -119,7 +119,7 @@ def update_in_full_room(chosen):
     connection.send(["CalendarEvent/set", {"accountId": "A1", "update": {f"E{MAX_OBJECTS}": {"title": "Moved"}}}], UPDATES)
     taken = connection.milliseconds() - before
     # The account has this state only where each update was made.
-    connection.send(["CalendarEvent/changes", {"accountId": "A1", "sinceState": str(MAX_OBJECTS + UPDATES)}], 1)
+    connection.send(["CalendarEvent/changes", {"accountId": "A1", "sinceState": f"0-{MAX_OBJECTS + UPDATES}"}], 1)
     connection.close()
     return taken / UPDATES
 

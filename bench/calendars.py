@@ -64,7 +64,7 @@ def get_ids(_entries):
 
 
 def changes(entries):
-    return ["Calendar/changes", {"accountId": "A1", "sinceState": str(entries)}]
+    return ["Calendar/changes", {"accountId": "A1", "sinceState": f"0-{entries}"}]
 
 
 # The call at an account of so many entries, how often it is made, the least entries that it needs, and the most milliseconds it may take.

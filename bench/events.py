@@ -33,7 +33,7 @@ def get_ids(_size, _events):
 
 
 def changes(_size, events):
-    return ["CalendarEvent/changes", {"accountId": "A1", "sinceState": str(events)}]
+    return ["CalendarEvent/changes", {"accountId": "A1", "sinceState": f"0-{events}"}]
 
 
 # The call at an account of events of a size, how often it is made, and the most milliseconds that it may take.

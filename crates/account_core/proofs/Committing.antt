@@ -5,7 +5,7 @@ use Rattle.std.proofs.lemmas.List.Sums.{sum_by-append}
 use Rattle.account_core.specs.Tally.{Tallies}
 use Rattle.account_core.specs.declared.tally.Tally.{Tally}
 use Rattle.cal_model.specs.Answer.{entries_from, entry_of}
-use Rattle.spec_history.specs.History.{changes_of, object_from, state_at}
+use Rattle.spec_history.specs.History.{changes_of, object_from, count_of_kind}
 use Rattle.spec_history.specs.declared.entry.Change.{Change}
 use Rattle.spec_history.specs.declared.entry.Entry.{Entry}
 use Rattle.spec_history.specs.declared.entry.Kind.{Kind}
@@ -30,8 +30,8 @@ pub object_from_append : (cs ds : List Change) (before : Option Tree) (kind : Ki
 object_from_append [] ds before kind id = refl
 object_from_append (c ∷ cs) ds before kind id = object_from_append cs ds _ kind id
 
-pub state_at_append : (cs ds : List Change) (kind : Kind) → state_at (cs ++ ds) kind ≡ state_at cs kind + state_at ds kind
-state_at_append cs ds kind = sum_by-append _ cs ds
+pub count_of_kind_append : (cs ds : List Change) (kind : Kind) → count_of_kind (cs ++ ds) kind ≡ count_of_kind cs kind + count_of_kind ds kind
+count_of_kind_append cs ds kind = sum_by-append _ cs ds
 
 entries_push : (s : Stamp) (cs : List Change) (n : ℕ) (c : Change) → entries_from s n (cs ++ c ∷ []) ≡ entries_from s n cs ++ entry_of s (n + length cs) c ∷ []
 entries_push s [] n c = rw add-zero refl

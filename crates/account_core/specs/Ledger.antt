@@ -8,9 +8,9 @@ use Rattle.spec_history.specs.History.{changes_of}
 use Rattle.spec_history.specs.declared.entry.Change.{Change}
 use Rattle.spec_history.specs.declared.entry.Entry.{Entry}
 
--- the account's id and zones
+-- what the account was opened with
 abbrev pub base : Ledger → Base
-base l = record { account_id = l.id; zones = arc_value l.zones }
+base l = record { account_id = l.id; zones = arc_value l.zones; generation = l.generation }
 
 -- the account's entries
 abbrev pub ledger_entries : Ledger → List Entry

@@ -55,12 +55,17 @@ impl Account {
     ghost use Rattle.spec_series.specs.Lengths.{IsWeekLong};
     ghost use Rattle.rule_expand.specs.Least.{IsLeastOf};
 
-    /// An account of this id, with these zones and no entries. Takes no memory.
-    pub fn open(alloc: Global, id: Text, zones: Arc<Zones>) -> Result<Account, AllocError>
-        ensures { IfOk result (λ a. a ≡ (record { account_id = id; zones = arc_value zones }, [])) }
+    /// An account of this id, with these zones and no entries, in this generation of the data. Takes no memory.
+    pub fn open(
+        alloc: Global,
+        id: Text,
+        zones: Arc<Zones>,
+        generation: u64,
+    ) -> Result<Account, AllocError>
+        ensures { IfOk result (λ a. a ≡ (record { account_id = id; zones = arc_value zones; generation = generation }, [])) }
     {
         Ok(Account {
-            ledger: Ledger::new(alloc, id, zones),
+            ledger: Ledger::new(alloc, id, zones, generation),
         })
     }
 

@@ -3,6 +3,7 @@ ghost use Rattle.std.specs.Prelude.{◌≡◌, IfOk, option_map, true, unsigned_
 ghost use Rattle.account_core.specs.Ledger.{base, ledger_entries};
 ghost use Rattle.account_core.specs.PageObject.{page_object};
 ghost use Rattle.cal_model.specs.Answer.{changes_answer};
+ghost use Rattle.spec_history.specs.History.{changes_of, count_of_kind};
 ghost use Rattle.spec_queries.specs.States.{is_maximum};
 
 use crate::ledger::Ledger;
@@ -11,17 +12,18 @@ use query_methods::ids::id_list;
 use spec_calls::call::{ChangesArguments, MethodError, Reply};
 use spec_core::numbers::MAX_UNSIGNED_INT;
 use spec_history::entry::Kind;
+use spec_history::state::State;
 use spec_json::lists::Pairs;
 use spec_json::num::Num;
 use spec_json::text::Text;
 use spec_json::tree::Tree;
 use state_log::{ChangesError, Page};
-use std::alloc::{AllocError, Global};
-use time_text::{read_state, state_text};
+use std::alloc::AllocError;
+use time_text::{number_named, state_text};
 
 /// Answers what changed of a kind since a state. A maximum that isn't one is told before a state that isn't known.
 pub fn changes(ledger: &Ledger, arguments: &ChangesArguments) -> Result<Reply, AllocError>
-    ensures { IfOk result (λ r. r ≡ changes_answer (base ledger.now).account_id (ledger_entries ledger.now) arguments.now) }
+    ensures { IfOk result (λ r. r ≡ changes_answer (base ledger.now) (ledger_entries ledger.now) arguments.now) }
 {
     let alloc = ledger.alloc;
     let store = &ledger.store;
@@ -30,17 +32,17 @@ pub fn changes(ledger: &Ledger, arguments: &ChangesArguments) -> Result<Reply, A
     if !is_maximum(&arguments.max) {
         return Ok(refusal(alloc, store, MethodError::InvalidArguments));
     }
-    let Some(state) = read_state(since.as_str().as_bytes()) else {
+    let Some(number) = number_named(ledger.generation, since.as_str().as_bytes()) else {
         return Ok(refusal(alloc, store, MethodError::CannotCalculateChanges));
     };
-    let page = match store.changes(kind, state, limit(&arguments.max)) {
+    let page = match store.changes(kind, number, limit(&arguments.max)) {
         Ok(page) => page,
         Err(ChangesError::NotRetained) => {
             return Ok(refusal(alloc, store, MethodError::CannotCalculateChanges));
         }
         Err(ChangesError::NoMemory) => return Err(AllocError),
     };
-    let arguments = page_tree(alloc, &ledger.id, store.count(kind), kind, since, &page)?;
+    let arguments = page_tree(ledger, kind, since, &page)?;
     Ok(reply(store, arguments, Pairs::new(Vec::new(alloc))))
 }
 
@@ -63,23 +65,24 @@ fn limit(most: &Option<Num>) -> Option<u64>
     }
 }
 
-// The arguments that tell a page, where the kind is in this state.
-fn page_tree(
-    alloc: Global,
-    account: &Text,
-    state: u64,
-    kind: Kind,
-    since: &Text,
-    page: &Page,
-) -> Result<Tree, AllocError>
-    ensures { IfOk result (λ t. t ≡ page_object account.now kind since.now state page.now) }
+// The arguments that tell a page.
+fn page_tree(ledger: &Ledger, kind: Kind, since: &Text, page: &Page) -> Result<Tree, AllocError>
+    ensures { IfOk result (λ t. t ≡ page_object (base ledger.now) kind since.now (count_of_kind (changes_of (ledger_entries ledger.now)) kind) page.now) }
 {
+    let alloc = ledger.alloc;
+    let end = State {
+        generation: ledger.generation,
+        number: page.until,
+    };
     let members = vec![in alloc;
-        ("accountId", Tree::Text(account.copy()?)),
+        ("accountId", Tree::Text(ledger.id.copy()?)),
         ("created", id_list(alloc, kind, page.created.items())?),
         ("destroyed", id_list(alloc, kind, page.destroyed.items())?),
-        ("hasMoreChanges", Tree::Truth(page.until != state)),
-        ("newState", Tree::Text(state_text(alloc, page.until)?)),
+        (
+            "hasMoreChanges",
+            Tree::Truth(page.until != ledger.store.count(kind))
+        ),
+        ("newState", Tree::Text(state_text(alloc, end)?)),
         ("oldState", Tree::Text(since.copy()?)),
         ("updated", id_list(alloc, kind, page.updated.items())?),
     ]?;

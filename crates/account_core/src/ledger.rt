@@ -8,8 +8,9 @@ ghost use Rattle.account_rooms.specs.Covered.{AreCoveredOnce};
 ghost use Rattle.account_rooms.specs.Rooms.{AreFree, AreRooms};
 ghost use Rattle.account_store.specs.Store.{entries, spare};
 ghost use Rattle.cal_model.specs.Answer.{entries_from};
+ghost use Rattle.event_store.specs.EventsBase.{base_of};
 ghost use Rattle.spec_bookings.specs.SeriesPut.{series_put};
-ghost use Rattle.spec_history.specs.History.{changes_of};
+ghost use Rattle.spec_history.specs.History.{changes_of, count_of_kind};
 ghost use Rattle.spec_bookings.specs.BookedResources.{other_bookings};
 ghost use Rattle.spec_bookings.specs.Resources.{is_resource};
 ghost use Rattle.spec_bookings.specs.Clashes.{IsClash, IsClear, first_clash, second_of};
@@ -25,6 +26,7 @@ use event_store::{SeriesLog, StoredEvents};
 use spec_bookings::clash::Clash;
 use spec_history::entry::{Change, Entry, Kind};
 use spec_history::stamp::Stamp;
+use spec_history::state::State;
 use spec_json::text::Text;
 use spec_json::tree::Tree;
 use spec_series::series::Series;
@@ -42,6 +44,8 @@ pub struct Ledger {
     pub alloc: Global,
     pub id: Text,
     pub zones: Arc<Zones>,
+    /// Which copy of the data the account goes on from.
+    pub generation: u64,
     pub store: Store,
     /// What the history holds.
     kept: Tally,
@@ -62,9 +66,9 @@ pub struct Ledger {
 impl Ledger {
     ghost use Rattle.account_core.specs.Ledger.{base, changes, history, ledger_entries, staged};
 
-    /// A ledger of an account of this id, with these zones and no entries. Takes no memory.
-    pub fn new(alloc: Global, id: Text, zones: Arc<Zones>) -> Ledger
-        ensures base { base result ≡ record { account_id = id; zones = arc_value zones } }
+    /// A ledger of an account of this id, with these zones and no entries, in this generation of the data. Takes no memory.
+    pub fn new(alloc: Global, id: Text, zones: Arc<Zones>, generation: u64) -> Ledger
+        ensures base { base result ≡ record { account_id = id; zones = arc_value zones; generation = generation } }
         ensures entries { ledger_entries result ≡ [] }
         ensures staged { staged result ≡ [] }
     {
@@ -72,6 +76,7 @@ impl Ledger {
             alloc,
             id,
             zones,
+            generation,
             store: Store::new(alloc),
             kept: Tally::new(),
             staged: Vec::new(alloc),
@@ -84,9 +89,15 @@ impl Ledger {
     /// The events of the account, each with its series. Takes no memory.
     pub fn events(&self) -> StoredEvents<'_>
         ensures store { result.store.now ≡ self.now.store }
-        ensures zones { result.zones.now ≡ (base self.now).zones }
+        ensures base { base_of result ≡ base self.now }
     {
-        StoredEvents::new(&self.store, &self.zones, &self.series)
+        StoredEvents::new(
+            &self.store,
+            &self.id,
+            &self.zones,
+            self.generation,
+            &self.series,
+        )
     }
 
     /// Takes memory for the entries that the staged changes become. After running out of memory nothing is staged.
@@ -134,6 +145,20 @@ impl Ledger {
         ensures least { IsLeastOf (IsClash (other_bookings (base self.now).zones (changes self.now) event calendar) series.now) (option_map second_of result) }
     {
         self.rooms.clash(calendar, event, series)
+    }
+
+    // How many changes are of a kind, in the history and staged.
+    #[tactic(auto, using(crate::proofs::Committing::count_of_kind_append))]
+    fn count_of_kind(&self, kind: Kind) -> u64
+        ensures { result ≡ count_of_kind (changes self.now) kind }
+    {
+        let mut count = self.store.count(kind);
+        for change in &self.staged {
+            if kind.is(change.kind) {
+                count += 1;
+            }
+        }
+        count
     }
 }
 
@@ -218,15 +243,15 @@ impl AccountView for Ledger {
         self.tally.created(kind)
     }
 
-    #[tactic(auto, using(crate::proofs::Committing::state_at_append))]
-    fn state(&self, kind: Kind) -> u64 {
-        let mut state = self.store.count(kind);
-        for change in &self.staged {
-            if kind.is(change.kind) {
-                state += 1;
-            }
+    fn generation(&self) -> u64 {
+        self.generation
+    }
+
+    fn state(&self, kind: Kind) -> State {
+        State {
+            generation: self.generation,
+            number: self.count_of_kind(kind),
         }
-        state
     }
 
     fn count(&self) -> usize {

@@ -33,13 +33,7 @@ pub fn query(ledger: &Ledger, arguments: &QueryArguments) -> Result<Reply, Alloc
 fn find_events(ledger: &Ledger, criteria: &Criteria, paging: &Paging) -> Result<Reply, AllocError>
     ensures { IfOk result (λ r. r ≡ query_answer (base ledger.now) (ledger_entries ledger.now) (events_asked criteria.now paging.now)) }
 {
-    let found = query_methods::query::query(
-        ledger.alloc,
-        &ledger.events(),
-        &ledger.id,
-        criteria,
-        paging,
-    );
+    let found = query_methods::query::query(ledger.alloc, &ledger.events(), criteria, paging);
     told(ledger, found)
 }
 
@@ -50,7 +44,7 @@ fn find_occurrences(
 ) -> Result<Reply, AllocError>
     ensures { IfOk result (λ r. r ≡ query_answer (base ledger.now) (ledger_entries ledger.now) (occurrences_asked criteria.now paging.now)) }
 {
-    let found = expanded_query(ledger.alloc, &ledger.events(), &ledger.id, criteria, paging);
+    let found = expanded_query(ledger.alloc, &ledger.events(), criteria, paging);
     told(ledger, found)
 }
 
@@ -64,7 +58,6 @@ pub fn query_changes(
     let changed = query_methods::query_changes::query_changes(
         ledger.alloc,
         &ledger.events(),
-        &ledger.id,
         arguments,
     );
     told(ledger, changed)
@@ -75,7 +68,7 @@ pub fn availability(ledger: &Ledger, arguments: &AvailabilityArguments) -> Resul
     ensures { IfOk result (λ r. r ≡ availability_answer (base ledger.now) (ledger_entries ledger.now) arguments.now) }
 {
     let alloc = ledger.alloc;
-    match availability_method::availability(alloc, &ledger.id, &ledger.events(), arguments)? {
+    match availability_method::availability(alloc, &ledger.events(), arguments)? {
         Some(periods) => Ok(reply(&ledger.store, periods, Pairs::new(Vec::new(alloc)))),
         None => Ok(refusal(alloc, &ledger.store, MethodError::InvalidArguments)),
     }

@@ -52,14 +52,14 @@ fn prepare(
     created: &Pairs,
 ) -> Result<Reply, PlanError>
     requires { staged ledger.old ≡ [] }
-    ensures carried_out { OnOk result (set_refusal arguments.now.kind (history ledger.old) (objects_of arguments.now) arguments.now.if_in_state arguments.now.remove_events ≡ None) }
+    ensures carried_out { OnOk result (set_refusal (base ledger.old).generation arguments.now.kind (history ledger.old) (objects_of arguments.now) arguments.now.if_in_state arguments.now.remove_events ≡ None) }
     ensures reply { IfOk result (λ r. r ≡ answered (ledger_entries ledger.old)
         (set_arguments (ground_at (base ledger.old) moment) arguments.now.kind created.now (history ledger.old) (objects_of arguments.now))
         (new_ids (ground_at (base ledger.old) moment) arguments.now.kind created.now (history ledger.old) (objects_of arguments.now))) }
     ensures staged { OnOk result (staged ledger.new
         ≡ set_changes (ground_at (base ledger.old) moment) arguments.now.kind created.now (history ledger.old) (objects_of arguments.now)) }
     ensures spare { OnOk result (length (staged ledger.new) ≤ spare ledger.new.store) }
-    ensures refused { IfErr result (λ e. Reports e (set_refusal arguments.now.kind (history ledger.old) (objects_of arguments.now) arguments.now.if_in_state arguments.now.remove_events)) }
+    ensures refused { IfErr result (λ e. Reports e (set_refusal (base ledger.old).generation arguments.now.kind (history ledger.old) (objects_of arguments.now) arguments.now.if_in_state arguments.now.remove_events)) }
     ensures forgotten { OnErr result (staged ledger.new ≡ []) }
     ensures entries { ledger_entries ledger.new ≡ ledger_entries ledger.old }
     ensures base { base ledger.new ≡ base ledger.old }

@@ -1,5 +1,5 @@
 -- Answers look at the changes of a history and at nothing else of it.
-use Rattle.std.proofs.Common.{◌≡◌, ℕ, ℤ, suc, List, [], ◌∷◌, Bool, Option, Some, None, length, map, unwrap_or, refl, sym, ap, ◌∙◌}
+use Rattle.std.proofs.Common.{◌≡◌, ℕ, ℤ, suc, List, [], ◌∷◌, Option, Some, None, length, map, unwrap_or, refl, sym, ap, ◌∙◌}
 use Rattle.std.proofs.lemmas.List.{length-map}
 use Rattle.cal_model.specs.Answer.{answer, answer_to, added, availability_answer, changes_answer, changes_by, entries_from, get_answer, ground, query_answer, query_changes_answer, refused, set_answer, unless_error, unless_refused}
 use Rattle.cal_model.specs.Changes.{changes_response, changes_refusal}
@@ -22,11 +22,10 @@ use Rattle.spec_calls.specs.declared.call.Reply.{Reply}
 use Rattle.spec_calls.specs.declared.call.SetArguments.{SetArguments}
 use Rattle.spec_history.specs.declared.entry.Change.{Change}
 use Rattle.spec_history.specs.declared.entry.Entry.{Entry}
-use Rattle.spec_history.specs.declared.entry.Kind.{Kind}
 use Rattle.spec_history.specs.declared.stamp.Stamp.{Stamp}
 use Rattle.spec_json.specs.declared.tree.Tree.TheVariants.{Null}
 use Rattle.spec_queries.specs.Queries.{query_changes_refusal, query_changes_response, query_refusal, query_response}
-use Rattle.time_text.specs.State.{state_in}
+use Rattle.time_text.specs.State.{number_named}
 
 -- the entries of changes have these changes
 changes_of_entries : (s : Stamp) (part : ℕ) (cs : List Change) → changes_of (entries_from s part cs) ≡ cs
@@ -49,24 +48,24 @@ module _ (b : Base) (h h' : List Entry) (same : changes_of h ≡ changes_of h') 
   same_by refusal r r' is = ap (λ (cs : List Change). unless_error h (refusal cs) r) same ∙ same_unless (refusal (changes_of h')) r r' is
 
   module _ (m : ℤ) (created : List (List ℕ × List ℕ)) where
-    same_get : (q : GetArguments) → get_answer b.account_id h created q ≡ get_answer b.account_id h' created q
+    same_get : (q : GetArguments) → get_answer b h created q ≡ get_answer b h' created q
     same_get q = same_by (λ cs. get_error cs q) _ _ (λ i. record {
-      arguments = get_response b.account_id q.kind (same i) (map (selected q.properties) (objects_asked (same i) q.kind created q.ids)) (ids_not_found (same i) q.kind created q.ids);
+      arguments = get_response b q.kind (same i) (map (selected q.properties) (objects_asked (same i) q.kind created q.ids)) (ids_not_found (same i) q.kind created q.ids);
       error = None;
       created = [];
       place = same_length i;
     })
 
-    same_page : (q : ChangesArguments) → changes_answer b.account_id h q ≡ changes_answer b.account_id h' q
-    same_page q = same_by (λ cs. changes_refusal cs q) _ _ (λ i. record {
-      arguments = changes_response b.account_id (same i) q (unwrap_or (state_in q.since) 0);
+    same_page : (q : ChangesArguments) → changes_answer b h q ≡ changes_answer b h' q
+    same_page q = same_by (λ cs. changes_refusal b.generation cs q) _ _ (λ i. record {
+      arguments = changes_response b (same i) q (unwrap_or (number_named b.generation q.since) 0);
       error = None;
       created = [];
       place = same_length i;
     })
 
     same_set : (q : SetArguments) → set_answer b h m created q ≡ set_answer b h' m created q
-    same_set q = same_by (λ cs. set_refusal q.kind cs (objects_of q) q.if_in_state q.remove_events) _ _ (λ i. record {
+    same_set q = same_by (λ cs. set_refusal b.generation q.kind cs (objects_of q) q.if_in_state q.remove_events) _ _ (λ i. record {
       arguments = set_arguments (ground b h m created) q.kind created (same i) (objects_of q);
       error = None;
       created = new_ids (ground b h m created) q.kind created (same i) (objects_of q);
@@ -74,16 +73,16 @@ module _ (b : Base) (h h' : List Entry) (same : changes_of h ≡ changes_of h') 
     })
 
     same_query : (q : QueryArguments) → query_answer b h q ≡ query_answer b h' q
-    same_query q = same_by (λ cs. query_refusal b.zones cs q) _ _ (λ i. record {
-      arguments = query_response b.zones (same i) q b.account_id;
+    same_query q = same_by (λ cs. query_refusal b cs q) _ _ (λ i. record {
+      arguments = query_response b (same i) q;
       error = None;
       created = [];
       place = same_length i;
     })
 
     same_query_changes : (q : QueryChangesArguments) → query_changes_answer b h q ≡ query_changes_answer b h' q
-    same_query_changes q = same_by (λ cs. query_changes_refusal b.zones cs q) _ _ (λ i. record {
-      arguments = query_changes_response b.zones (same i) q b.account_id;
+    same_query_changes q = same_by (λ cs. query_changes_refusal b cs q) _ _ (λ i. record {
+      arguments = query_changes_response b (same i) q;
       error = None;
       created = [];
       place = same_length i;
@@ -109,7 +108,7 @@ module _ (b : Base) (h h' : List Entry) (same : changes_of h ≡ changes_of h') 
     same_changes (Get q) = refl
     same_changes (Changes q) = refl
     same_changes (Set q) =
-        ap (λ (cs : List Change). unless_refused (set_refusal q.kind cs (objects_of q) q.if_in_state q.remove_events) (set_changes (ground b h m created) q.kind created cs (objects_of q))) same
+        ap (λ (cs : List Change). unless_refused (set_refusal b.generation q.kind cs (objects_of q) q.if_in_state q.remove_events) (set_changes (ground b h m created) q.kind created cs (objects_of q))) same
     same_changes (Query q) = refl
     same_changes (QueryChanges q) = refl
     same_changes (Availability q) = refl

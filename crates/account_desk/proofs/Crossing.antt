@@ -1,4 +1,4 @@
--- An account may go to another thread, gated or not.
+-- An account may go to another thread.
 use denote.Param.Send.{IsSend, sendable}
 use Rattle.std.proofs.Crossing.{crosses}
 use Rattle.spec_json.proofs.Crossing.{text_sent}
@@ -8,8 +8,6 @@ use Rattle.account_rooms.specs.contracts.slot.Slot as slot
 use Rattle.account_rooms.specs.contracts.rooms.Rooms as rooms
 use Rattle.event_store.specs.contracts.series_log.SeriesLog as series
 use Rattle.account_core.specs.contracts.account.Account as account
-use Rattle.account_desk.proofs.gate.Gate.TheSendSync as gate
-use Rattle.account_desk.specs.contracts.gated.Gated as gated
 
 room_sent : IsSend room.the_row
 room_sent = search (crosses, sendable) depth 60 fits 20000
@@ -25,6 +23,3 @@ series_sent = search (crosses, sendable) depth 60 fits 20000
 
 pub account_sent : IsSend account.the_row
 account_sent = search (text_sent, rooms_sent, series_sent, crosses, tree.crosses, sendable) depth 60 fits 20000
-
-pub gated_sent : IsSend gated.the_row
-gated_sent = search (account_sent, gate.the_field_send, gate.the_send, crosses, sendable) depth 60 fits 20000

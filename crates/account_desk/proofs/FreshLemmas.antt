@@ -8,16 +8,13 @@ use Rattle.account_desk.specs.FreshDesk.{account_rules, bases, fresh_desk}
 use Rattle.spec_history.specs.Signed.{written_by}
 use Rattle.spec_site.specs.Configuration.{Site, SiteAccount}
 use Rattle.spec_history.specs.declared.entry.Entry.{Entry}
-use Rattle.account_desk.specs.SoleDesk.{IsSoleDesk, account_at, fresh_account, shown_of}
+use Rattle.account_desk.specs.SoleDesk.{IsSoleDesk, account_at, fresh_account, fresh_accounts, shown_of}
 
 abbrev pub opened : Base → Base × List Entry
 opened b = (b, [])
 
-abbrev pub fresh_accounts : Site → List (Base × List Entry)
-fresh_accounts site = map opened (bases site)
-
 abbrev base_of : Site → SiteAccount → Base
-base_of site a = record { account_id = a.id; zones = site.zones }
+base_of site a = record { account_id = a.id; zones = site.zones; generation = site.generation }
 
 pub count_bases : (site : Site) → length (bases site) ≡ length site.accounts
 count_bases site = length-map site.accounts (base_of site)
@@ -27,11 +24,11 @@ account_is site k = get_or-map opened (bases site) k no_base
 
 -- what a site gives the account of a number
 pub fresh_is : (site : Site) (n : ℕ) (id : List ℕ) (zones : List (List ℕ × List ℕ)) → n < length site.accounts → ((d : SiteAccount) → id ≡ (get_or site.accounts n d).id)
-    → zones ≡ site.zones → opened (record { account_id = id; zones = zones }) ≡ fresh_account site n
+    → zones ≡ site.zones → opened (record { account_id = id; zones = zones; generation = site.generation }) ≡ fresh_account site n
 fresh_is site n id zones there id_is zones_is =
     let nameless : SiteAccount = record { id = []; name = [] } in
     let e = get_or-map_within (base_of site) site.accounts n nameless no_base there in
-    ap opened ((λ i. record { account_id = id_is nameless i; zones = zones_is i }) ∙ sym e)
+    ap opened ((λ i. record { account_id = id_is nameless i; zones = zones_is i; generation = site.generation }) ∙ sym e)
 
 -- one account more was opened
 pub opened_more : (site : Site) (n : ℕ) (accounts accounts' : List (Base × List Entry)) (a : Base × List Entry) → n < length site.accounts

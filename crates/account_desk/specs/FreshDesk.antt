@@ -10,7 +10,7 @@ use Rattle.spec_site.specs.Configuration.{Site}
 
 -- what each account of a site is opened with
 abbrev pub bases : Site → List Base
-bases site = map (λ a. record { account_id = a.id; zones = site.zones }) site.accounts
+bases site = map (λ a. record { account_id = a.id; zones = site.zones; generation = site.generation }) site.accounts
 
 -- what accounts of calendars and events reply, and how they grow
 abbrev pub account_rules : Rules

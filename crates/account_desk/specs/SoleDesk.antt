@@ -1,5 +1,5 @@
 -- What contracts see of a desk that has its accounts for itself.
-use Rattle.std.specs.Prelude.{◌≡◌, ◌≤◌, ◌<◌, ◌^◌, ℕ, List, [], All, Result, Ok, Err, length, slice_index_or}
+use Rattle.std.specs.Prelude.{◌≡◌, ◌≤◌, ◌<◌, ◌^◌, ℕ, List, [], All, Result, Ok, Err, length, map, slice_index_or}
 use Rattle.spec_history.specs.Base.{Base, no_base}
 use Rattle.spec_batch.specs.Chain.{Shown}
 use Rattle.account_desk.specs.FreshDesk.{account_rules, bases}
@@ -30,6 +30,10 @@ shown_of d = record {
 -- the account of a number of a site, before any call
 abbrev pub fresh_account : Site → ℕ → Base × List Entry
 fresh_account site n = (slice_index_or (bases site) n no_base, [])
+
+-- the accounts of a site, in its order, before any call
+abbrev pub fresh_accounts : Site → List (Base × List Entry)
+fresh_accounts site = map (λ b. (b, [])) (bases site)
 
 -- what is true of every such desk
 pub record IsSoleDesk (accounts : List (Base × List Entry)) (turns : ℕ) : Type 0 where

@@ -3,9 +3,8 @@ ghost use Rattle.std.specs.Prelude.{◌≡◌, ◌<◌, ◌^◌, length, map};
 ghost use Rattle.std.specs.Arc.{arc_value};
 ghost use Rattle.account_desk.specs.SharedDesk.{greatest_turn, through_pass};
 
-use crate::gated::Gated;
-use account_lock::locked::{CallError, Locked};
-use account_lock::pass::Pass;
+use crate::lock::AccountLock;
+use account_lock::locked::CallError;
 use spec_batch::desk::{Desk, DeskError};
 use spec_calls::call::{Call, Reply};
 use spec_time::moment::Moment;
@@ -13,25 +12,22 @@ use std::marker::Model;
 use std::sync::{Arc, Wait};
 
 /// The most calls that a desk makes.
-const MOST_TURNS: u64 = 1 << 40;
+const MAX_TURNS: u64 = 1 << 40;
 
-/// The accounts of a site, each in a lock of its own.
-pub type GatedAccounts = Vec<Locked<Gated>>;
-
-/// A desk over accounts that it shares with other desks, of each of which it has one pass. Each has one history, in which the calls of all desks stand.
+/// A desk over accounts that it shares with other desks, each in a lock of its own, of each of which it has one pass. Each has one history, in which the calls of all desks stand.
 /// Contracts see the passes, and how many calls were made.
 ///
 /// It has the handle by which its calls wait for their turn.
 #[derive(Drop)]
-pub struct SharedDesk<W: Wait> {
+pub struct SharedDesk<W: Wait, L: AccountLock> {
     runtime: W,
-    accounts: Arc<GatedAccounts>,
-    passes: Vec<Pass<Gated>>,
+    accounts: Arc<Vec<L>>,
+    passes: Vec<L::Pass>,
     turns: u64,
 }
 
-impl<W: Wait> Model for SharedDesk<W> {
-    ghost use Rattle.std.specs.Prelude.{ℕ, List};
+impl<W: Wait, L: AccountLock> Model for SharedDesk<W, L> {
+    ghost use Rattle.std.specs.Prelude.{ℕ, List, map};
     ghost use Rattle.std.specs.Arc.{arc_value};
     ghost use Rattle.std.specs.Coded.{codes};
     ghost use Rattle.spec_json.specs.DataCode.{data_code};
@@ -42,22 +38,22 @@ impl<W: Wait> Model for SharedDesk<W> {
 
     ghost coded = { Prim.hlevel (codes, data_code) };
 
-    ghost view = { λ a. (a.passes.items, a.turns) };
+    ghost view = { λ a. (map L.state a.passes.items, a.turns) };
 
-    ghost invariant = { λ a. IsSharedDesk (arc_value a.accounts).items a.passes.items a.turns };
+    ghost invariant = { λ a. IsSharedDesk (map L.lock (arc_value a.accounts).items) (map L.state a.passes.items) a.turns };
 }
 
-impl<W: Wait> SharedDesk<W> {
+impl<W: Wait, L: AccountLock> SharedDesk<W, L> {
     /// A desk over these accounts, with a pass of each, in their order. It counts its calls on from the greatest number that one of its passes has made.
     /// Takes no memory.
-    pub fn new(runtime: W, accounts: Arc<GatedAccounts>, passes: Vec<Pass<Gated>>) -> SharedDesk<W>
-        requires of_accounts { map (λ p. p.lock) passes.items ≡ (arc_value accounts).items }
+    pub fn new(runtime: W, accounts: Arc<Vec<L>>, passes: Vec<L::Pass>) -> SharedDesk<W, L>
+        requires of_accounts { map (λ p. p.lock) (map L.state passes.items) ≡ map L.lock (arc_value accounts).items }
         requires few { length passes.items < 2 ^ 32 }
-        ensures { result ≡ (passes.items, greatest_turn passes.items) }
+        ensures { result ≡ (map L.state passes.items, greatest_turn (map L.state passes.items)) }
     {
         let mut turns = 0;
         for pass in &passes {
-            turns = pass.turns().max(turns);
+            turns = L::turns(pass).max(turns);
         }
         SharedDesk {
             runtime,
@@ -68,7 +64,7 @@ impl<W: Wait> SharedDesk<W> {
     }
 }
 
-impl<W: Wait> Desk for SharedDesk<W> {
+impl<W: Wait, L: AccountLock> Desk for SharedDesk<W, L> {
     ghost use Rattle.account_desk.specs.SharedDesk.{shown_by_passes};
 
     ghost shown = { shown_by_passes };
@@ -78,7 +74,7 @@ impl<W: Wait> Desk for SharedDesk<W> {
     }
 
     fn call(&mut self, account: u32, call: &Call, moment: Moment) -> Result<Reply, DeskError> {
-        if self.turns == MOST_TURNS {
+        if self.turns == MAX_TURNS {
             return Err(DeskError::PassSpent);
         }
         self.turns += 1;

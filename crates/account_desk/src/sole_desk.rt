@@ -1,6 +1,6 @@
 //! A desk that has its accounts for itself.
-ghost use Rattle.std.specs.Prelude.{◌≡◌, ◌<◌, IfOk, length};
-ghost use Rattle.account_desk.specs.SoleDesk.{fresh_account, of_desk, shown_of};
+ghost use Rattle.std.specs.Prelude.{◌≡◌, ◌<◌, ◌^◌, IfOk, length};
+ghost use Rattle.account_desk.specs.SoleDesk.{fresh_account, fresh_accounts, of_desk, shown_of};
 ghost use Rattle.account_desk.specs.FreshDesk.{IsSole, fresh_desk};
 
 use account_core::account::Account;
@@ -16,7 +16,7 @@ use std::sync::Arc;
 /// The author number of all entries.
 const AUTHOR: u32 = 0;
 /// The most calls that a desk makes.
-const MOST_TURNS: u64 = 1 << 40;
+const MAX_TURNS: u64 = 1 << 40;
 
 /// A desk that has its accounts for itself, so that all their entries are its own. Contracts see the base and the entries of
 /// each account, and how many calls were made.
@@ -48,12 +48,10 @@ impl SoleDesk {
     pub fn open(alloc: Global, site: &Site) -> Result<SoleDesk, AllocError>
         ensures { IfOk result (λ d. shown_of d ≡ fresh_desk site.now) }
     {
-        let count = site.accounts();
-        let mut accounts = Vec::with_capacity(alloc, count as usize)?;
-        for n in 0..count {
-            accounts.push(open_account(alloc, site, n)?)?;
-        }
-        Ok(SoleDesk { accounts, turns: 0 })
+        Ok(SoleDesk {
+            accounts: fresh_accounts(alloc, site)?,
+            turns: 0,
+        })
     }
 
     /// No entry of the accounts is anybody else's than the desk's. A law; it does nothing.
@@ -74,7 +72,7 @@ impl Desk for SoleDesk {
     }
 
     fn call(&mut self, account: u32, call: &Call, moment: Moment) -> Result<Reply, DeskError> {
-        if self.turns == MOST_TURNS {
+        if self.turns == MAX_TURNS {
             return Err(DeskError::PassSpent);
         }
         self.turns += 1;
@@ -84,13 +82,26 @@ impl Desk for SoleDesk {
     }
 }
 
+/// The accounts of a site, in its order, without entries. Takes memory for the accounts and their ids.
+pub fn fresh_accounts(alloc: Global, site: &Site) -> Result<Vec<Account>, AllocError>
+    ensures fresh { IfOk result (λ accounts. accounts.items ≡ fresh_accounts site.now) }
+    ensures few { IfOk result (λ accounts. length accounts.items < 2 ^ 32) }
+{
+    let count = site.accounts();
+    let mut accounts = Vec::with_capacity(alloc, count as usize)?;
+    for n in 0..count {
+        accounts.push(open_account(alloc, site, n)?)?;
+    }
+    Ok(accounts)
+}
+
 /// The account of a number of a site, without entries. Takes memory for its id.
 pub fn open_account(alloc: Global, site: &Site, n: u32) -> Result<Account, AllocError>
     requires { n < length site.now.accounts }
     ensures { IfOk result (λ a. a ≡ fresh_account site.now n) }
 {
     let id = site.account_id(n).copy()?;
-    Account::open(alloc, id, Arc::try_clone(site.zones())?)
+    Account::open(alloc, id, Arc::try_clone(site.zones())?, site.generation())
 }
 
 fn as_of_desk(reply: Result<Reply, AllocError>) -> Result<Reply, DeskError>

@@ -10,11 +10,12 @@ impl Model for View {
     ghost use Rattle.std.specs.Coded.{codes};
     ghost use Rattle.spec_json.specs.DataCode.{data_code};
     ghost use Rattle.account_lock.specs.Lock.{PassView};
+    ghost use Rattle.spec_history.specs.Base.{no_base};
     ghost use Rattle.account_lock.specs.LockSteps.{new_pass};
 
     ghost Value = { PassView };
 
     ghost coded = { Prim.hlevel (codes, data_code) };
 
-    ghost view = { λ _. new_pass 0 [] (record { account_id = []; zones = [] }) };
+    ghost view = { λ _. new_pass 0 [] no_base };
 }

@@ -13,8 +13,8 @@ ghost use Rattle.spec_bookings.specs.Resources.{is_resource, resources_at};
 ghost use Rattle.spec_bookings.specs.SeriesPut.{series_put};
 ghost use Rattle.spec_site.specs.TimeZones.{ZoneText};
 
-/// An account without changes has no rooms. A change that fits keeps what the rooms keep: among it, that no second of a resource is
-/// covered twice.
+/// An account without changes has no rooms. Where the number of the next calendar isn't taken, a change that fits keeps what the rooms keep:
+/// among it, that no second of a resource is covered twice.
 pub fn rooms_follow_changes()
     ensures none { (zones : List ZoneText) → AreRooms zones [] [] }
     ensures more { (zones : List ZoneText) (cs : List Change) (c : Change) (rs : List BookedRoom) → AreRooms zones cs rs → IsFit zones cs c

@@ -7,7 +7,7 @@ use Rattle.std.proofs.lemmas.List.Sums.{length-filter}
 use Rattle.std.specs.Bool.{then_some}
 use Rattle.std.proofs.lemmas.Bool.{false≢true}
 use Rattle.std.proofs.lemmas.Option.{none-some}
-use Rattle.spec_history.specs.History.{changes_of, is_kind, state_at}
+use Rattle.spec_history.specs.History.{changes_of, is_kind, count_of_kind}
 use Rattle.spec_history.specs.declared.entry.Change.{Change}
 use Rattle.spec_history.specs.declared.entry.Entry.{Entry}
 use Rattle.spec_history.specs.declared.entry.Kind.{Kind}
@@ -59,7 +59,7 @@ puts_still es more kind (p ∷ ps) (q ∷ qs) h =
 
 -- the put or removal of one more change of its kind
 abbrev next_put : List Change → Change → Put Tree
-next_put cs c = record { id = c.id; state = suc (state_at cs c.kind); object = c.object }
+next_put cs c = record { id = c.id; state = suc (count_of_kind cs c.kind); object = c.object }
 
 puts_after_more : (cs : List Change) (c : Change) (n k : ℕ) → k ≡ n + length cs → puts_after n (cs ++ c ∷ []) ≡ puts_after n cs ++ record { id = c.id; state = suc k; object = c.object } ∷ []
 puts_after_more [] c n k e = let same : n ≡ k = omega (arith, e) in ap (λ m. record { id = c.id; state = suc m; object = c.object } ∷ []) same
@@ -77,8 +77,8 @@ same_kind Event Calendar h = absurd (false≢true h)
 
 puts_in_more : (cs : List Change) (c : Change) (kind : Kind) (b : Bool) → is_kind kind c.kind ≡ b → puts_in kind (cs ++ c ∷ []) ≡ (if b then puts_in kind cs ++ next_put cs c ∷ [] else puts_in kind cs)
 puts_in_more cs c kind true e =
-    let count : state_at cs c.kind ≡ 0 + length (of_kind kind cs) = omega (arith, ap (state_at cs) (same_kind kind c.kind e), length-filter (λ x. is_kind kind x.kind) cs) in
-    ap (puts_after 0) (of_kind_more cs c kind true e) ∙ puts_after_more (of_kind kind cs) c 0 (state_at cs c.kind) count
+    let count : count_of_kind cs c.kind ≡ 0 + length (of_kind kind cs) = omega (arith, ap (count_of_kind cs) (same_kind kind c.kind e), length-filter (λ x. is_kind kind x.kind) cs) in
+    ap (puts_after 0) (of_kind_more cs c kind true e) ∙ puts_after_more (of_kind kind cs) c 0 (count_of_kind cs c.kind) count
 puts_in_more cs c kind false e = ap (puts_after 0) (of_kind_more cs c kind false e)
 
 placed : (f : ℕ → Option Tree) (place : ℕ) (object : Option Tree) → f place ≡ object → option_map f (then_some (is_some object) place) ≡ option_map Some object
@@ -90,10 +90,10 @@ abbrev told_of : List Entry → Entry → ℕ → ℕ → Put ℕ
 told_of es e state place = record { id = e.change.id; state = state; object = then_some (is_some e.change.object) place }
 
 told_more : (es : List Entry) (e : Entry) (kind : Kind) (ps : List (Put ℕ)) → ArePlaces es kind ps → (b : Bool) → is_kind kind e.change.kind ≡ b
-    → ArePlaces (es ++ e ∷ []) kind (if b then ps ++ told_of es e (suc (state_at (changes_of es) e.change.kind)) (length es) ∷ [] else ps)
+    → ArePlaces (es ++ e ∷ []) kind (if b then ps ++ told_of es e (suc (count_of_kind (changes_of es) e.change.kind)) (length es) ∷ [] else ps)
 told_more es e kind ps are true is =
     let all = es ++ e ∷ [] in
-    let p = told_of es e (suc (state_at (changes_of es) e.change.kind)) (length es) in
+    let p = told_of es e (suc (count_of_kind (changes_of es) e.change.kind)) (length es) in
     let qs = puts_in kind (changes_of es) in
     let q = next_put (changes_of es) e.change in
     map-append (λ (p : Put ℕ). record { id = p.id; state = p.state; object = option_map (object_in all kind) p.object }) ps (p ∷ [])
@@ -107,11 +107,11 @@ told_more es e kind ps are false is =
 
 -- the tables of both kinds after one more entry
 pub places_grow : (es : List Entry) (e : Entry) (kind : Kind) (ps now : List (Put ℕ)) (count state end : ℕ) (place : Option ℕ)
-    → ArePlaces es kind ps → count ≡ state_at (changes_of es) e.change.kind → state ≡ count + 1 → end ≡ length es → place ≡ then_some (is_some e.change.object) end
+    → ArePlaces es kind ps → count ≡ count_of_kind (changes_of es) e.change.kind → state ≡ count + 1 → end ≡ length es → place ≡ then_some (is_some e.change.object) end
     → now ≡ (if is_kind kind e.change.kind then ps ++ record { id = e.change.id; state = state; object = place } ∷ [] else ps) → ArePlaces (es ++ e ∷ []) kind now
 places_grow es e kind ps now count state end place are counted next at is told =
     let told_with = λ (s : ℕ) (o : Option ℕ). if is_kind kind e.change.kind then ps ++ record { id = e.change.id; state = s; object = o } ∷ [] else ps in
-    let number : state ≡ suc (state_at (changes_of es) e.change.kind) = omega (arith, counted, next) in
-    let same : now ≡ told_with (suc (state_at (changes_of es) e.change.kind)) (then_some (is_some e.change.object) (length es)) =
-    told ∙ ap (λ s. told_with s place) number ∙ ap (told_with (suc (state_at (changes_of es) e.change.kind))) (is ∙ ap (then_some (is_some e.change.object)) at) in
+    let number : state ≡ suc (count_of_kind (changes_of es) e.change.kind) = omega (arith, counted, next) in
+    let same : now ≡ told_with (suc (count_of_kind (changes_of es) e.change.kind)) (then_some (is_some e.change.object) (length es)) =
+    told ∙ ap (λ s. told_with s place) number ∙ ap (told_with (suc (count_of_kind (changes_of es) e.change.kind))) (is ∙ ap (then_some (is_some e.change.object)) at) in
     subst (ArePlaces (es ++ e ∷ []) kind) (sym same) (told_more es e kind ps are (is_kind kind e.change.kind) refl)

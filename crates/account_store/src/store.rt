@@ -2,7 +2,7 @@
 ghost use Rattle.std.specs.Prelude.{◌≡◌, ◌<◌, ◌≤◌, ◌+◌, ◌++◌, ◌∷◌, ◌↔◌, [], false, is_some, length, map, None, option_and_then, option_copied, IfOk, IsErrOf, OnOk, if◌then◌else◌};
 ghost use Rattle.std.specs.Coded.{codes};
 ghost use Rattle.spec_json.specs.DataCode.{data_code};
-ghost use Rattle.spec_history.specs.History.{changes_of, ids_at, is_kind, live_at, live_object, state_at};
+ghost use Rattle.spec_history.specs.History.{changes_of, ids_at, is_kind, live_at, live_object, count_of_kind};
 ghost use Rattle.spec_history.specs.Pages.{is_retained, mentions};
 ghost use Rattle.spec_history.specs.declared.entry.Kind.{Kind};
 ghost use Rattle.state_log.specs.IsPage.{IsPage};
@@ -155,7 +155,7 @@ impl Store {
 
     /// The state of a kind: how many entries are of it (RFC 8620 section 5.1). Takes no memory.
     pub fn count(&self, kind: Kind) -> u64
-        ensures { result ≡ state_at (changes_of (entries self.now)) kind }
+        ensures { result ≡ count_of_kind (changes_of (entries self.now)) kind }
     {
         self.journal.count(kind)
     }
@@ -163,7 +163,7 @@ impl Store {
     /// What was created, updated and destroyed after the state `since` of a kind (RFC 8620 section 5.2), as [`Journal::changes`] gives it.
     pub fn changes(&self, kind: Kind, since: u64, max: Option<u64>) -> Result<Page, ChangesError>
         ensures ok { IfOk result (IsPage (mentions kind (changes_of (entries self.now))) since max) }
-        ensures not_retained { IsErrOf result ChangesError.NotRetained ↔ (is_retained (state_at (changes_of (entries self.now)) kind) since ≡ false) }
+        ensures not_retained { IsErrOf result ChangesError.NotRetained ↔ (is_retained (count_of_kind (changes_of (entries self.now)) kind) since ≡ false) }
     {
         self.journal.changes(kind, since, max)
     }

@@ -1,4 +1,4 @@
 pub mod Runs
-pub mod Placing
+pub mod Joining
 pub mod Marking
 pub mod Determined

@@ -1,5 +1,6 @@
--- Lists of periods that don't touch, and one more period.
-use Rattle.std.specs.Prelude.{not, Bool, true, false, int_lt, List, [], ◌∷◌, Some, if◌then◌else◌}
+-- Periods in the order of their starts, joined where they touch.
+use Rattle.std.specs.Prelude.{Bool, int_le, int_lt, ◌&&◌, List, [], ◌∷◌, Some, if◌then◌else◌}
+use Rattle.std.specs.List.{list_all}
 use Rattle.std.specs.Int.{int_max, int_min}
 use Rattle.spec_windows.specs.declared.period.Period.{Period}
 use Rattle.spec_windows.specs.declared.window.Window.{Window}
@@ -12,25 +13,21 @@ hull p q = record { from = int_min p.from q.from; to = int_max p.to q.to }
 abbrev pub common : Period → Period → Period
 common p q = record { from = int_max p.from q.from; to = int_min p.to q.to }
 
--- the first period begins by the end of the one that comes
-abbrev pub touches_first : Period → List Period → Bool
-touches_first s [] = false
-touches_first s (p ∷ ps) = not (int_lt s.to p.from)
+-- a period joined with those behind it that begin by its end, before what comes of the others
+unfoldable pub joined_from : Period → List Period → List Period
+joined_from s [] = s ∷ []
+joined_from s (p ∷ ps) = if int_lt s.to p.from then s ∷ joined_from p ps else joined_from (hull s p) ps
 
--- the first period, if there is one, doesn't end before the one that comes
-abbrev pub is_reached : Period → List Period → Bool
-is_reached s [] = true
-is_reached s (p ∷ ps) = not (int_lt p.to s.from)
+abbrev pub joined : List Period → List Period
+joined [] = []
+joined (p ∷ ps) = joined_from p ps
 
--- a period merged with those that begin by its end, before those behind them
-unfoldable pub merged : Period → List Period → List Period
-merged s [] = s ∷ []
-merged s (p ∷ ps) = if int_lt s.to p.from then s ∷ (p ∷ ps) else merged (hull p s) ps
+-- the period has an instant, and none outside the window
+abbrev pub is_inside : Period → Period → Bool
+is_inside w p = int_le w.from p.from && (int_lt p.from p.to && int_le p.to w.to)
 
--- the periods with one more
-unfoldable pub with_period : Period → List Period → List Period
-with_period s [] = s ∷ []
-with_period s (p ∷ ps) = if int_lt p.to s.from then p ∷ with_period s ps else merged s (p ∷ ps)
+abbrev pub are_inside : Period → List Period → Bool
+are_inside w ps = list_all (is_inside w) ps
 
 -- what an occurrence meets that has an instant of the period
 abbrev pub limits : Period → Window

@@ -1,9 +1,11 @@
-//! Lists of periods that don't touch.
-ghost use Rattle.std.specs.Prelude.{◌≡◌, ◌++◌, ◌<◌, ◌≤◌, int_le, int_lt, true, OnErr, OnOk, drop, take, length};
-ghost use Rattle.availability.specs.Merging.{common, hull, is_reached, touches_first, merged, with_period};
+//! Periods, and their runs.
+ghost use Rattle.std.specs.Prelude.{◌≡◌, ◌++◌, ◌∷◌, ◌-ℤ◌, ℤ, int_le, int_lt, pos, true, IfOk, List};
+ghost use Rattle.availability.specs.Merging.{are_inside, common, hull, joined, joined_from};
+ghost use Rattle.spec_windows.specs.BusyPeriods.{are_runs, is_busy};
+ghost use Rattle.spec_windows.specs.declared.period.Period.{Period};
 
 use spec_windows::period::Period;
-use std::alloc::AllocError;
+use std::alloc::{AllocError, Global};
 
 // Both periods and what is between them.
 fn hull_of(p: Period, q: Period) -> Period
@@ -22,55 +24,43 @@ fn ends_before(p: Period, q: Period) -> bool
     p.to < q.from
 }
 
-// The place of the first period that doesn't end before the one that comes.
-fn place_of(periods: &[Period], span: Period) -> usize
-    ensures place { take result periods.now ++ with_period span (drop result periods.now) ≡ with_period span periods.now }
-    ensures reached { is_reached span (drop result periods.now) ≡ true }
-    ensures within { result ≤ length periods.now }
+// Joins the last period with the one that comes, or adds it to the runs; gives what is the last one then.
+#[tactic(auto, unfolding(crate::specs::Merging::joined_from))]
+fn join_next(runs: &mut Vec<Period>, last: Period, span: Period) -> Result<Period, AllocError>
+    ensures { IfOk result (λ next. (rest : List Period) → runs.new.items ++ joined_from next rest ≡ runs.old.items ++ joined_from last (span ∷ rest)) }
 {
-    for (i, p) in periods.iter().enumerate() {
-        if !ends_before(*p, span) {
-            return i;
-        }
+    if ends_before(last, span) {
+        runs.push(last)?;
+        return Ok(span);
     }
-    periods.len()
+    Ok(hull_of(last, span))
 }
 
-// Whether the period at a place begins by the end of the one that comes.
-fn touches(periods: &[Period], i: usize, span: Period) -> bool
-    ensures { result ≡ touches_first span (drop i periods.now) }
+// Joins periods in the order of their starts.
+#[tactic(auto, unfolding(crate::specs::Merging::joined_from))]
+fn joined(alloc: Global, spans: &[Period]) -> Result<Vec<Period>, AllocError>
+    ensures { IfOk result (λ ps. ps.items ≡ joined spans.now) }
 {
-    i < periods.len() && !ends_before(span, periods[i])
+    let mut runs = Vec::new(alloc);
+    let Some((first, others)) = spans.split_first() else {
+        return Ok(runs);
+    };
+    let mut last = *first;
+    for span in others {
+        last = join_next(&mut runs, last, *span)?;
+    }
+    runs.push(last)?;
+    Ok(runs)
 }
 
-// Merges the periods from a place on into the one that comes, as far as they touch it.
-fn merge_at(periods: &mut Vec<Period>, i: usize, span: Period)
-    requires within { i < length periods.old.items }
-    requires touches { touches_first span (drop i periods.old.items) ≡ true }
-    ensures { periods.new.items ≡ take i periods.old.items ++ merged span (drop i periods.old.items) }
+/// The maximal runs of the instants that some of these periods cover, in order. Takes memory for them.
+pub(crate) fn runs_of(alloc: Global, spans: Vec<Period>) -> Result<Vec<Period>, AllocError>
+    ensures busy { IfOk result (λ ps. (u : ℤ) → is_busy ps.items u ≡ is_busy spans.items u) }
+    ensures runs { IfOk result (λ ps. (w : Period) → are_inside w spans.items ≡ true → are_runs (w.from -ℤ pos 1) w.to ps.items ≡ true) }
 {
-    let mut s = hull_of(periods[i], span);
-    while touches(periods, i + 1, s) {
-        let next = periods.remove(i + 1);
-        s = hull_of(next, s);
-    }
-    periods[i] = s;
-}
-
-/// Adds a period. On an error the periods are as before.
-pub(crate) fn add_period(periods: &mut Vec<Period>, span: Period) -> Result<(), AllocError>
-    ensures ok { OnOk result (periods.new.items ≡ with_period span periods.old.items) }
-    ensures err { OnErr result (periods.new.items ≡ periods.old.items) }
-{
-    let i = place_of(periods, span);
-    if touches(periods, i, span) {
-        merge_at(periods, i, span);
-        return Ok(());
-    }
-    match periods.insert(i, span) {
-        Ok(()) => Ok(()),
-        Err(_) => Err(AllocError),
-    }
+    let mut spans = spans;
+    spans.sort_by_key(|span| span.from)?;
+    joined(alloc, &spans)
 }
 
 /// What two periods have in common.

@@ -1,6 +1,6 @@
 -- The instants that events take up.
 use Rattle.std.proofs.Common.{◌≡◌, ◌&&◌, ◌||◌, ◌⊎◌, ℕ, inl, inr, Bool, true, false, refl, sym, subst, ap, ◌∙◌, ℤ, pos, ◌-ℤ◌, ◌<ℤ◌, Option, Some, None, List}
-use Rattle.std.specs.Prelude.{◌↔◌, Result, Ok, Err, OnOk}
+use Rattle.std.specs.Prelude.{◌↔◌, Result, Ok, Err, IfOk, OnOk}
 use Rattle.jiff_tz.specs.PosixText.{TzText}
 use Rattle.availability_method.proofs.RunLemmas.{busy_in_years, runs_are}
 use Rattle.availability_method.specs.Periods.{AreInYears}
@@ -72,6 +72,13 @@ pub taken_by_all : (w kept : Period) (ps : List Period) (zones : List ZoneText) 
     → ((u : ℤ) → is_busy ps u ≡ (lies_in u w && is_taken_up zones floating seen u)) → ps ≡ runs_in (is_taken_up zones floating all) w
 taken_by_all w kept ps zones floating all seen e f lt r same = runs_are (is_taken_up zones floating all) w ps lt
     (subst (λ (x : Period). are_runs (x.from -ℤ pos 1) x.to ps ≡ true) e r) (λ u. same u ∙ ap (λ es. lies_in u w && is_taken_up zones floating es u) f)
+
+-- where there was memory for them
+pub taken_told : {X E : Type 0} (r : Result X E) (items : X → List Period) (w kept : Period) (spans : List Period) (zones : List ZoneText) (floating : List ℕ) (all seen : List Tree) → kept ≡ w → seen ≡ all → w.from <ℤ w.to
+    → IfOk r (λ x. are_runs (kept.from -ℤ pos 1) kept.to (items x) ≡ true) → IfOk r (λ x. (u : ℤ) → is_busy (items x) u ≡ is_busy spans u)
+    → ((u : ℤ) → is_busy spans u ≡ (lies_in u w && is_taken_up zones floating seen u)) → IfOk r (λ x. items x ≡ runs_in (is_taken_up zones floating all) w)
+taken_told (Ok x) items w kept spans zones floating all seen e f lt runs same busy = taken_by_all w kept (items x) zones floating all seen e f lt runs (λ u. same u ∙ busy u)
+taken_told (Err error) items w kept spans zones floating all seen e f lt runs same busy = tt
 
 pub taken_in_years : (w kept : Period) (ps : List Period) → kept ≡ w → is_showing w.from ≡ true → is_showing w.to ≡ true → are_runs (kept.from -ℤ pos 1) kept.to ps ≡ true → AreInYears ps
 taken_in_years w kept ps e from to r = busy_in_years w ps from to (subst (λ (x : Period). are_runs (x.from -ℤ pos 1) x.to ps ≡ true) e r)

@@ -23,19 +23,19 @@ pub(crate) fn busy_of(
     zones: &Zones,
     floating: &Text,
     window: Period,
-) -> Result<Busy, AllocError>
+) -> Result<Vec<Period>, AllocError>
     requires series { All (HasItsSeries zones.now) events.now }
     requires from { is_showing window.from ≡ true }
     requires to { is_showing window.to ≡ true }
     requires order { window.from <ℤ window.to }
-    ensures periods { IfOk result (λ b. b.periods.items ≡ runs_in (is_taken_up zones.now floating.now (map (λ e. e.object.now) events.now)) window) }
-    ensures years { IfOk result (λ b. AreInYears b.periods.items) }
+    ensures periods { IfOk result (λ ps. ps.items ≡ runs_in (is_taken_up zones.now floating.now (map (λ e. e.object.now) events.now)) window) }
+    ensures years { IfOk result (λ ps. AreInYears ps.items) }
 {
     let mut busy = Busy::new(alloc, window);
     for event in events {
         add_event(alloc, &mut busy, event, zones, floating)?;
     }
-    Ok(busy)
+    busy.into_periods(alloc)
 }
 
 // Adds what the occurrences of an event take up of the window.
@@ -48,8 +48,8 @@ fn add_event(
 ) -> Result<(), AllocError>
     requires { HasItsSeries zones.now event.now }
     ensures window { busy.new.window ≡ busy.old.window }
-    ensures busy { OnOk result ((u : ℤ) → is_busy busy.new.periods.items u
-        ≡ (is_busy busy.old.periods.items u || (lies_in u busy.old.window && takes_up zones.now floating.now u (data_of event.now.object.now)))) }
+    ensures busy { OnOk result ((u : ℤ) → is_busy busy.new.spans.items u
+        ≡ (is_busy busy.old.spans.items u || (lies_in u busy.old.window && takes_up zones.now floating.now u (data_of event.now.object.now)))) }
 {
     let Some(series) = event.series else {
         return Ok(());

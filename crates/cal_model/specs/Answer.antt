@@ -27,7 +27,7 @@ use Rattle.spec_history.specs.declared.stamp.Stamp.{Stamp}
 use Rattle.spec_json.specs.declared.tree.Tree.{Tree}
 use Rattle.spec_json.specs.declared.tree.Tree.TheVariants.{Null}
 use Rattle.spec_queries.specs.Queries.{query_changes_refusal, query_changes_response, query_refusal, query_response}
-use Rattle.time_text.specs.State.{state_in}
+use Rattle.time_text.specs.State.{number_named}
 
 -- the arguments of a response, and the ids that the call created (RFC 8620 sections 3.3 and 3.4)
 abbrev pub answered : List Entry → Tree → List (List ℕ × List ℕ) → Reply
@@ -47,21 +47,22 @@ unless_refused None cs = cs
 unless_refused (Some e) cs = []
 
 -- `/get` (RFC 8620 section 5.1)
-abbrev pub get_answer : List ℕ → List Entry → List (List ℕ × List ℕ) → GetArguments → Reply
-get_answer account h created q = unless_error h (get_error (changes_of h) q) (answered h (get_response account q.kind (changes_of h)
+abbrev pub get_answer : Base → List Entry → List (List ℕ × List ℕ) → GetArguments → Reply
+get_answer base h created q = unless_error h (get_error (changes_of h) q) (answered h (get_response base q.kind (changes_of h)
     (map (selected q.properties) (objects_asked (changes_of h) q.kind created q.ids)) (ids_not_found (changes_of h) q.kind created q.ids)) [])
 
 -- `/changes` (RFC 8620 section 5.2)
-abbrev pub changes_answer : List ℕ → List Entry → ChangesArguments → Reply
-changes_answer account h q = unless_error h (changes_refusal (changes_of h) q) (answered h (changes_response account (changes_of h) q (unwrap_or (state_in q.since) 0)) [])
+abbrev pub changes_answer : Base → List Entry → ChangesArguments → Reply
+changes_answer base h q = unless_error h (changes_refusal base.generation (changes_of h) q)
+    (answered h (changes_response base (changes_of h) q (unwrap_or (number_named base.generation q.since) 0)) [])
 
 -- `/query` (RFC 8620 section 5.5)
 abbrev pub query_answer : Base → List Entry → QueryArguments → Reply
-query_answer base h q = unless_error h (query_refusal base.zones (changes_of h) q) (answered h (query_response base.zones (changes_of h) q base.account_id) [])
+query_answer base h q = unless_error h (query_refusal base (changes_of h) q) (answered h (query_response base (changes_of h) q) [])
 
 -- `/queryChanges` (RFC 8620 section 5.6)
 abbrev pub query_changes_answer : Base → List Entry → QueryChangesArguments → Reply
-query_changes_answer base h q = unless_error h (query_changes_refusal base.zones (changes_of h) q) (answered h (query_changes_response base.zones (changes_of h) q base.account_id) [])
+query_changes_answer base h q = unless_error h (query_changes_refusal base (changes_of h) q) (answered h (query_changes_response base (changes_of h) q) [])
 
 -- `Principal/getAvailability` (draft JMAP for Calendars)
 abbrev pub availability_answer : Base → List Entry → AvailabilityArguments → Reply
@@ -73,15 +74,15 @@ module _ (base : Base) (h : List Entry) (moment : ℤ) (created : List (List ℕ
 
   -- `/set` (RFC 8620 section 5.3)
   abbrev pub set_answer : SetArguments → Reply
-  set_answer q = unless_error h (set_refusal q.kind (changes_of h) (objects_of q) q.if_in_state q.remove_events)
+  set_answer q = unless_error h (set_refusal base.generation q.kind (changes_of h) (objects_of q) q.if_in_state q.remove_events)
       (answered h (set_arguments ground q.kind created (changes_of h) (objects_of q)) (new_ids ground q.kind created (changes_of h) (objects_of q)))
 
   abbrev pub set_added : SetArguments → List Change
-  set_added q = unless_refused (set_refusal q.kind (changes_of h) (objects_of q) q.if_in_state q.remove_events) (set_changes ground q.kind created (changes_of h) (objects_of q))
+  set_added q = unless_refused (set_refusal base.generation q.kind (changes_of h) (objects_of q) q.if_in_state q.remove_events) (set_changes ground q.kind created (changes_of h) (objects_of q))
 
   abbrev pub answer_to : Asks → Reply
-  answer_to (Get q) = get_answer base.account_id h created q
-  answer_to (Changes q) = changes_answer base.account_id h q
+  answer_to (Get q) = get_answer base h created q
+  answer_to (Changes q) = changes_answer base h q
   answer_to (Set q) = set_answer q
   answer_to (Query q) = query_answer base h q
   answer_to (QueryChanges q) = query_changes_answer base h q

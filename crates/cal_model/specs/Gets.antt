@@ -9,8 +9,9 @@ use Rattle.cal_model.specs.Occurrences.{occurrence_named}
 use Rattle.spec_json.specs.Data.{Data, text, list, object, Pair, items_of, members_of}
 use Rattle.spec_core.specs.Names.{is_name}
 use Rattle.spec_core.specs.declared.limits.TheConstants.{MAX_OBJECTS_IN_GET}
+use Rattle.spec_history.specs.Base.{Base}
 use Rattle.spec_history.specs.History.{live_at}
-use Rattle.spec_history.specs.ObjectId.{state_text}
+use Rattle.spec_history.specs.States.{state_of, state_text}
 use Rattle.spec_json.specs.Parts.{members_in, some_of}
 use Rattle.spec_json.specs.TreeData.{data_of}
 use Rattle.spec_calls.specs.declared.call.GetArguments.{GetArguments}
@@ -66,7 +67,7 @@ get_error cs q =
     if not (are_properties q.kind q.properties) then Some InvalidArguments
     else if nat_lt MAX_OBJECTS_IN_GET (count_asked cs q.kind q.ids) then Some RequestTooLarge else None
 
-abbrev pub get_response : List ℕ → Kind → List Change → List Data → List (List ℕ) → Tree
-get_response account kind cs objects missing = Object (
-    (codes "accountId", text account) ∷ (codes "list", list (items_of objects))
-    ∷ (codes "notFound", list (items_of (map text missing))) ∷ (codes "state", text (state_text kind cs)) ∷ [])
+abbrev pub get_response : Base → Kind → List Change → List Data → List (List ℕ) → Tree
+get_response base kind cs objects missing = Object (
+    (codes "accountId", text base.account_id) ∷ (codes "list", list (items_of objects))
+    ∷ (codes "notFound", list (items_of (map text missing))) ∷ (codes "state", text (state_text (state_of base.generation kind cs))) ∷ [])

@@ -6,7 +6,8 @@ use Rattle.cal_model.specs.SetErrors.{set_error}
 use Rattle.cal_model.specs.Sets.{Objects, create_outcomes, destroy_outcomes, ids_to_destroy, of_each, set_changes, update_outcomes}
 use Rattle.cal_model.specs.declared.outcome.Outcome.{Outcome}
 use Rattle.cal_model.specs.declared.outcome.Outcome.TheVariants.{Accepted, Refused}
-use Rattle.spec_history.specs.ObjectId.{id_text, state_text}
+use Rattle.spec_history.specs.ObjectId.{id_text}
+use Rattle.spec_history.specs.States.{state_of, state_text}
 use Rattle.spec_history.specs.declared.entry.Change.{Change}
 use Rattle.spec_history.specs.declared.entry.Kind.{Kind}
 use Rattle.spec_history.specs.declared.entry.Kind.TheVariants.{Calendar, Event}
@@ -68,9 +69,9 @@ set_arguments g kind created cs s = Object (
     (codes "accountId", text g.base.account_id)
     ∷ (codes "created", object_or_null (of_each created_member s.creates (create_outcomes g kind created cs s)))
     ∷ (codes "destroyed", list_or_null (of_each destroyed_item (ids_to_destroy g kind created cs s) (destroy_outcomes g kind created cs s)))
-    ∷ (codes "newState", text (state_text kind (cs ++ set_changes g kind created cs s)))
+    ∷ (codes "newState", text (state_text (state_of g.base.generation kind (cs ++ set_changes g kind created cs s))))
     ∷ (codes "notCreated", object_or_null (of_each refused_member s.creates (create_outcomes g kind created cs s)))
     ∷ (codes "notDestroyed", object_or_null (of_each refused_member (ids_to_destroy g kind created cs s) (destroy_outcomes g kind created cs s)))
     ∷ (codes "notUpdated", object_or_null (of_each refused_member s.updates (update_outcomes g kind created cs s)))
-    ∷ (codes "oldState", text (state_text kind cs))
+    ∷ (codes "oldState", text (state_text (state_of g.base.generation kind cs)))
     ∷ (codes "updated", object_or_null (of_each updated_member s.updates (update_outcomes g kind created cs s))) ∷ [])

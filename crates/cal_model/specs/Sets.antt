@@ -10,7 +10,7 @@ use Rattle.spec_calls.specs.declared.call.MethodError.TheVariants.{InvalidArgume
 use Rattle.spec_calls.specs.declared.call.SetArguments.{SetArguments}
 use Rattle.spec_core.specs.Id.{is_id}
 use Rattle.spec_core.specs.declared.limits.TheConstants.{MAX_OBJECTS_IN_SET}
-use Rattle.spec_history.specs.ObjectId.{state_text}
+use Rattle.spec_history.specs.States.{state_of, state_text}
 use Rattle.spec_history.specs.declared.entry.Change.{Change}
 use Rattle.spec_history.specs.declared.entry.Kind.{Kind}
 use Rattle.spec_json.specs.Data.{Pair}
@@ -35,16 +35,17 @@ abbrev pub are_values : Objects → Option Bool → Bool
 are_values s remove_events =
     (list_all (λ p. is_id p.0 && is_object p.1) s.creates && list_all (λ p. is_object p.1) s.updates) && not (unwrap_or remove_events false)
 
-abbrev pub is_in_state : Kind → List Change → Option (List ℕ) → Bool
-is_in_state kind cs None = true
-is_in_state kind cs (Some state) = bytes_eq state (state_text kind cs)
+abbrev pub is_in_state : ℕ → Kind → List Change → Option (List ℕ) → Bool
+is_in_state generation kind cs None = true
+is_in_state generation kind cs (Some state) = bytes_eq state (state_text (state_of generation kind cs))
 
--- why a set is refused as a whole: a value that isn't one of the argument's, then too many objects, then another state than the client's
-abbrev pub set_refusal : Kind → List Change → Objects → Option (List ℕ) → Option Bool → Option MethodError
-set_refusal kind cs s if_in_state remove_events =
+-- why a set in an account of this generation is refused as a whole: a value that isn't one of the argument's, then too many objects, then
+-- another state than the client's
+abbrev pub set_refusal : ℕ → Kind → List Change → Objects → Option (List ℕ) → Option Bool → Option MethodError
+set_refusal generation kind cs s if_in_state remove_events =
     if not (are_values s remove_events) then Some InvalidArguments
     else if nat_lt MAX_OBJECTS_IN_SET (length s.creates + (length s.updates + length s.destroys)) then Some RequestTooLarge
-    else if not (is_in_state kind cs if_in_state) then Some StateMismatch else None
+    else if not (is_in_state generation kind cs if_in_state) then Some StateMismatch else None
 
 -- a text of a call and the id that it stands for
 abbrev pub NamedId : Type 0

@@ -5,7 +5,8 @@ ghost use Rattle.cal_model.specs.Fits.{IsFit};
 ghost use Rattle.cal_model.specs.Quota.{size_of, size_of_object};
 ghost use Rattle.cal_model.specs.declared.limits.TheConstants.{MAX_ENTRIES, MAX_OBJECT_BYTES};
 ghost use Rattle.spec_history.specs.Base.{Base};
-ghost use Rattle.spec_history.specs.History.{changes_of, ids_at, live_object, state_at};
+ghost use Rattle.spec_history.specs.History.{changes_of, ids_at, live_object};
+ghost use Rattle.spec_history.specs.States.{state_of};
 ghost use Rattle.spec_history.specs.declared.entry.Change.{Change as AnyChange};
 ghost use Rattle.spec_history.specs.declared.entry.Entry.{Entry};
 ghost use Rattle.spec_bookings.specs.BookedResources.{other_bookings};
@@ -16,6 +17,7 @@ ghost use Rattle.spec_series.specs.Lengths.{IsWeekLong};
 
 use spec_bookings::clash::Clash;
 use spec_history::entry::{Change, Kind};
+use spec_history::state::State;
 use spec_json::tree::Tree;
 use spec_series::series::Series;
 use std::alloc::{AllocError, Global};
@@ -62,9 +64,13 @@ pub trait AccountView {
         ensures exact { result ≡ length (ids_at (changes self.now) kind) }
         ensures most { result ≤ MAX_ENTRIES };
 
-    /// The state of a kind: how many changes are of it (RFC 8620 section 5.1). Takes no memory.
-    fn state(&self, kind: Kind) -> u64
-        ensures { result ≡ state_at (changes self.now) kind };
+    /// Which copy of the data the account goes on from. Takes no memory.
+    fn generation(&self) -> u64
+        ensures { result ≡ (base self.now).generation };
+
+    /// The state of a kind: the generation, and how many changes are of the kind (RFC 8620 section 5.1). Takes no memory.
+    fn state(&self, kind: Kind) -> State
+        ensures { result ≡ state_of (base self.now).generation kind (changes self.now) };
 
     /// The number of changes. Takes no memory.
     fn count(&self) -> usize

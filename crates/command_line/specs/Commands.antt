@@ -7,21 +7,23 @@ use Rattle.clap.specs.Simple.{on_top}
 use Rattle.clap.specs.Walk.{is_empty}
 use Rattle.clap.specs.declared.builder.action.ArgAction.TheVariants.{Set}
 use Rattle.spec_json.specs.Number.{number_in}
-use Rattle.command_line.specs.declared.listen.TheConstants.{DEFAULT_CONNECTIONS, DEFAULT_WORKERS, MOST_CONNECTIONS, MOST_PORT, MOST_WORKERS}
-use Rattle.command_line.specs.declared.workload.TheConstants.{MOST_NUMBER, MOST_SIZE}
+use Rattle.command_line.specs.declared.listen.TheConstants.{DEFAULT_CONNECTIONS, DEFAULT_WORKERS, MAX_CONNECTIONS, MAX_PORT, MAX_WORKERS}
+use Rattle.command_line.specs.declared.workload.TheConstants.{MAX_NUMBER, MAX_SIZE}
 
--- `batch` with a configuration and a user, each by its name where it is given, `stdio` with a configuration, or `workload` with the number that its generator begins with and its size
-pub data Command : Type 0 where
-  batch : Option (List ℕ) → Option (List ℕ) → Command
-  stdio : List ℕ → Command
-  workload : ℕ → ℕ → Command
-
--- `listen` with a configuration, a port, and so many workers, each for so many connections
+-- what `listen` is to do: with a configuration, a port, and so many workers, each for so many connections
 pub record Listen : Type 0 where
   pub config : List ℕ
   pub port : ℕ
   pub workers : ℕ
   pub connections : ℕ
+
+-- `batch` with a configuration and a user, each by its name where it is given, `stdio` with a configuration, `workload` with the number that its generator begins with and its
+-- size, or `listen`
+pub data Command : Type 0 where
+  batch : Option (List ℕ) → Option (List ℕ) → Command
+  stdio : List ℕ → Command
+  workload : ℕ → ℕ → Command
+  listen : Listen → Command
 
 -- a command of `clap` without options, whose words don't begin with the program's name; it has no `--help` and no `--version`
 abbrev pub without_flags : List ℕ → App
@@ -90,32 +92,22 @@ count_in most text = option_and_then (within most) (number_in text)
 
 -- what the values of the options of `workload` ask for
 abbrev pub workload_with : Option (List ℕ) → Option (List ℕ) → Option Command
-workload_with number size = option_and_then (λ n. option_map (workload n) (option_and_then (count_in MOST_SIZE) size)) (option_and_then (number_up_to MOST_NUMBER) number)
+workload_with number size = option_and_then (λ n. option_map (workload n) (option_and_then (count_in MAX_SIZE) size)) (option_and_then (number_up_to MAX_NUMBER) number)
 
 -- what the words behind `workload` ask for
 abbrev pub workload_of : List (List ℕ) → Option Command
 workload_of words = if accepts workload_app words then workload_with (value_of workload_app words (codes "number")) (value_of workload_app words (codes "size")) else None
-
--- what the words of the command line ask for, where they are a command's
-abbrev pub command_of : List (List ℕ) → Option Command
-command_of [] = None
-command_of (word ∷ words) =
-    if bytes_eq word (codes "batch") then batch_of words
-    else (if bytes_eq word (codes "stdio") then stdio_of words
-    else (if bytes_eq word (codes "workload") then workload_of words else None))
-
--- ---- `listen`
 
 -- the number of an option, or another one where it isn't given
 abbrev pub count_or : ℕ → ℕ → Option (List ℕ) → Option ℕ
 count_or most default None = Some default
 count_or most default (Some text) = count_in most text
 
--- what the values of its options ask for
+-- what the values of the options of `listen` ask for
 abbrev pub listen_with : Option (List ℕ) → Option (List ℕ) → Option (List ℕ) → Option (List ℕ) → Option Listen
 listen_with config port workers connections =
     option_and_then (λ c. option_and_then (λ p. option_and_then (λ w. option_map (λ n. record { config = c; port = p; workers = w; connections = n })
-    (count_or MOST_CONNECTIONS DEFAULT_CONNECTIONS connections)) (count_or MOST_WORKERS DEFAULT_WORKERS workers)) (option_and_then (count_in MOST_PORT) port)) config
+    (count_or MAX_CONNECTIONS DEFAULT_CONNECTIONS connections)) (count_or MAX_WORKERS DEFAULT_WORKERS workers)) (option_and_then (count_in MAX_PORT) port)) config
 
 -- what the words behind `listen` ask for
 abbrev pub listen_of : List (List ℕ) → Option Listen
@@ -125,7 +117,15 @@ listen_of words =
     (value_of listen_app words (codes "connections"))
     else None
 
--- what the words of the command line ask for, where they are those of `listen`
-abbrev pub listen_command_of : List (List ℕ) → Option Listen
-listen_command_of [] = None
-listen_command_of (word ∷ words) = if bytes_eq word (codes "listen") then listen_of words else None
+-- what the words behind a command's name ask for
+unfoldable pub command_named : List ℕ → List (List ℕ) → Option Command
+command_named name words =
+    if bytes_eq name (codes "batch") then batch_of words
+    else (if bytes_eq name (codes "stdio") then stdio_of words
+    else (if bytes_eq name (codes "workload") then workload_of words
+    else (if bytes_eq name (codes "listen") then option_map listen (listen_of words) else None)))
+
+-- what the words of the command line ask for, where they are a command's
+abbrev pub command_of : List (List ℕ) → Option Command
+command_of [] = None
+command_of (name ∷ words) = command_named name words

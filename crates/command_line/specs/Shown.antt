@@ -2,17 +2,18 @@
 use Rattle.std.specs.Prelude.{option_map}
 use Rattle.command_line.specs.Commands as commands
 use Rattle.command_line.specs.declared.command.Command.{Command}
-use Rattle.command_line.specs.declared.listen.Listen.{Listen}
+use Rattle.command_line.specs.declared.listen.Listen.{Listen as Listening}
 use Rattle.command_line.specs.declared.workload.Workload.{Workload as Work}
-use Rattle.command_line.specs.declared.command.Command.TheVariants.{Batch, Stdio, Workload}
+use Rattle.command_line.specs.declared.command.Command.TheVariants.{Batch, Listen, Stdio, Workload}
 
 abbrev pub workload_shown : Work → commands.Command
 workload_shown w = commands.workload w.number w.size
+
+abbrev pub listen_shown : Listening → commands.Listen
+listen_shown l = record { config = l.config.now; port = l.port; workers = l.workers; connections = l.connections }
 
 abbrev pub command_shown : Command → commands.Command
 command_shown (Batch config user) = commands.batch (option_map (λ name. name.now) config) (option_map (λ name. name.now) user)
 command_shown (Stdio config) = commands.stdio config.now
 command_shown (Workload work) = workload_shown work
-
-abbrev pub listen_shown : Listen → commands.Listen
-listen_shown l = record { config = l.config.now; port = l.port; workers = l.workers; connections = l.connections }
+command_shown (Listen asked) = commands.listen (listen_shown asked)

@@ -2,6 +2,7 @@
 #![tactic(auto)]
 
 pub mod command;
+mod counts;
 pub mod listen;
 mod options;
 pub mod workload;

@@ -2,6 +2,7 @@
 ghost use Rattle.std.specs.Prelude.{◌≡◌, true, false};
 
 use crate::CLOCK;
+use command_line::command::read_command;
 use io_edge::memory_opener::SureOpener;
 use io_edge::memory_sink::MemSink;
 use io_edge::memory_source::MemSource;
@@ -19,7 +20,7 @@ const PROBLEM: &str = "{\"detail\":";
 const PIECE: usize = 50;
 
 /// The most bytes of a request whose input and output fail.
-const MOST_FAILING: usize = 5000;
+const MAX_FAILING: usize = 5000;
 
 /// How `batch` ended, and what it wrote to.
 #[derive(Drop)]
@@ -42,7 +43,7 @@ fn outcome_of(
     let mut clock = CLOCK;
     let status = run(
         alloc,
-        &words,
+        read_command(alloc, &words)?,
         &mut opener,
         &mut input,
         &mut output,
@@ -98,7 +99,7 @@ pub fn other_than(alloc: Global, row: &Row) -> Result<Option<String>, AllocError
 
 /// What came where the input fails at one `take` after the other, or the output at its first `give`.
 fn other_at_faults(alloc: Global, request: &str) -> Result<Option<String>, AllocError> {
-    if request.len() > MOST_FAILING {
+    if request.len() > MAX_FAILING {
         return Ok(None);
     }
     let takes = request.len().div_ceil(PIECE) + 1;

@@ -8,13 +8,13 @@ use std::alloc::{AllocError, Global};
 use std::sync::Arc;
 use zone_table::Zones;
 
-/// An account of this id, with no time zones beside `Etc/UTC` and no entries.
+/// An account of this id, with no time zones beside `Etc/UTC` and no entries, in generation 0.
 ///
 /// It stands in a box, since a function that holds one by value is proved with all its parts, at some seconds each.
 pub fn open_account(alloc: Global, id: Text) -> Result<Box<Account>, AllocError>
-    ensures { IfOk result (λ a. a.value ≡ (record { account_id = id; zones = [] }, [])) }
+    ensures { IfOk result (λ a. a.value ≡ (record { account_id = id; zones = []; generation = 0 }, [])) }
 {
-    let account = Account::open(alloc, id, no_zones(alloc)?)?;
+    let account = Account::open(alloc, id, no_zones(alloc)?, 0)?;
     Ok(Box::new(alloc, account)?)
 }
 

@@ -1,2 +1,3 @@
 pub mod SeriesLog
 pub mod StoredEvents
+pub mod EventsBase

@@ -12,6 +12,7 @@ ghost use Rattle.spec_json.specs.Parts.{some_of};
 use crate::series_log::SeriesLog;
 use account_store::Store;
 use spec_history::entry::Kind;
+use spec_json::text::Text;
 use spec_json::tree::Tree;
 use spec_series::series::Series;
 use std::alloc::{AllocError, Global};
@@ -26,27 +27,41 @@ pub struct StoredEvent<'a> {
     pub series: Option<&'a Series>,
 }
 
-/// The events of an account's store, each with its series as these zones have it.
+/// The events of an account's store, each with its series as the account's zones have it, beside what the account was opened with.
 #[derive(Clone, Copy)]
 pub struct StoredEvents<'a> {
     /// The account's store.
     pub store: &'a Store,
+    /// The account's id (RFC 8620 section 1.6.2).
+    pub account: &'a Text,
     /// The time zones that there are.
     pub zones: &'a Zones,
+    /// Which copy of the data the account goes on from.
+    pub generation: u64,
     series: &'a SeriesLog,
     ghost read: { AreRead zones.now (changes_of (entries store.now)) series.now },
 }
 
 impl<'a> StoredEvents<'a> {
+    ghost use Rattle.event_store.specs.EventsBase.{base_of};
+
     /// The events of a store, where the log begins with what was read of its changes. Takes no memory.
-    pub fn new(store: &'a Store, zones: &'a Zones, series: &'a SeriesLog) -> StoredEvents<'a>
+    pub fn new(
+        store: &'a Store,
+        account: &'a Text,
+        zones: &'a Zones,
+        generation: u64,
+        series: &'a SeriesLog,
+    ) -> StoredEvents<'a>
         requires { AreRead zones.now (changes_of (entries store.now)) series.now }
         ensures store { result.store.now ≡ store.now }
-        ensures zones { result.zones.now ≡ zones.now }
+        ensures base { base_of result ≡ record { account_id = account.now; zones = zones.now; generation = generation } }
     {
         StoredEvents {
             store,
+            account,
             zones,
+            generation,
             series,
         }
     }

@@ -12,29 +12,30 @@ use Rattle.spec_queries.specs.Expanded.{cut_among, expanded_anchor_refusal, expa
 use Rattle.spec_queries.specs.Found.{missing_anchor, no_window}
 use Rattle.spec_queries.specs.Queries.{is_paging, occurrences_asked, query_refusal, query_response}
 use Rattle.spec_queries.specs.declared.comparator.Comparator.{Comparator}
+use Rattle.spec_history.specs.Base.{Base}
 use Rattle.spec_site.specs.TimeZones.{ZoneText}
 use Rattle.query_methods.specs.Reports.{Reports}
 use Rattle.query_methods.specs.declared.error.QueryError.{QueryError}
 
 -- for its anchor alone
-pub by_window : (zones : List ZoneText) (cs : List Change) (c : Criteria) (p : Paging) → is_paging p ≡ true → criteria_refusal zones c true ≡ None
-    → query_refusal zones cs (occurrences_asked c p) ≡ expanded_anchor_refusal zones cs c p
-by_window zones cs c p h k = rw (h, k) refl
+pub by_window : (base : Base) (cs : List Change) (c : Criteria) (p : Paging) → is_paging p ≡ true → criteria_refusal base.zones c true ≡ None
+    → query_refusal base cs (occurrences_asked c p) ≡ expanded_anchor_refusal base.zones cs c p
+by_window base cs c p h k = rw (h, k) refl
 
 -- by a sight and an order that are those of its criteria
 pub ids_same : (zones : List ZoneText) (cs : List Change) (c : Criteria) (s : OccurrenceSight) (order : List Comparator) (ids : List (List ℕ))
     → looks_for s ≡ (zones, (c.time_zone, filter_or_all c.filter)) → order ≡ order_of c → ids ≡ ids_in_order order (all_given s cs) → ids ≡ expanded_ids zones cs c
 ids_same zones cs c s order ids sight sorted is = is ∙ (λ i. ids_in_order (sorted i) (expanded_matches (sight i).0 (sight i).1.0 (sight i).1.1 cs))
 
-module _ (zones : List ZoneText) (cs : List Change) (c : Criteria) (p : Paging) (ids : List (List ℕ)) (same : ids ≡ expanded_ids zones cs c) (r : Result Tree QueryError) where
-  pub replied : (account : List ℕ) → IfOk r (λ t. t ≡ expanded_window account cs p ids (unwrap_or (cut_among p ids) no_window)) → IfOk r (λ t. t ≡ query_response zones cs (occurrences_asked c p) account)
-  replied account h = subst (λ is. IfOk r (λ t. t ≡ expanded_window account cs p is (unwrap_or (cut_among p is) no_window))) same h
+module _ (base : Base) (cs : List Change) (c : Criteria) (p : Paging) (ids : List (List ℕ)) (same : ids ≡ expanded_ids base.zones cs c) (r : Result Tree QueryError) where
+  pub replied : IfOk r (λ t. t ≡ expanded_window base cs p ids (unwrap_or (cut_among p ids) no_window)) → IfOk r (λ t. t ≡ query_response base cs (occurrences_asked c p))
+  replied h = subst (λ is. IfOk r (λ t. t ≡ expanded_window base cs p is (unwrap_or (cut_among p is) no_window))) same h
 
-  told : is_paging p ≡ true → criteria_refusal zones c true ≡ None → missing_anchor (cut_among p ids) ≡ query_refusal zones cs (occurrences_asked c p)
-  told h k = (λ i. missing_anchor (cut_among p (same i))) ∙ sym (by_window zones cs c p h k)
+  told : is_paging p ≡ true → criteria_refusal base.zones c true ≡ None → missing_anchor (cut_among p ids) ≡ query_refusal base cs (occurrences_asked c p)
+  told h k = (λ i. missing_anchor (cut_among p (same i))) ∙ sym (by_window base cs c p h k)
 
-  pub answered : is_paging p ≡ true → criteria_refusal zones c true ≡ None → OnOk r (missing_anchor (cut_among p ids) ≡ None) → OnOk r (query_refusal zones cs (occurrences_asked c p) ≡ None)
+  pub answered : is_paging p ≡ true → criteria_refusal base.zones c true ≡ None → OnOk r (missing_anchor (cut_among p ids) ≡ None) → OnOk r (query_refusal base cs (occurrences_asked c p) ≡ None)
   answered h k g = subst (λ refusal. OnOk r (refusal ≡ None)) (told h k) g
 
-  pub refused : is_paging p ≡ true → criteria_refusal zones c true ≡ None → IfErr r (λ e. Reports e (missing_anchor (cut_among p ids))) → IfErr r (λ e. Reports e (query_refusal zones cs (occurrences_asked c p)))
+  pub refused : is_paging p ≡ true → criteria_refusal base.zones c true ≡ None → IfErr r (λ e. Reports e (missing_anchor (cut_among p ids))) → IfErr r (λ e. Reports e (query_refusal base cs (occurrences_asked c p)))
   refused h k g = subst (λ refusal. IfErr r (λ e. Reports e refusal)) (told h k) g

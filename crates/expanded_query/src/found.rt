@@ -3,6 +3,7 @@ ghost use Rattle.std.specs.Prelude.{◌≡◌, ◌<◌, All, IfErr, IfOk, OnOk, 
 ghost use Rattle.std.specs.List.{position};
 ghost use Rattle.std.specs.Str.{bytes_eq};
 ghost use Rattle.account_store.specs.Store.{entries};
+ghost use Rattle.event_store.specs.EventsBase.{base_of};
 ghost use Rattle.expanded_query.specs.Sights.{all_given};
 ghost use Rattle.spec_history.specs.History.{changes_of};
 ghost use Rattle.spec_json.specs.Data.{items_of, list, text};
@@ -15,7 +16,6 @@ ghost use Rattle.query_methods.specs.Reports.{Reports};
 
 use crate::matches::expanded_matches;
 use crate::sight::OccurrenceSight;
-use account_store::Store;
 use event_store::StoredEvents;
 use query_methods::error::QueryError;
 use query_methods::found::{Part, cut_asked, cut_out, window_tree};
@@ -30,20 +30,19 @@ use std::alloc::{AllocError, Global};
 /// The arguments of the reply to a query that has these ids as its result. `Method` tells that its anchor isn't one of them.
 pub(crate) fn found(
     alloc: Global,
-    store: &Store,
-    account: &Text,
+    events: &StoredEvents<'_>,
     ids: &[Text],
     paging: &Paging,
 ) -> Result<Tree, QueryError>
     requires { is_paging paging.now ≡ true }
-    ensures response { IfOk result (λ t. t ≡ expanded_window account.now (changes_of (entries store.now)) paging.now ids.now (unwrap_or (cut_among paging.now ids.now) no_window)) }
+    ensures response { IfOk result (λ t. t ≡ expanded_window (base_of events.now) (changes_of (entries events.now.store.now)) paging.now ids.now (unwrap_or (cut_among paging.now ids.now) no_window)) }
     ensures found { OnOk result (missing_anchor (cut_among paging.now ids.now) ≡ None) }
     ensures refused { IfErr result (λ e. Reports e (missing_anchor (cut_among paging.now ids.now))) }
 {
     let Some(cut) = cut_asked(paging, ids.len() as u64, anchor_among(ids, &paging.anchor)) else {
         return Err(QueryError::Method(MethodError::AnchorNotFound));
     };
-    Ok(expanded_window(alloc, store, account, paging, ids, cut)?)
+    Ok(expanded_window(alloc, events, paging, ids, cut)?)
 }
 
 /// The ids of a result, in its order.
@@ -93,20 +92,19 @@ fn place_of(ids: &[Text], anchor: &Text) -> Option<usize>
 
 fn expanded_window(
     alloc: Global,
-    store: &Store,
-    account: &Text,
+    events: &StoredEvents<'_>,
     paging: &Paging,
     ids: &[Text],
     cut: Cut,
 ) -> Result<Tree, AllocError>
-    ensures { IfOk result (λ t. t ≡ expanded_window account.now (changes_of (entries store.now)) paging.now ids.now cut) }
+    ensures { IfOk result (λ t. t ≡ expanded_window (base_of events.now) (changes_of (entries events.now.store.now)) paging.now ids.now cut) }
 {
     let part = Part {
         ids: text_list(alloc, cut_out(cut, ids))?,
         total: ids.len() as u64,
         cut,
     };
-    window_tree(alloc, store, account, paging, true, part)
+    window_tree(alloc, events, paging, true, part)
 }
 
 fn text_list(alloc: Global, texts: &[Text]) -> Result<Tree, AllocError>

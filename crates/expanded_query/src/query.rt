@@ -1,6 +1,7 @@
 //! `CalendarEvent/query` with `expandRecurrences` (RFC 8620 section 5.5, draft JMAP for Calendars).
 ghost use Rattle.std.specs.Prelude.{◌≡◌, IfErr, IfOk, OnOk, None};
 ghost use Rattle.account_store.specs.Store.{entries};
+ghost use Rattle.event_store.specs.EventsBase.{base_of};
 ghost use Rattle.spec_history.specs.History.{changes_of};
 ghost use Rattle.spec_queries.specs.Queries.{occurrences_asked, query_refusal, query_response};
 ghost use Rattle.query_methods.specs.Reports.{Reports};
@@ -11,7 +12,6 @@ use event_store::StoredEvents;
 use query_methods::error::QueryError;
 use query_methods::numbers::is_paging;
 use spec_calls::call::{Criteria, MethodError, Paging};
-use spec_json::text::Text;
 use spec_json::tree::Tree;
 use std::alloc::Global;
 
@@ -22,18 +22,17 @@ use std::alloc::Global;
 pub fn expanded_query(
     alloc: Global,
     events: &StoredEvents<'_>,
-    account: &Text,
     criteria: &Criteria,
     paging: &Paging,
 ) -> Result<Tree, QueryError>
-    ensures response { IfOk result (λ t. t ≡ query_response events.now.zones.now (changes_of (entries events.now.store.now)) (occurrences_asked criteria.now paging.now) account.now) }
-    ensures answered { OnOk result (query_refusal events.now.zones.now (changes_of (entries events.now.store.now)) (occurrences_asked criteria.now paging.now) ≡ None) }
-    ensures refused { IfErr result (λ e. Reports e (query_refusal events.now.zones.now (changes_of (entries events.now.store.now)) (occurrences_asked criteria.now paging.now))) }
+    ensures response { IfOk result (λ t. t ≡ query_response (base_of events.now) (changes_of (entries events.now.store.now)) (occurrences_asked criteria.now paging.now)) }
+    ensures answered { OnOk result (query_refusal (base_of events.now) (changes_of (entries events.now.store.now)) (occurrences_asked criteria.now paging.now) ≡ None) }
+    ensures refused { IfErr result (λ e. Reports e (query_refusal (base_of events.now) (changes_of (entries events.now.store.now)) (occurrences_asked criteria.now paging.now))) }
 {
     if !is_paging(paging) {
         return Err(QueryError::Method(MethodError::InvalidArguments));
     }
     let terms = read_terms(alloc, events.zones, criteria)?;
     let ids = expanded_ids(alloc, events, &terms.sight, &terms.order)?;
-    found(alloc, events.store, account, &ids, paging)
+    found(alloc, events, &ids, paging)
 }

@@ -1,19 +1,27 @@
 -- A `listen` in which nothing fails serves.
-use Rattle.std.proofs.Common.{◌≡◌, ◌+◌, ℕ, List, Some, None, Result, Ok, Err, refl, sym, ap, ◌∙◌, subst, take, option_map}
+use Rattle.std.proofs.Common.{◌≡◌, ◌+◌, ℕ, List, Option, Some, None, Result, Ok, Err, refl, sym, ap, ◌∙◌, subst, take, option_map}
 use Rattle.std.specs.Prelude.{◌⊎◌, IfSome}
 use mathlib.Core.Logic.{inl, inr}
-use Rattle.command_line.specs.Commands.{Listen, listen_command_of}
+use Rattle.command_line.specs.Commands.{Command, Listen, batch, listen, stdio, workload}
 use Rattle.io_edge.specs.Outside.{IsMissing, OpenerShown, file_named}
 use Rattle.jmapd_run.proofs.StartLemmas.{configured_taken, some_same}
 use Rattle.jmapd_run.specs.Completes.{IsAccepted}
-use Rattle.jmapd_run.specs.Starts.{IsLoaded, IsNotOpened}
+use Rattle.jmapd_run.specs.Starts.{IsLoaded, IsNotOpened, IsStart, Start, batch_for, configuration_of, misconfigured, not_opened, stdio_of, usage, workers_for, workload_by}
 use Rattle.jmapd_run.specs.declared.status.Status.{Status}
 use Rattle.jmapd_run.specs.declared.status.Status.TheVariants.{Config, Cut, Done, NoMemory, OpenFault, ReadFault, Refused, Usage, WriteFault}
 use Rattle.listen_edge.specs.Listening.{HostShown}
 use Rattle.spec_site.specs.Configuration.{Fault, Site, configured}
 use Rattle.spec_site.specs.declared.limits.TheConstants.{MAX_CONFIGURATION_BYTES}
 use Rattle.jmapd_listen.specs.Faultless.{FaultlessListensServe, NoneFailed}
-use Rattle.jmapd_listen.specs.Listens.{ListensHow, ServesSite, SpawnerShown}
+use Rattle.jmapd_listen.specs.Listens.{Listens, ListensFrom, ServesSite, SpawnerShown}
+
+-- the `listen` that is asked, or else this one
+abbrev asked_of : Listen → Option Command → Listen
+asked_of d (Some (listen l)) = l
+asked_of d (Some (batch config user)) = d
+asked_of d (Some (stdio config)) = d
+asked_of d (Some (workload number size)) = d
+asked_of d None = d
 
 never : (fault : Fault) (site : Site) (what : Result Site Fault) → what ≡ Err fault → what ≡ Ok site → ⊥
 never fault site what is_fault is_site = cc
@@ -48,23 +56,34 @@ module _ (o o' : OpenerShown) (h h' : HostShown) (s s' : SpawnerShown) (fine : N
   serves (inl made) = fine.made made.1
   serves (inr joined) = fine.joined joined.1
 
-  of_these : (status : Status) (words : List (List ℕ)) → listen_command_of words ≡ Some l → ListensHow o o' h h' s s' words status → (status ≡ NoMemory) ⊎ ((status ≡ Done) × ServesSite l h h' s s' Done)
-  of_these Usage words is how = absurd (let bad : Some l ≡ None = sym is ∙ how.0 in cc)
-  of_these (Config field index) words is how =
-      let same : how.0 ≡ l = some_same how.0 l (sym how.1 ∙ is) in
-      let loaded : IsLoaded o o' l.config (Err (record { field = field; index = index })) = subst (λ (k : Listen). IsLoaded o o' k.config (Err (record { field = field; index = index }))) same how.2 in
-      absurd (never (record { field = field; index = index }) site (Err (record { field = field; index = index })) refl (comes_to o o' l.config site accepted (Err (record { field = field; index = index })) loaded))
-  of_these OpenFault words is (k, asked, inl failed) =
-      absurd (opens (subst (λ (j : Listen). IsNotOpened o o' j.config) (some_same k l (sym asked ∙ is)) failed.0))
-  of_these OpenFault words is (k, asked, inr served) =
-      absurd (serves (subst (λ (j : Listen). ServesSite j h h' s s' OpenFault) (some_same k l (sym asked ∙ is)) served.2))
-  of_these NoMemory words is how = inl refl
-  of_these Done words is how =
-      inr (refl, subst (λ (j : Listen). ServesSite j h h' s s' Done) (some_same how.0 l (sym how.1 ∙ is)) how.4)
-  of_these Refused words is how = absurd how
-  of_these ReadFault words is how = absurd how
-  of_these WriteFault words is how = absurd how
-  of_these Cut words is how = absurd how
+  of_site : (k : Listen) (status : Status) → k ≡ l → ServesSite k h h' s s' status → (status ≡ NoMemory) ⊎ ((status ≡ Done) × ServesSite l h h' s s' Done)
+  of_site k Done is how = inr (refl, subst (λ (j : Listen). ServesSite j h h' s s' Done) is how)
+  of_site k OpenFault is how = absurd (serves (subst (λ (j : Listen). ServesSite j h h' s s' OpenFault) is how))
+  of_site k NoMemory is how = inl refl
+  of_site k (Config field index) is how = absurd how
+  of_site k Usage is how = absurd how
+  of_site k Refused is how = absurd how
+  of_site k ReadFault is how = absurd how
+  of_site k WriteFault is how = absurd how
+  of_site k Cut is how = absurd how
+
+  -- the name that a command names is the one that is asked
+  named : (c : Command) (name : List ℕ) → Some (listen l) ≡ Some c → configuration_of c ≡ Some name → name ≡ l.config
+  named c name is names =
+      let same : listen l ≡ c = some_same (listen l) c is in
+      some_same name l.config (sym names ∙ ap configuration_of (sym same))
+
+  of_start : (start : Start) (status : Status) → IsStart o o' (Some (listen l)) start → ListensFrom h h' s s' start status → (status ≡ NoMemory) ⊎ ((status ≡ Done) × ServesSite l h h' s s' Done)
+  of_start not_opened status is from = absurd (opens (subst (IsNotOpened o o') (named is.0 is.1 is.2 is.3) is.4))
+  of_start (misconfigured field index) status is from =
+      let what : Result Site Fault = Err (record { field = field; index = index }) in
+      absurd (never (record { field = field; index = index }) site what refl (comes_to o o' l.config site accepted what (subst (λ (n : List ℕ). IsLoaded o o' n what) (named is.0 is.1 is.2 is.3) is.4)))
+  of_start (workers_for k other) status is from = of_site k status (sym (ap (asked_of l) is.0)) from
+  of_start usage status is from = absurd from
+  of_start (batch_for other user) status is from = absurd from
+  of_start (stdio_of other) status is from = absurd from
+  of_start (workload_by number size) status is from = absurd from
 
 pub faultless_listens_serve : FaultlessListensServe
-faultless_listens_serve o o' h h' s s' words status how fine l site is accepted = of_these o o' h h' s s' fine l site accepted status words is how
+faultless_listens_serve o o' h h' s s' l status (inr e) fine site accepted = inl e.0
+faultless_listens_serve o o' h h' s s' l status (inl r) fine site accepted = of_start o o' h h' s s' fine l site accepted r.0 status r.1 r.2

@@ -1,28 +1,35 @@
--- A worker whose passes have made no calls has calls enough for all its connections.
-use Rattle.std.proofs.Common.{◌≡◌, ℕ, List, ◌*◌, ◌≤◌, length, refl, sym, ap, ◌∙◌, arith}
+-- A worker whose desk has made no calls has calls enough for all its connections.
+use Rattle.std.proofs.Common.{◌≡◌, ℕ, List, ◌*◌, ◌≤◌, ◌<◌, length, refl, sym, ap, ◌∙◌, subst, arith}
+use Rattle.std.proofs.lemmas.Option.{slice_get-get_or}
+use Rattle.std.specs.Prelude.{All}
 use mathlib.Core.Logic.{inl, inr}
-use Rattle.account_desk.specs.FreshDesk.{bases}
+use Rattle.account_desk.proofs.FreshLemmas.{count_fresh}
+use Rattle.account_desk.specs.SharedDesk.{shown_by_passes}
+use Rattle.account_desk.specs.SoleDesk.{fresh_accounts}
 use Rattle.account_lock.specs.Passes.{PassState}
-use Rattle.atomic_table.specs.Seated.{TableId}
-use Rattle.command_line.specs.declared.listen.TheConstants.{MOST_CONNECTIONS}
+use Rattle.command_line.specs.declared.listen.TheConstants.{MAX_CONNECTIONS}
+use Rattle.listen_workers.proofs.PassLemmas.{passes_count}
 use Rattle.listen_workers.proofs.WorkerLemmas.{each_turns}
 use Rattle.listen_workers.specs.Working.{MAX_CALLS, Tools, WorkerHow, Works}
-use Rattle.jmapd_listen.specs.Listens.{WorksWhole}
+use Rattle.jmapd_listen.specs.Listens.{IsUnused, WorksWhole}
 use Rattle.listen_edge.specs.Listening.{ListenerShown}
 use Rattle.listen_edge.specs.declared.job.WorkerDone.{WorkerDone}
 use Rattle.listen_edge.specs.declared.job.WorkerEnd.{WorkerEnd}
-use Rattle.listen_edge.specs.declared.job.WorkerEnd.TheVariants.{AcceptFault, All, PassSpent}
+use Rattle.listen_edge.specs.declared.job.WorkerEnd.TheVariants.{AcceptFault, All as Whole, PassSpent}
+use Rattle.spec_batch.specs.Chain.{Shown}
+use Rattle.spec_history.specs.Base.{Base}
+use Rattle.spec_history.specs.declared.entry.Entry.{Entry}
 use Rattle.spec_site.specs.Configuration.{Site}
-use Rattle.listen_workers.specs.Passes.{fresh_passes}
+use Rattle.listen_workers.specs.Passes.{ShareAccounts, fresh_passes}
 use Rattle.listen_workers.specs.Crew.{Ends}
 
-ends_so : (connections : ℕ) (l l' : ListenerShown) (u : Tools) (done : WorkerDone) (e : WorkerEnd) → done.end ≡ e → connections ≤ MOST_CONNECTIONS → u.desk.turns ≤ MAX_CALLS * done.served
+ends_so : (connections : ℕ) (l l' : ListenerShown) (u : Tools) (done : WorkerDone) (e : WorkerEnd) → done.end ≡ e → connections ≤ MAX_CONNECTIONS → u.desk.turns ≤ MAX_CALLS * done.served
     → WorkerHow connections l l' u done.served e → Ends connections done
-ends_so connections l l' u done All is few turns how = inl (is, how)
+ends_so connections l l' u done Whole is few turns how = inl (is, how)
 ends_so connections l l' u done AcceptFault is few turns how = inr is
 ends_so connections l l' u done PassSpent is few turns how = absurd (let served = how.1 in let spent = how.2 in omega (arith, few, turns, served, spent))
 
-pub whole : {site : Site} {connections : ℕ} {l l' : ListenerShown} {t u : Tools} {done : WorkerDone} → t.desk.turns ≡ 0 → connections ≤ MOST_CONNECTIONS → Works site connections l l' t u done
+pub whole : {site : Site} {connections : ℕ} {l l' : ListenerShown} {t u : Tools} {done : WorkerDone} → t.desk.turns ≡ 0 → connections ≤ MAX_CONNECTIONS → Works site connections l l' t u done
     → WorksWhole site connections l l' t u done
 whole {site} {connections} {l} {l'} {t} {u} {done} none few w =
     let made = each_turns site t u w.visits w.serves in
@@ -30,9 +37,15 @@ whole {site} {connections} {l} {l'} {t} {u} {done} none few w =
     let turns : u.desk.turns ≤ MAX_CALLS * done.served = omega (arith, made, none, count) in
     (w, ends_so connections l l' u done done.end refl few turns w.how)
 
--- the passes of a number, of the same locks and the same site
-pub fresh_of_same : {site site' : Site} {locks locks' : List TableId} {passes : List PassState} (n : ℕ) → site' ≡ site → locks' ≡ locks → passes ≡ fresh_passes locks (bases site) n → passes ≡ fresh_passes locks' (bases site') n
-fresh_of_same n same_site same_locks fresh = fresh ∙ (λ k. fresh_passes (sym same_locks k) (bases (sym same_site k)) n)
+-- a desk over the accounts of the same site
+pub unused_of_same : {site site' : Site} (desk : Shown) → site' ≡ site → IsUnused site desk → IsUnused site' desk
+unused_of_same desk same unused = subst (λ (s : Site). IsUnused s desk) (sym same) unused
 
-pub count_of_same : {site site' : Site} {locks locks' : List TableId} → site' ≡ site → locks' ≡ locks → length locks ≡ length site.accounts → length locks' ≡ length site'.accounts
-count_of_same same_site same_locks each = ap length same_locks ∙ (each ∙ ap (λ (s : Site). length s.accounts) (sym same_site))
+-- desks that share the accounts of a site have made no call
+pub all_unused : (site : Site) (accounts : List (Base × List Entry)) (desks : List (List PassState × ℕ)) → accounts ≡ fresh_accounts site → ShareAccounts accounts desks
+    → All (λ desk. IsUnused site (shown_by_passes desk)) desks
+all_unused site accounts desks fresh share k d within =
+    let is = share.2 k _ (slice_get-get_or desks k d within) in (
+      ap (λ (desk : List PassState × ℕ). length desk.0) is ∙ (passes_count share.0 accounts k share.1 ∙ (share.1 ∙ count_fresh site accounts fresh)),
+      ap (λ (desk : List PassState × ℕ). desk.1) is,
+    )

@@ -1,13 +1,13 @@
 -- What comes of a `listen` in which nothing fails.
-use Rattle.std.specs.Prelude.{◌≡◌, ◌⊎◌, List, Some, ℕ}
-use Rattle.command_line.specs.Commands.{Listen, listen_command_of}
+use Rattle.std.specs.Prelude.{◌≡◌, ◌⊎◌, Some}
+use Rattle.command_line.specs.Commands.{Listen}
 use Rattle.io_edge.specs.Outside.{OpenerShown, Rose}
 use Rattle.jmapd_run.specs.Completes.{IsAccepted}
 use Rattle.jmapd_run.specs.declared.status.Status.{Status}
 use Rattle.jmapd_run.specs.declared.status.Status.TheVariants.{Done, NoMemory}
 use Rattle.listen_edge.specs.Listening.{HostShown}
 use Rattle.spec_site.specs.Configuration.{Site}
-use Rattle.jmapd_listen.specs.Listens.{ListensHow, ServesSite, SpawnerShown}
+use Rattle.jmapd_listen.specs.Listens.{Listens, ServesSite, SpawnerShown}
 
 -- neither opener, host nor spawner failed
 pub record NoneFailed (o o' : OpenerShown) (h h' : HostShown) (s s' : SpawnerShown) : Type 0 where
@@ -16,5 +16,5 @@ pub record NoneFailed (o o' : OpenerShown) (h h' : HostShown) (s s' : SpawnerSho
   pub joined : Rose s.faults s'.faults → ⊥
 
 abbrev pub FaultlessListensServe : Type 0
-FaultlessListensServe = (o o' : OpenerShown) (h h' : HostShown) (s s' : SpawnerShown) (words : List (List ℕ)) (status : Status) → ListensHow o o' h h' s s' words status → NoneFailed o o' h h' s s'
-    → (l : Listen) (site : Site) → listen_command_of words ≡ Some l → IsAccepted (Some l.config) o site → (status ≡ NoMemory) ⊎ ((status ≡ Done) × ServesSite l h h' s s' Done)
+FaultlessListensServe = (o o' : OpenerShown) (h h' : HostShown) (s s' : SpawnerShown) (l : Listen) (status : Status) → Listens h h' s s' o o' l status → NoneFailed o o' h h' s s'
+    → (site : Site) → IsAccepted (Some l.config) o site → (status ≡ NoMemory) ⊎ ((status ≡ Done) × ServesSite l h h' s s' Done)

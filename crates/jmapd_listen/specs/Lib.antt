@@ -1,2 +1,4 @@
 pub mod Faultless
 pub mod Listens
+pub mod Program
+pub mod Asked

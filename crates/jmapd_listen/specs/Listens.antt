@@ -1,14 +1,15 @@
 -- What the command `listen` does, whatever bytes come on its connections.
-use Rattle.std.specs.Prelude.{◌≡◌, ◌⊎◌, ◌+◌, ◌*◌, ◌<◌, ◌≤◌, ℕ, List, Some, None, Ok, Err}
-use Rattle.command_line.specs.Commands.{Listen, listen_command_of}
+use Rattle.std.specs.Prelude.{◌≡◌, ◌⊎◌, ◌+◌, ◌*◌, ◌<◌, ◌≤◌, ℕ, Some, length}
+use Rattle.command_line.specs.Commands.{Listen, listen}
 use Rattle.listen_workers.specs.Working.{Tools, Works}
 use Rattle.io_edge.specs.Outside.{OpenerShown, Rose}
-use Rattle.jmapd_run.specs.Starts.{IsLoaded, IsNotOpened}
+use Rattle.jmapd_run.specs.Starts.{IsStart, Start, misconfigured, not_opened, workers_for}
 use Rattle.jmapd_run.specs.declared.status.Status.{Status}
-use Rattle.jmapd_run.specs.declared.status.Status.TheVariants.{Config, Done, NoMemory, OpenFault, Usage}
+use Rattle.jmapd_run.specs.declared.status.Status.TheVariants.{Config, Done, NoMemory, OpenFault}
 use Rattle.listen_edge.specs.Ending.{counted}
 use Rattle.listen_edge.specs.Listening.{HostShown, ListenerShown}
 use Rattle.listen_edge.specs.declared.job.WorkerDone.{WorkerDone}
+use Rattle.spec_batch.specs.Chain.{Shown}
 use Rattle.spec_site.specs.Configuration.{Site}
 use Rattle.listen_workers.specs.Crew.{Ends}
 use Rattle.listen_workers.specs.Listeners.{AskedFor}
@@ -22,7 +23,7 @@ pub record SpawnerShown : Type 0 where
   pub faults : ℕ
   pub served : ℕ
 
--- what comes of the words and a site: the workers served all their connections, and the spawner counted them; or a listener wasn't made, or one failed; or memory ran out
+-- what comes of a `listen` and a site: the workers served all their connections, and the spawner counted them; or a listener wasn't made, or one failed; or memory ran out
 -- before a worker was started
 abbrev pub ServesSite : Listen → HostShown → HostShown → SpawnerShown → SpawnerShown → Status → Type 0
 ServesSite l h h' s s' Done = AskedFor h h' l.port l.workers × (s'.faults ≡ counted s.faults 0) × (s'.served ≡ counted s.served (l.workers * l.connections))
@@ -31,14 +32,19 @@ ServesSite l h h' s s' OpenFault =
 ServesSite l h h' s s' NoMemory = ((n : ℕ) × (n ≤ l.workers) × AskedFor h h' l.port n) × (s' ≡ s)
 ServesSite l h h' s s' _ = ⊥
 
--- The words are looked at first, then the configuration, and then the workers serve its users: by the status.
-abbrev pub ListensHow : OpenerShown → OpenerShown → HostShown → HostShown → SpawnerShown → SpawnerShown → List (List ℕ) → Status → Type 0
-ListensHow o o' h h' s s' words Usage = (listen_command_of words ≡ None) × (o' ≡ o) × (h' ≡ h) × (s' ≡ s)
-ListensHow o o' h h' s s' words (Config field index) =
-    (l : Listen) × (listen_command_of words ≡ Some l) × IsLoaded o o' l.config (Err (record { field = field; index = index })) × (h' ≡ h) × (s' ≡ s)
-ListensHow o o' h h' s s' words OpenFault =
-    (l : Listen) × (listen_command_of words ≡ Some l) × ((IsNotOpened o o' l.config × (h' ≡ h) × (s' ≡ s)) ⊎ ((site : Site) × IsLoaded o o' l.config (Ok site) × ServesSite l h h' s s' OpenFault))
-ListensHow o o' h h' s s' words NoMemory =
-    ((h' ≡ h) × (s' ≡ s)) ⊎ ((l : Listen) × (listen_command_of words ≡ Some l) × (site : Site) × IsLoaded o o' l.config (Ok site) × ServesSite l h h' s s' NoMemory)
-ListensHow o o' h h' s s' words Done = (l : Listen) × (listen_command_of words ≡ Some l) × (site : Site) × IsLoaded o o' l.config (Ok site) × ServesSite l h h' s s' Done
-ListensHow o o' h h' s s' words _ = ⊥
+-- a desk over the accounts of a site that has made no call
+abbrev pub IsUnused : Site → Shown → Type 0
+IsUnused site desk = (desk.accounts ≡ length site.accounts) × (desk.turns ≡ 0)
+
+-- what is shown of host and spawner before and after
+module _ (h h' : HostShown) (s s' : SpawnerShown) where
+  -- what comes of a start, and with which status
+  abbrev pub ListensFrom : Start → Status → Type 0
+  ListensFrom not_opened OpenFault = (h' ≡ h) × (s' ≡ s)
+  ListensFrom (misconfigured field index) (Config f i) = (f ≡ field) × (i ≡ index) × (h' ≡ h) × (s' ≡ s)
+  ListensFrom (workers_for l site) status = ServesSite l h h' s s' status
+  ListensFrom _ _ = ⊥
+
+  -- A `listen` and the opener come to a start, and from there the workers go on; or memory ran out before a listener was asked for.
+  abbrev pub Listens : OpenerShown → OpenerShown → Listen → Status → Type 0
+  Listens o o' l status = ((start : Start) × IsStart o o' (Some (listen l)) start × ListensFrom start status) ⊎ ((status ≡ NoMemory) × (h' ≡ h) × (s' ≡ s))

@@ -1,53 +1,44 @@
 //! The job of a worker.
-ghost use Rattle.std.specs.Prelude.{◌≡◌, ◌≤◌, ◌<◌, ◌^◌, length};
+ghost use Rattle.std.specs.Prelude.{◌≡◌, ◌≤◌};
 ghost use Rattle.std.specs.Arc.{arc_value};
-ghost use Rattle.account_desk.specs.FreshDesk.{bases};
-ghost use Rattle.account_desk.specs.SharedDesk.{shown_by_passes};
-ghost use Rattle.command_line.specs.declared.listen.TheConstants.{MOST_CONNECTIONS};
-ghost use Rattle.jmapd_listen.specs.Listens.{WorksWhole};
-ghost use Rattle.listen_workers.specs.Passes.{fresh_passes};
+ghost use Rattle.command_line.specs.declared.listen.TheConstants.{MAX_CONNECTIONS};
+ghost use Rattle.jmapd_listen.specs.Listens.{IsUnused, WorksWhole};
 
-use account_desk::shared_desk::{GatedAccounts, SharedDesk};
 use io_edge::clock::Clock;
 use listen_edge::job::{Finished, Job, WorkerDone};
 use listen_edge::listener::ThreadListener;
-use listen_workers::accounts::Hand;
 use listen_workers::worker::worker;
 use session_doc::Site;
+use spec_batch::desk::Desk;
 use std::alloc::Global;
-use std::sync::{Arc, Wait};
+use std::sync::Arc;
 
-/// A worker that is to serve so many connections of its listener, over accounts that it shares with other workers.
+/// A worker that is to serve so many connections of its listener, by its desk.
 ///
-/// Its type keeps that there is a lock for each account of the site, in the site's order, and that it has the passes of its own number, before any call.
+/// Its type keeps that the desk is over the accounts of the site and has made no call.
 #[derive(Drop)]
-pub struct WorkerJob<L, C, W> {
+pub struct WorkerJob<L, C, D: Desk> {
     pub(crate) alloc: Global,
-    pub(crate) runtime: W,
     pub(crate) site: Arc<Site>,
-    pub(crate) worker: u32,
     pub(crate) listener: L,
-    pub(crate) accounts: Arc<GatedAccounts>,
-    pub(crate) passes: Hand,
+    pub(crate) desk: D,
     pub(crate) clock: C,
     pub(crate) connections: u64,
-    ghost of_site: { length (arc_value accounts).items ≡ length (arc_value site).accounts },
-    ghost few: { length (arc_value accounts).items < 2 ^ 32 },
-    ghost fresh: { passes.items ≡ fresh_passes (arc_value accounts).items (bases (arc_value site)) worker },
-    ghost within: { (1 ≤ connections) × (connections ≤ MOST_CONNECTIONS) },
+    ghost unused: { IsUnused (arc_value site) (D.shown desk) },
+    ghost within: { (1 ≤ connections) × (connections ≤ MAX_CONNECTIONS) },
 }
 
 /// A worker that ended.
 #[derive(Drop)]
-pub struct WorkerBack<L, C, W: Wait> {
+pub struct WorkerBack<L, C, D> {
     pub(crate) listener: L,
-    pub(crate) desk: SharedDesk<W>,
+    pub(crate) desk: D,
     pub(crate) clock: C,
     pub(crate) done: WorkerDone,
 }
 
-impl<L: ThreadListener, C: Clock + Send + Drop + 'static, W: Wait + Send + Drop + 'static> Finished
-    for WorkerBack<L, C, W> {
+impl<L: ThreadListener, C: Clock + Send + Drop + 'static, D: Desk + Send + Drop + 'static> Finished
+    for WorkerBack<L, C, D> {
     ghost ended = { λ back. back.done };
 
     fn done(&self) -> WorkerDone {
@@ -55,27 +46,23 @@ impl<L: ThreadListener, C: Clock + Send + Drop + 'static, W: Wait + Send + Drop 
     }
 }
 
-impl<L: ThreadListener, C: Clock + Send + Drop + 'static, W: Wait + Send + Drop + 'static> Job
-    for WorkerJob<L, C, W> {
-    type Back = WorkerBack<L, C, W>;
+impl<L: ThreadListener, C: Clock + Send + Drop + 'static, D: Desk + Send + Drop + 'static> Job
+    for WorkerJob<L, C, D> {
+    type Back = WorkerBack<L, C, D>;
 
-    // What a call of `worker` over its listener and a desk of its passes may leave and answer; and it never runs out of calls.
+    // What a call of `worker` over its listener and its desk may leave and answer; and it never runs out of calls.
     ghost may_answer = { λ job back. WorksWhole (arc_value job.site) job.connections (L.shown job.listener) (L.shown back.listener)
-        (record { clock = C.moments job.clock; desk = shown_by_passes (job.passes.items, 0) }) (record { clock = C.moments back.clock; desk = shown_by_passes back.desk }) back.done };
+        (record { clock = C.moments job.clock; desk = D.shown job.desk }) (record { clock = C.moments back.clock; desk = D.shown back.desk }) back.done };
 
-    fn go(self) -> WorkerBack<L, C, W> {
+    fn go(self) -> WorkerBack<L, C, D> {
         let WorkerJob {
             alloc,
-            runtime,
             site,
-            worker: _,
             mut listener,
-            accounts,
-            passes,
+            mut desk,
             mut clock,
             connections,
         } = self;
-        let mut desk = SharedDesk::new(runtime, accounts, passes);
         let done = worker(
             alloc,
             &site,

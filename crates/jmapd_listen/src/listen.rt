@@ -1,12 +1,16 @@
 //! The command `listen`.
-ghost use Rattle.std.specs.Prelude.{◌≡◌, ◌<◌, ◌≤◌, ◌+◌, ℕ, All, IfOk, Some, length, map, slice_get, string_bytes};
+ghost use Rattle.std.specs.Prelude.{◌≡◌, ◌≤◌, ◌+◌, All, IfOk, length, map};
+ghost use Rattle.account_desk.specs.SharedDesk.{shown_by_passes};
 ghost use Rattle.command_line.specs.Shown.{listen_shown};
-ghost use Rattle.command_line.specs.declared.listen.TheConstants.{MOST_CONNECTIONS, MOST_WORKERS};
-ghost use Rattle.jmapd_listen.specs.Listens.{ListensHow, ServesSite};
+ghost use Rattle.command_line.specs.declared.listen.TheConstants.{MAX_CONNECTIONS};
+ghost use Rattle.jmapd_listen.specs.Listens.{IsUnused, Listens, ServesSite};
 
 use crate::job::WorkerJob;
-use account_desk::gate::Gate;
-use command_line::listen::{Listen, read_listen};
+use account_core::account::Account;
+use account_desk::shared_desk::SharedDesk;
+use account_desk::sole_desk::fresh_accounts;
+use account_lock::locked::Locked;
+use command_line::listen::Listen;
 use io_edge::clock::Clock;
 use io_edge::opener::Opener;
 use jmapd_run::start::load_site;
@@ -14,20 +18,20 @@ use jmapd_run::status::Status;
 use listen_edge::host::{Host, HostError};
 use listen_edge::listener::ThreadListener;
 use listen_edge::spawner::Spawner;
-use listen_workers::accounts::{Hand, Office, open_office};
 use listen_workers::crew::{join_all, start_all};
+use listen_workers::desks::open_desks;
 use listen_workers::listeners::open_listeners;
 use session_doc::Site;
+use spec_batch::desk::Desk;
 use std::alloc::{AllocError, Global};
-use std::mem;
 use std::sync::{Arc, Wait};
 
-/// Runs the command `listen` that `words` ask for, which are the program's words without its own name: workers share the accounts of a site, and each serves
-/// one connection of its listener after the other, until each has served as many as the words say.
+/// Runs the command `listen`: workers share the accounts of a site, and each serves one connection of its listener after the other, until each has served as
+/// many as it is to.
 ///
-/// The words are looked at first (`Usage` where they aren't those of `listen`), then the configuration, which is loaded once at most (`OpenFault`, `Config`). Then all
-/// listeners are made, those of worker 0 first: the first that the host fails to make ends it, before a worker is started (`OpenFault`). A worker that can't accept ends alone, and `OpenFault`
-/// is told when all have ended. Takes memory for what workers share before the first is started; a connection that runs out of memory ends alone.
+/// The configuration is loaded once (`OpenFault`, `Config`). Then all listeners are made, those of worker 0 first: the first that the host fails to make ends it, before a
+/// worker is started (`OpenFault`). A worker that can't accept ends alone, and `OpenFault` is told when all have ended. Takes memory for what workers share before the first is
+/// started; a connection that runs out of memory ends alone.
 ///
 /// It waits for connections, and for turns on accounts: nothing promises that it returns.
 pub fn listen<
@@ -39,59 +43,67 @@ pub fn listen<
 >(
     alloc: Global,
     runtime: W,
-    words: &[String],
+    asked: &Listen<'_>,
     opener: &mut O,
     host: &mut H,
     spawner: &mut S,
     clock: C,
-    gate: &Gate,
 ) -> Status
-    ensures listens { ListensHow (O.shown opener.old) (O.shown opener.new) (H.shown host.old) (H.shown host.new) (record { faults = S.faults spawner.old; served = S.served spawner.old })
-        (record { faults = S.faults spawner.new; served = S.served spawner.new }) (map string_bytes words.now) result }
+    ensures listens { Listens (H.shown host.old) (H.shown host.new) (record { faults = S.faults spawner.old; served = S.served spawner.old })
+        (record { faults = S.faults spawner.new; served = S.served spawner.new }) (O.shown opener.old) (O.shown opener.new) (listen_shown asked.now) result }
     ensures files { (O.shown opener.new).files ≡ (O.shown opener.old).files }
     ensures once { (O.shown opener.new).loads ≤ (O.shown opener.old).loads + 1 }
 {
-    let asked = match read_listen(alloc, words) {
-        Ok(Some(asked)) => asked,
-        Ok(None) => return Status::Usage,
-        Err(AllocError) => return Status::NoMemory,
+    let site = match load_site(alloc, opener, asked.config) {
+        Ok(site) => site,
+        Err(status) => return status,
     };
-    match load_site(alloc, opener, asked.config) {
-        Ok(site) => serve_site(alloc, runtime, &asked, site, host, spawner, clock, gate),
-        Err(status) => status,
-    }
+    let Ok(desks) = site_desks(alloc, runtime, &site, asked.workers) else {
+        return Status::NoMemory;
+    };
+    serve_site(alloc, asked, site, desks, host, spawner, clock)
 }
 
-// Serves the users of a site.
-fn serve_site<
+// A desk for each worker, over fresh accounts of a site that they share.
+fn site_desks<W: Wait + Copy + Drop>(
+    alloc: Global,
+    runtime: W,
+    site: &Site,
+    workers: u32,
+) -> Result<Vec<SharedDesk<W, Locked<Account>>>, AllocError>
+    requires { (1 ≤ workers) × (workers ≤ 256) }
+    ensures workers { IfOk result (λ desks. length desks.items ≡ workers) }
+    ensures unused { IfOk result (λ desks. All (λ desk. IsUnused site.now (shown_by_passes desk)) desks.items) }
+{
+    open_desks(alloc, runtime, fresh_accounts(alloc, site)?, workers)
+}
+
+/// Serves the users of a site by workers, each with its desk. Takes memory for what they share, before the first is started.
+pub fn serve_site<
     H: Host,
     S: Spawner,
     C: Clock + Copy + Send + Drop + 'static,
-    W: Wait + Copy + Send + Drop + 'static,
+    D: Desk + Send + Drop + 'static,
 >(
     alloc: Global,
-    runtime: W,
     asked: &Listen<'_>,
     site: Site,
+    desks: Vec<D>,
     host: &mut H,
     spawner: &mut S,
     clock: C,
-    gate: &Gate,
 ) -> Status
-    requires workers { (1 ≤ asked.now.workers) × (asked.now.workers ≤ MOST_WORKERS) }
-    requires connections { (1 ≤ asked.now.connections) × (asked.now.connections ≤ MOST_CONNECTIONS) }
+    requires workers { length desks.items ≡ asked.now.workers }
+    requires unused { All (λ desk. IsUnused site (D.shown desk)) desks.items }
     ensures { ServesSite (listen_shown asked.now) (H.shown host.old) (H.shown host.new) (record { faults = S.faults spawner.old; served = S.served spawner.old })
         (record { faults = S.faults spawner.new; served = S.served spawner.new }) result }
 {
-    let Ok(office) = open_office(alloc, site, gate, asked.workers) else {
-        return Status::NoMemory;
-    };
     let listeners = match open_listeners(alloc, host, asked.port, asked.workers) {
         Ok(listeners) => listeners,
         Err(HostError::Failed) => return Status::OpenFault,
         Err(HostError::NoMemory) => return Status::NoMemory,
     };
-    let Ok(jobs) = jobs_of(alloc, runtime, office, listeners, clock, asked.connections) else {
+    let Ok(jobs) = jobs_of(alloc, site, listeners, desks, clock, asked.connections) else {
         return Status::NoMemory;
     };
     let Ok(started) = start_all(alloc, spawner, jobs) else {
@@ -104,56 +116,38 @@ fn serve_site<
     }
 }
 
-type Jobs<L, C, W> = Vec<WorkerJob<L, C, W>>;
+type Jobs<L, C, D> = Vec<WorkerJob<L, C, D>>;
 
-// The workers, each with its listener and its passes.
+// The workers, each with its listener and its desk.
 fn jobs_of<
     L: ThreadListener,
     C: Clock + Copy + Send + Drop + 'static,
-    W: Wait + Copy + Send + Drop + 'static,
+    D: Desk + Send + Drop + 'static,
 >(
     alloc: Global,
-    runtime: W,
-    office: Office,
+    site: Site,
     listeners: Vec<L>,
+    desks: Vec<D>,
     clock: C,
     connections: u64,
-) -> Result<Jobs<L, C, W>, AllocError>
-    requires workers { length office.hands.items ≡ length listeners.items }
-    requires few { length listeners.items ≤ MOST_WORKERS }
-    requires connections { (1 ≤ connections) × (connections ≤ MOST_CONNECTIONS) }
-    ensures workers { IfOk result (λ jobs. length jobs.items ≡ length listeners.items) }
+) -> Result<Jobs<L, C, D>, AllocError>
+    requires workers { length desks.items ≡ length listeners.items }
+    requires unused { All (λ desk. IsUnused site (D.shown desk)) desks.items }
+    requires connections { (1 ≤ connections) × (connections ≤ MAX_CONNECTIONS) }
+    ensures desks { IfOk result (λ jobs. map (λ job. job.desk) jobs.items ≡ desks.items) }
     ensures connections { IfOk result (λ jobs. All (λ job. job.connections ≡ connections) jobs.items) }
 {
-    let Office {
-        site,
-        accounts,
-        mut hands,
-    } = office;
+    let site = Arc::new(alloc, site)?;
     let mut jobs = Vec::with_capacity(alloc, listeners.len())?;
-    for listener in listeners {
-        let worker = jobs.len();
+    for (listener, desk) in listeners.into_iter().zip(desks) {
         jobs.push_reserved(WorkerJob {
             alloc,
-            runtime,
             site: Arc::try_clone(&site)?,
-            worker: worker as u32,
             listener,
-            accounts: Arc::try_clone(&accounts)?,
-            passes: take_hand(alloc, &mut hands, worker),
+            desk,
             clock,
             connections,
         });
     }
     Ok(jobs)
-}
-
-// Takes the passes of a worker.
-fn take_hand(alloc: Global, hands: &mut Vec<Hand>, worker: usize) -> Hand
-    requires { worker < length hands.old.items }
-    ensures taken { slice_get hands.old.items worker ≡ Some result }
-    ensures others { (n : ℕ) → worker < n → slice_get hands.new.items n ≡ slice_get hands.old.items n }
-    ensures count { length hands.new.items ≡ length hands.old.items }
-{
-    mem::replace(&mut hands[worker], Vec::new(alloc))
 }

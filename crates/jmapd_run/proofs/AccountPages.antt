@@ -1,5 +1,5 @@
 -- Pages of the changes of an account's events lead to the last, and what a workload writes.
-use Rattle.std.proofs.Common.{◌≡◌, ◌≤◌, ◌<◌, ◌-◌, ◌^◌, ◌==◌, ◌&&◌, not, ℕ, pos, List, [], Bool, true, false, cond, Option, Some, None, Result, Ok, Err, IfOk, codes, length, map, arith, refl, sym, ap, ◌∙◌, subst, eq-eqb}
+use Rattle.std.proofs.Common.{◌≡◌, ◌≤◌, ◌<◌, ◌-◌, ◌^◌, ◌==◌, ◌&&◌, not, ℕ, pos, List, [], Bool, true, false, cond, Option, Some, None, Result, Ok, Err, IfOk, codes, length, map, arith, refl, sym, ap, ◌∙◌, subst, eq-eqb, eqb-true}
 use Rattle.std.proofs.Math.Nat.{lt_of_not-le}
 use Rattle.std.proofs.lemmas.Bool.Decides.{nat_tests}
 use Rattle.std.proofs.lemmas.List.{length-map}
@@ -12,23 +12,23 @@ use Rattle.cal_model.specs.Changes.{changes_refusal, changes_response}
 use Rattle.spec_calls.specs.declared.call.MethodError.{MethodError}
 use Rattle.spec_calls.specs.declared.call.MethodError.TheVariants.{CannotCalculateChanges}
 use Rattle.spec_calls.specs.declared.call.Reply.{Reply}
-use Rattle.spec_core.specs.declared.numbers.TheConstants.{MAX_UNSIGNED_INT}
 use Rattle.spec_history.specs.Base.{Base}
-use Rattle.spec_history.specs.History.{changes_of, is_kind, state_at}
+use Rattle.spec_history.specs.History.{changes_of, is_kind, count_of_kind}
 use Rattle.spec_history.specs.ObjectId.{id_text}
 use Rattle.spec_history.specs.Pages.{Mention, created, destroyed, is_retained, is_within, mentions, page_end, size_of_page, updated}
+use Rattle.spec_history.specs.States.{state_in_generation}
 use Rattle.spec_history.specs.declared.entry.Change.{Change}
 use Rattle.spec_history.specs.declared.entry.Entry.{Entry}
 use Rattle.spec_history.specs.declared.entry.Kind.TheVariants.{Event}
+use Rattle.spec_history.specs.declared.state.State.{State}
 use Rattle.spec_json.specs.Data.{items_back, items_of, list_of, text}
-use Rattle.spec_json.specs.Number.{number_in}
 use Rattle.spec_queries.specs.States.{is_known_state}
 use Rattle.spec_site.specs.Configuration.{built_in}
 use Rattle.jmapd_run.specs.Headline.{IsWorkText}
 use Rattle.state_log.proofs.EndLemmas.{greatest-ge}
 use Rattle.state_log.proofs.LawLemmas.{gets_on, length-mentions, page_ends, page_fits}
-use Rattle.time_text.proofs.NumberLemmas.{decimal_back}
-use Rattle.time_text.specs.State.{state_in, up_to_unsigned}
+use Rattle.time_text.proofs.StateLemmas.{generation_small, state_back}
+use Rattle.time_text.specs.State.{number_named, number_within, state_in}
 use Rattle.workload.specs.Counts.{count_listed, count_of_ids, has_more, lines, new_state, next_page_state, state_number}
 use Rattle.workload.specs.Generated.{page_arguments}
 use Rattle.workload.specs.Work.{IsWork, PagesLead}
@@ -53,14 +53,14 @@ below a b within other = lt_of_not-le (λ (h : b ≤ a). other (omega (arith, h,
 
 -- ---- the state that a page begins at
 
--- the number of changes that a state stands for is what its text writes
-number_of : (o : Option ℕ) (k : ℕ) → option_and_then up_to_unsigned o ≡ Some k → unwrap_or o 0 ≡ k
-number_of None k e = cc
-number_of (Some m) k e = bounded (nat_le m MAX_UNSIGNED_INT) e
+-- the state that a text names where it names this number in a generation
+named_is : (generation : ℕ) (o : Option State) (k : ℕ) → option_and_then (number_within generation) o ≡ Some k → o ≡ Some (state_in_generation generation k)
+named_is generation None k e = cc
+named_is generation (Some s) k e = within (s.generation == generation) refl e
   where
-    bounded : (b : Bool) → cond b (Some m) None ≡ Some k → m ≡ k
-    bounded true e = ap (λ o. unwrap_or o 0) e
-    bounded false e = cc
+    within : (b : Bool) → (s.generation == generation) ≡ b → cond b (Some s.number) None ≡ Some k → Some s ≡ Some (state_in_generation generation k)
+    within true same e = ap Some (λ i. record { generation = eqb-true s.generation generation same i; number = ap (λ o. unwrap_or o 0) e i })
+    within false same e = cc
 
 retained_from : (n : ℕ) (o : Option ℕ) → option_map_or (λ k. is_retained n k) o false ≡ true → (k : ℕ) × (o ≡ Some k) × (k ≤ n)
 retained_from n None e = cc
@@ -79,7 +79,7 @@ taken false s state e = cc
 counted : (ids : List ℕ) → length (list_of (items_of (map (λ id. text (id_text Event id)) ids))) ≡ length ids
 counted ids = ap length (items_back (map (λ id. text (id_text Event id)) ids)) ∙ length-map ids (λ id. text (id_text Event id))
 
-module _ (account : List ℕ) (h : List Entry) (since : List ℕ) where
+module _ (base : Base) (h : List Entry) (since : List ℕ) where
   abbrev cs : List Change
   cs = changes_of h
 
@@ -87,13 +87,13 @@ module _ (account : List ℕ) (h : List Entry) (since : List ℕ) where
   ms = mentions Event cs
 
   abbrev from : ℕ
-  from = unwrap_or (state_in since) 0
+  from = unwrap_or (number_named base.generation since) 0
 
   abbrev until : ℕ
   until = page_end ms from (Some 500)
 
   abbrev page : Reply
-  page = answered h (changes_response account cs (page_arguments since) from) []
+  page = answered h (changes_response base cs (page_arguments since) from) []
 
   page_is_few : count_of_ids page ≤ 500
   page_is_few =
@@ -110,32 +110,34 @@ module _ (account : List ℕ) (h : List Entry) (since : List ℕ) where
   abbrev Leads : List ℕ → Type 0
   Leads state = (state_number since < state_number state) × (state_number state ≤ length h)
 
-  page_leads : is_known_state Event cs since ≡ true → length h ≤ 2 ^ 40 → has_more page ≡ true → Leads (new_state page)
+  page_leads : is_known_state base.generation Event cs since ≡ true → length h ≤ 2 ^ 40 → has_more page ≡ true → Leads (new_state page)
   page_leads known few more =
-      let k = retained_from (state_at cs Event) (state_in since) known in
+      let k = retained_from (count_of_kind cs Event) (number_named base.generation since) known in
       let begins : from ≡ k.0 = ap (λ o. unwrap_or o 0) k.1 in
-      let number : state_number since ≡ k.0 = number_of (number_in since) k.0 k.1 in
-      let within : k.0 ≤ state_at cs Event = k.2 in
-      let count : length ms ≡ state_at cs Event = length-mentions cs Event in
-      let all : state_at cs Event ≤ length h = omega (arith, count_by-le-length (λ (c : Change). is_kind Event c.kind) cs, length-map h (λ (e : Entry). e.change)) in
+      let named = named_is base.generation (state_in since) k.0 k.1 in
+      let number : state_number since ≡ k.0 = ap (λ o. option_map_or (λ s. s.number) o 0) named in
+      let within : k.0 ≤ count_of_kind cs Event = k.2 in
+      let count : length ms ≡ count_of_kind cs Event = length-mentions cs Event in
+      let all : count_of_kind cs Event ≤ length h = omega (arith, count_by-le-length (λ (c : Change). is_kind Event c.kind) cs, length-map h (λ (e : Entry). e.change)) in
       let ends : until ≤ length ms = page_ends ms from (Some 500) (omega (arith, begins, within, count)) in
       let grows : from ≤ until = greatest-ge (λ j. is_within (Some 500) (size_of_page ms from j)) from (length ms - from) in
-      let inside : until < state_at cs Event = below until (state_at cs Event) (omega (arith, ends, count)) (differ until (state_at cs Event) more) in
+      let inside : until < count_of_kind cs Event = below until (count_of_kind cs Event) (omega (arith, ends, count)) (differ until (count_of_kind cs Event) more) in
       let on : from < until = gets_on ms from 500 (omega (arith, grows, inside, count)) (omega arith) in
-      let next : state_number (new_state page) ≡ until = ap (λ o. unwrap_or o 0) (decimal_back until (omega (arith, inside, all, few))) in
+      let next : state_number (new_state page) ≡ until = ap (λ o. option_map_or (λ s. s.number) o 0)
+      (state_back base.generation until (generation_small since (state_in_generation base.generation k.0) named) (omega (arith, inside, all, few))) in
       (omega (arith, number, begins, on, next), omega (arith, next, inside, all))
 
-  pub leads_of : (e : Option MethodError) → changes_refusal cs (page_arguments since) ≡ e → (state : List ℕ) → length h ≤ 2 ^ 40 → next_page_state (unless_error h e page) ≡ Some state → Leads state
+  pub leads_of : (e : Option MethodError) → changes_refusal base.generation cs (page_arguments since) ≡ e → (state : List ℕ) → length h ≤ 2 ^ 40 → next_page_state (unless_error h e page) ≡ Some state → Leads state
   leads_of None is state few more =
       let next = taken (has_more page) (new_state page) state more in
-      subst Leads next.1 (page_leads (known_state (is_known_state Event cs since) is) few next.0)
+      subst Leads next.1 (page_leads (known_state (is_known_state base.generation Event cs since) is) few next.0)
   leads_of (Some e) is state few more = cc
 
 pub pages_lead : PagesLead answer added
 pages_lead = record {
   adds_nothing = λ base h since s. refl;
-  few = λ base h since. few_of base.account_id h since (changes_refusal (changes_of h) (page_arguments since));
-  gets_on = λ base h since state few more. leads_of base.account_id h since (changes_refusal (changes_of h) (page_arguments since)) refl state few more;
+  few = λ base h since. few_of base h since (changes_refusal base.generation (changes_of h) (page_arguments since));
+  gets_on = λ base h since state few more. leads_of base h since (changes_refusal base.generation (changes_of h) (page_arguments since)) refl state few more;
 }
 
 -- the lines of the numbers of such a workload are its text

@@ -15,14 +15,14 @@ use Rattle.spec_site.specs.Configuration.{Site}
 use Rattle.io_edge.specs.Outside.{OpenerShown}
 use Rattle.jmapd_run.specs.declared.status.Status.{Status}
 use Rattle.jmapd_run.specs.declared.status.Status.TheVariants.{Config, Cut, Done, NoMemory, OpenFault, ReadFault, Refused, Usage, WriteFault}
-use Rattle.command_line.specs.Commands.{Command, batch, stdio, workload}
+use Rattle.command_line.specs.Commands.{Command, batch, listen, stdio, workload}
 use Rattle.jmapd_run.proofs.Connecting.{few_calls, same_desk}
 use Rattle.jmapd_run.proofs.Reading.{all_read}
-use Rattle.jmapd_run.proofs.StartLemmas.{batch_start, site_of, some_same, start_is, start_of_command, stdio_start, user_is}
+use Rattle.jmapd_run.proofs.StartLemmas.{batch_start, listen_start, site_of, some_same, start_is, start_of_command, stdio_start, user_is}
 use Rattle.jmapd_run.specs.Completes.{FaultlessRunsWork, GivesStatus, HasUser, IsAccepted, NothingFailed, connection_status}
 use Rattle.jmapd_run.specs.Headline.{AnswersInput, Surroundings}
 use Rattle.jmapd_run.specs.Runs.{BatchEnds, RunsFrom, RunsStdio, WorkloadEnds, status_of, with_desk}
-use Rattle.jmapd_run.specs.Starts.{HasConfiguration, Start, batch_for, configuration_named, configuration_of, stdio_of, workload_by}
+use Rattle.jmapd_run.specs.Starts.{HasConfiguration, Start, batch_for, configuration_named, configuration_of, stdio_of, workers_for, workload_by}
 
 -- ---- batch
 
@@ -122,10 +122,13 @@ module _ (x x' : Surroundings) (o o' : OpenerShown) (fine : NothingFailed x x' o
   works (workload number size) accepted has is =
       let comes : start ≡ workload_by number size = sym is in
       workload_works fine number size status (runs_from (workload_by number size) comes).how
+  works (listen l) accepted has is =
+      let comes : start ≡ workers_for l site = sym is ∙ ap (listen_start l) accepted in
+      absurd (runs_from (workers_for l site) comes)
 
 pub faultless_runs_work : FaultlessRunsWork
-faultless_runs_work x x' o o' words status (inr h) fine command site is accepted has = inl h.0
-faultless_runs_work x x' o o' words status (inl h) fine command site is accepted has =
+faultless_runs_work x x' o o' asked status (inr h) fine command site is accepted has = inl h.0
+faultless_runs_work x x' o o' asked status (inl h) fine command site is accepted has =
     let a = accepted_bytes (configuration_of command) o site accepted in
-    let named : HasConfiguration (configuration_named words) o a.0 = subst (λ (c : Option Command). HasConfiguration (option_and_then configuration_of c) o a.0) (sym is) a.1 in
-    works x x' o o' fine a.0 site h.0 status h.2 command a.2 has (ap (start_of_command a.0) (sym is) ∙ start_is words o o' a.0 named fine.opened h.0 h.1)
+    let named : HasConfiguration (configuration_named asked) o a.0 = subst (λ (c : Option Command). HasConfiguration (option_and_then configuration_of c) o a.0) (sym is) a.1 in
+    works x x' o o' fine a.0 site h.0 status h.2 command a.2 has (ap (start_of_command a.0) (sym is) ∙ start_is asked o o' a.0 named fine.opened h.0 h.1)

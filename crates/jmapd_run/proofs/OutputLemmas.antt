@@ -11,6 +11,7 @@ use Rattle.spec_json.specs.Data.{Data}
 use Rattle.account_desk.specs.FreshDesk.{IsSole, fresh_desk}
 use Rattle.account_desk.specs.SoleDesk.{fresh_account}
 use Rattle.cal_model.specs.Answer.{added, answer}
+use Rattle.command_line.specs.Commands.{Command}
 use Rattle.jmapd_run.specs.Headline.{AnswersInput, IsAnswer, IsWorkText, Surroundings}
 use Rattle.spec_connection.specs.Serving.{refusal_text}
 use Rattle.spec_connection.specs.Exchanges.{Ticked, all_bytes, all_moments, messages_of}
@@ -33,7 +34,7 @@ use Rattle.jmapd_run.proofs.StartLemmas.{some_same, start_is}
 use Rattle.jmapd_run.specs.Completes.{NothingFailed}
 use Rattle.jmapd_run.specs.Determined.{IsFinished, OutputsAreDetermined}
 use Rattle.jmapd_run.specs.Runs.{BatchEnds, Runs, RunsFrom, RunsStdio, WorkloadEnds, status_of, with_desk}
-use Rattle.jmapd_run.specs.Starts.{Start, batch_for, misconfigured, not_opened, stdio_of, usage, workload_by}
+use Rattle.jmapd_run.specs.Starts.{Start, batch_for, misconfigured, not_opened, stdio_of, usage, workers_for, workload_by}
 
 -- a sink that was empty and tells this text got just that
 wrote_all : (held held' : Option (List ℕ)) (text piece : List ℕ) → held ≡ Some [] → held' ≡ Some text → Grows held held' piece → text ≡ piece
@@ -240,10 +241,10 @@ unbegun : {x x' y y' : Surroundings} {input : List ℕ} {clock : ℕ → ℤ} {t
     → (s ≡ u) × (x' ≡ x) → (t ≡ u) × (y' ≡ y) → (s ≡ t) × (text ≡ other)
 unbegun k l a b = (a.0 ∙ sym b.0, nothing_written k a.1 ∙ sym (nothing_written l b.1))
 
-known : {words : List (List ℕ)} {configuration : Option (List ℕ)} {input : List ℕ} {clock : ℕ → ℤ} {status : Status} {text : List ℕ} (a : IsFinished words configuration input clock status text) → Known a.before a.after input clock text
+known : {asked : Option Command} {configuration : Option (List ℕ)} {input : List ℕ} {clock : ℕ → ℤ} {status : Status} {text : List ℕ} (a : IsFinished asked configuration input clock status text) → Known a.before a.after input clock text
 known a = record { given = a.given; empty = a.empty; told = a.told; written = a.written }
 
-module _ {words : List (List ℕ)} {configuration : Option (List ℕ)} {input : List ℕ} {clock : ℕ → ℤ} {s t : Status} {text other : List ℕ} (a : IsFinished words configuration input clock s text) (b : IsFinished words configuration input clock t other) where
+module _ {asked : Option Command} {configuration : Option (List ℕ)} {input : List ℕ} {clock : ℕ → ℤ} {s t : Status} {text other : List ℕ} (a : IsFinished asked configuration input clock s text) (b : IsFinished asked configuration input clock t other) where
   same_from : (start : Start) → RunsFrom a.before a.after start s → RunsFrom b.before b.after start t → (s ≡ t) × (text ≡ other)
   same_from usage h g = unbegun (known a) (known b) (no_usage a.before a.after s h) (no_usage b.before b.after t g)
   same_from not_opened h g = unbegun (known a) (known b) (no_opening a.before a.after s h) (no_opening b.before b.after t g)
@@ -252,18 +253,19 @@ module _ {words : List (List ℕ)} {configuration : Option (List ℕ)} {input : 
       (batch_end site user input clock a.before a.after a.opener a.opener' s text (known a) a.nothing_failed h.how a.had_memory) (batch_end site user input clock b.before b.after b.opener b.opener' t other (known b) b.nothing_failed g.how b.had_memory)
   same_from (stdio_of site) h g = same_connections site input clock (known a) (known b) a.nothing_failed b.nothing_failed h g a.had_memory b.had_memory
   same_from (workload_by number size) h g = same_workloads number size (known a) (known b) a.nothing_failed b.nothing_failed h.how g.how a.had_memory b.had_memory
+  same_from (workers_for l site) h g = absurd h
 
   pub outputs_same : (s ≡ t) × (text ≡ other)
   outputs_same = by_runs a.runs b.runs
     where
-      by_runs : Runs a.before a.after a.opener a.opener' words s → Runs b.before b.after b.opener b.opener' words t → (s ≡ t) × (text ≡ other)
+      by_runs : Runs a.before a.after a.opener a.opener' asked s → Runs b.before b.after b.opener b.opener' asked t → (s ≡ t) × (text ≡ other)
       by_runs (inr h) g = absurd (a.had_memory h.0)
       by_runs (inl h) (inr g) = absurd (b.had_memory g.0)
       by_runs (inl h) (inl g) =
-          let one = start_is words a.opener a.opener' configuration a.has a.nothing_failed.opened h.0 h.1 in
-          let other_one = start_is words b.opener b.opener' configuration b.has b.nothing_failed.opened g.0 g.1 in
+          let one = start_is asked a.opener a.opener' configuration a.has a.nothing_failed.opened h.0 h.1 in
+          let other_one = start_is asked b.opener b.opener' configuration b.has b.nothing_failed.opened g.0 g.1 in
           let same : g.0 ≡ h.0 = sym other_one ∙ one in
           same_from h.0 h.2 (subst (λ (start : Start). RunsFrom b.before b.after start t) same g.2)
 
 pub outputs_determined : OutputsAreDetermined
-outputs_determined words configuration input clock s t text other a b = outputs_same a b
+outputs_determined asked configuration input clock s t text other a b = outputs_same a b

@@ -1,4 +1,4 @@
--- What the words and the configuration come to is one thing.
+-- What a command and the configuration come to is one thing.
 use Rattle.std.proofs.Common.{◌≡◌, ◌+◌, ◌<◌, ◌≤◌, ℕ, Bool, true, false, List, Option, Some, None, Result, Ok, Err, inl, inr, length, take, refl, sym, ap, ◌∙◌, subst, arith, option_map}
 use Rattle.std.proofs.lemmas.Bool.Decides.{nat_tests}
 use Rattle.std.proofs.lemmas.List.{length-take-le, take_all}
@@ -8,8 +8,8 @@ use Rattle.spec_json.specs.Json.{reading}
 use Rattle.spec_site.specs.Configuration.{Fault, Site, built_in, configured, site_read, user_named}
 use Rattle.spec_site.specs.declared.field.Field.TheVariants.{Json}
 use Rattle.spec_site.specs.declared.limits.TheConstants.{MAX_CONFIGURATION_BYTES}
-use Rattle.command_line.specs.Commands.{Command, batch, command_of, stdio, workload}
-use Rattle.jmapd_run.specs.Starts.{HasConfiguration, IsLoaded, IsNotOpened, IsSite, IsStart, IsUser, Start, batch_for, configuration_named, configuration_of, misconfigured, not_opened, stdio_of, usage, workload_by}
+use Rattle.command_line.specs.Commands.{Command, Listen, batch, listen, stdio, workload}
+use Rattle.jmapd_run.specs.Starts.{HasConfiguration, IsLoaded, IsNotOpened, IsSite, IsStart, IsUser, Start, batch_for, configuration_named, configuration_of, misconfigured, not_opened, stdio_of, usage, workers_for, workload_by}
 
 pub some_same : {X : Type 0} (x y : X) → Some x ≡ Some y → x ≡ y
 some_same x y e = ap (λ o. unwrap_or o x) e
@@ -41,7 +41,7 @@ configured_taken bytes = by_size (nat_le (length bytes) MAX_CONFIGURATION_BYTES)
         let still : MAX_CONFIGURATION_BYTES < length (take (MAX_CONFIGURATION_BYTES + 1) bytes) = omega (arith, all) in
         refused_beyond (take (MAX_CONFIGURATION_BYTES + 1) bytes) still ∙ sym (refused_beyond bytes many)
 
--- ---- what the words and the bytes of their configuration come to
+-- ---- what a command and the bytes of its configuration come to
 
 abbrev loaded : Option (List ℕ) → Option (Result Site Fault)
 loaded bytes = option_map configured bytes
@@ -65,11 +65,17 @@ stdio_start None = not_opened
 stdio_start (Some (Err fault)) = misconfigured fault.field fault.index
 stdio_start (Some (Ok site)) = stdio_of site
 
+abbrev pub listen_start : Listen → Option (Result Site Fault) → Start
+listen_start l None = not_opened
+listen_start l (Some (Err fault)) = misconfigured fault.field fault.index
+listen_start l (Some (Ok site)) = workers_for l site
+
 abbrev pub start_of_command : Option (List ℕ) → Option Command → Start
 start_of_command bytes None = usage
 start_of_command bytes (Some (batch config who)) = batch_start (site_of config bytes) who
 start_of_command bytes (Some (stdio config)) = stdio_start (loaded bytes)
 start_of_command bytes (Some (workload number size)) = workload_by number size
+start_of_command bytes (Some (listen l)) = listen_start l (loaded bytes)
 
 pub user_is : (site : Site) (who : Option (List ℕ)) (user : ℕ) → IsUser site who user → batch_start (Some (Ok site)) who ≡ batch_for site user
 user_is site None user u = ap (batch_for site) (sym u)
@@ -95,32 +101,34 @@ missing_is : (o : OpenerShown) (name : List ℕ) (bytes : Option (List ℕ)) →
 missing_is o name bytes has missing =
     ap loaded (sym has.2 ∙ subst (λ (f : Option (List (List ℕ × List ℕ))). IfSome f (λ files. file_named files name ≡ None)) has.1 missing)
 
-module _ (words : List (List ℕ)) (o o' : OpenerShown) (bytes : Option (List ℕ)) (has : HasConfiguration (configuration_named words) o bytes) (quiet : Rose o.faults o'.faults → ⊥) where
-  of_command : (c : Option Command) → command_of words ≡ c → start_of_command bytes (command_of words) ≡ start_of_command bytes c
+module _ (asked : Option Command) (o o' : OpenerShown) (bytes : Option (List ℕ)) (has : HasConfiguration (configuration_named asked) o bytes) (quiet : Rose o.faults o'.faults → ⊥) where
+  of_command : (c : Option Command) → asked ≡ c → start_of_command bytes asked ≡ start_of_command bytes c
   of_command c e = ap (start_of_command bytes) e
 
-  has_named : (c : Command) → command_of words ≡ Some c → HasConfiguration (configuration_of c) o bytes
+  has_named : (c : Command) → asked ≡ Some c → HasConfiguration (configuration_of c) o bytes
   has_named c e = subst (λ (k : Option Command). HasConfiguration (option_and_then configuration_of k) o bytes) e has
 
-  has_name : (c : Command) (name : List ℕ) → command_of words ≡ Some c → configuration_of c ≡ Some name → HasConfiguration (Some name) o bytes
+  has_name : (c : Command) (name : List ℕ) → asked ≡ Some c → configuration_of c ≡ Some name → HasConfiguration (Some name) o bytes
   has_name c name e f = subst (λ (n : Option (List ℕ)). HasConfiguration n o bytes) f (has_named c e)
 
-  by_configuration : (c : Command) (name : List ℕ) (r : Option (Result Site Fault)) (start : Start) → command_of words ≡ Some c → configuration_of c ≡ Some name → loaded bytes ≡ r
-      → ((who : Option (List ℕ)) → batch_start r who ≡ start) → stdio_start r ≡ start → start_of_command bytes (command_of words) ≡ start
-  by_configuration (batch config who) name r start e f l b s = of_command _ e ∙ (ap (λ (x : Option (List ℕ)). batch_start (site_of x bytes) who) f ∙ (ap (λ x. batch_start x who) l ∙ b who))
-  by_configuration (stdio config) name r start e f l b s = of_command _ e ∙ (ap stdio_start l ∙ s)
-  by_configuration (workload number size) name r start e f l b s = cc
+  by_configuration : (c : Command) (name : List ℕ) (r : Option (Result Site Fault)) (start : Start) → asked ≡ Some c → configuration_of c ≡ Some name → loaded bytes ≡ r
+      → ((who : Option (List ℕ)) → batch_start r who ≡ start) → stdio_start r ≡ start → ((asks : Listen) → listen_start asks r ≡ start) → start_of_command bytes asked ≡ start
+  by_configuration (batch config who) name r start e f l b s w = of_command _ e ∙ (ap (λ (x : Option (List ℕ)). batch_start (site_of x bytes) who) f ∙ (ap (λ x. batch_start x who) l ∙ b who))
+  by_configuration (stdio config) name r start e f l b s w = of_command _ e ∙ (ap stdio_start l ∙ s)
+  by_configuration (workload number size) name r start e f l b s w = cc
+  by_configuration (listen asks) name r start e f l b s w = of_command _ e ∙ (ap (listen_start asks) l ∙ w asks)
 
-  no_file : (c : Command) (name : List ℕ) → command_of words ≡ Some c → configuration_of c ≡ Some name → IsNotOpened o o' name → start_of_command bytes (command_of words) ≡ not_opened
-  no_file c name e f (inl missing) = by_configuration c name None not_opened e f (missing_is o name bytes (has_name c name e f) missing) (λ who. refl) refl
+  no_file : (c : Command) (name : List ℕ) → asked ≡ Some c → configuration_of c ≡ Some name → IsNotOpened o o' name → start_of_command bytes asked ≡ not_opened
+  no_file c name e f (inl missing) = by_configuration c name None not_opened e f (missing_is o name bytes (has_name c name e f) missing) (λ who. refl) refl (λ l. refl)
   no_file c name e f (inr rose) = absurd (quiet rose)
 
-  pub start_is : (start : Start) → IsStart o o' words start → start_of_command bytes (command_of words) ≡ start
+  pub start_is : (start : Start) → IsStart o o' asked start → start_of_command bytes asked ≡ start
   start_is usage (inl h) = of_command None h.0
   start_is usage (inr h) = of_command _ h.3 ∙ (ap (λ x. batch_start x (Some h.1)) (site_is o o' h.0 bytes h.2 (has_named _ h.3) h.4) ∙ ap (by_user h.2) h.5)
   start_is not_opened h = no_file h.0 h.1 h.2 h.3 h.4
   start_is (misconfigured field index) h =
-      by_configuration h.0 h.1 (Some (Err (record { field = field; index = index }))) (misconfigured field index) h.2 h.3 (loaded_is o o' h.1 bytes _ (has_name h.0 h.1 h.2 h.3) h.4) (λ who. refl) refl
+      by_configuration h.0 h.1 (Some (Err (record { field = field; index = index }))) (misconfigured field index) h.2 h.3 (loaded_is o o' h.1 bytes _ (has_name h.0 h.1 h.2 h.3) h.4) (λ who. refl) refl (λ l. refl)
   start_is (batch_for site user) h = of_command _ h.2 ∙ (ap (λ x. batch_start x h.1) (site_is o o' h.0 bytes site (has_named _ h.2) h.3) ∙ user_is site h.1 user h.4)
   start_is (stdio_of site) h = of_command _ h.1 ∙ ap stdio_start (loaded_is o o' h.0 bytes (Ok site) (has_named _ h.1) h.2)
   start_is (workload_by number size) h = of_command _ h.0
+  start_is (workers_for l site) h = of_command _ h.0 ∙ ap (listen_start l) (loaded_is o o' l.config bytes (Ok site) (has_named _ h.0) h.1)

@@ -11,7 +11,7 @@ use Rattle.spec_http.specs.Pipeline.{Ending, undecided, bad_head, close_asked, q
 use Rattle.spec_site.specs.Configuration.{Site, built_in, configured}
 use Rattle.jmapd_run.specs.declared.status.Status.{Status}
 use Rattle.jmapd_run.specs.declared.status.Status.TheVariants.{Cut, Done, NoMemory, Refused}
-use Rattle.command_line.specs.Commands.{Command, batch, command_of, stdio, workload}
+use Rattle.command_line.specs.Commands.{Command, batch, listen, stdio, workload}
 use Rattle.jmapd_run.specs.Headline.{Surroundings}
 use Rattle.jmapd_run.specs.Runs.{Runs}
 use Rattle.jmapd_run.specs.Starts.{HasConfiguration, IsUser, configuration_of}
@@ -30,12 +30,13 @@ connection_status (bad_head status) left = Cut
 connection_status close_asked left = Done
 connection_status quota_spent left = Cut
 
--- The bytes are those of the input, or its first ones where a request has no more, if the input tells them; and this is the status that they give. A workload has no part in them.
+-- The bytes are those of the input, or its first ones where a request has no more, if the input tells them; and this is the status that they give. A workload and workers have no part in them.
 abbrev pub GivesStatus : Command → Option (List ℕ) → Status → Type 0
 GivesStatus (batch config who) input status = (bytes : List ℕ) × IfSome input (λ told. bytes ≡ take (MAX_SIZE_REQUEST + 1) told) × (status ≡ request_status bytes)
 GivesStatus (stdio config) input status =
     (bytes : List ℕ) × IfSome input (λ told. bytes ≡ told) × (ms : List Message) × (left : List ℕ) × (ending : Ending) × Holds MAX_MESSAGES bytes ms left ending × (status ≡ connection_status ending left)
 GivesStatus (workload number size) input status = status ≡ Done
+GivesStatus (listen l) input status = status ≡ Done
 
 -- ---- runs
 
@@ -49,6 +50,7 @@ abbrev pub HasUser : Site → Command → Type 0
 HasUser site (batch config who) = (user : ℕ) × IsUser site who user
 HasUser site (stdio config) = ⊤
 HasUser site (workload number size) = ⊤
+HasUser site (listen l) = ⊤
 
 -- neither opener nor input nor output failed
 pub record NothingFailed (x x' : Surroundings) (o o' : OpenerShown) : Type 0 where
@@ -57,6 +59,6 @@ pub record NothingFailed (x x' : Surroundings) (o o' : OpenerShown) : Type 0 whe
   pub wrote : Rose x.output.faults x'.output.faults → ⊥
 
 abbrev pub FaultlessRunsWork : Type 0
-FaultlessRunsWork = (x x' : Surroundings) (o o' : OpenerShown) (words : List (List ℕ)) (status : Status) → Runs x x' o o' words status → NothingFailed x x' o o'
-    → (command : Command) (site : Site) → command_of words ≡ Some command → IsAccepted (configuration_of command) o site → HasUser site command
+FaultlessRunsWork = (x x' : Surroundings) (o o' : OpenerShown) (asked : Option Command) (status : Status) → Runs x x' o o' asked status → NothingFailed x x' o o'
+    → (command : Command) (site : Site) → asked ≡ Some command → IsAccepted (configuration_of command) o site → HasUser site command
     → (status ≡ NoMemory) ⊎ GivesStatus command x.input.left status

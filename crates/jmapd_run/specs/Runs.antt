@@ -3,6 +3,7 @@ use Rattle.std.specs.Prelude.{◌≡◌, ◌⊎◌, ◌+◌, ◌≤◌, ℕ, ℤ
 use Rattle.spec_core.specs.declared.limits.TheConstants.{MAX_SIZE_REQUEST}
 use Rattle.spec_batch.specs.Chain.{Shown}
 use Rattle.account_desk.specs.FreshDesk.{IsSole, fresh_desk}
+use Rattle.command_line.specs.Commands.{Command, batch, listen, stdio, workload}
 use Rattle.jmapd_run.specs.Headline.{AnswersInput, IsWorkText, Surroundings}
 use Rattle.spec_connection.specs.Serving.{Serves, Setting}
 use Rattle.io_edge.specs.Outside.{ConsumesAtMost, Grows, GrowsByPrefix, OpenerShown, Rose, SinkShown, Ticks}
@@ -14,6 +15,14 @@ use Rattle.spec_connection.specs.declared.served.TheConstants.{MAX_MESSAGES}
 use Rattle.jmapd_run.specs.declared.status.Status.{Status}
 use Rattle.jmapd_run.specs.declared.status.Status.TheVariants.{Config, Cut, Done, NoMemory, OpenFault, ReadFault, Refused, Usage, WriteFault}
 use Rattle.jmapd_run.specs.Starts.{IsStart, Start, batch_for, misconfigured, not_opened, stdio_of, usage, workload_by}
+
+-- the commands that `run` knows: `listen` is none of them
+abbrev pub streamed : Option Command → Option Command
+streamed None = None
+streamed (Some (batch config user)) = Some (batch config user)
+streamed (Some (stdio config)) = Some (stdio config)
+streamed (Some (workload number size)) = Some (workload number size)
+streamed (Some (listen l)) = None
 
 -- how `stdio` ends, by how its connection ended; its desk never has made as many calls as it may
 abbrev pub status_of : ConnEnd → Option Status
@@ -81,6 +90,6 @@ module _ (x x' : Surroundings) where
   RunsFrom (workload_by number size) status = RunsWorkload number size status
   RunsFrom _ _ = ⊥
 
-  -- The words and the opener come to a start, and from there the run goes on; or memory ran out before anything else was touched.
-  abbrev pub Runs : OpenerShown → OpenerShown → List (List ℕ) → Status → Type 0
-  Runs o o' words status = ((start : Start) × IsStart o o' words start × RunsFrom start status) ⊎ ((status ≡ NoMemory) × (x' ≡ x))
+  -- What is asked and the opener come to a start, and from there the run goes on; or memory ran out before anything else was touched.
+  abbrev pub Runs : OpenerShown → OpenerShown → Option Command → Status → Type 0
+  Runs o o' asked status = ((start : Start) × IsStart o o' asked start × RunsFrom start status) ⊎ ((status ≡ NoMemory) × (x' ≡ x))

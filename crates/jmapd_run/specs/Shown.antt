@@ -1,5 +1,6 @@
 -- What contracts see of a start, and of what a load came to.
 use Rattle.std.specs.Prelude.{◌≡◌, ℕ, ◌<◌, List, Option, Some, None, Result, Ok, Err, length, ⊤}
+use Rattle.command_line.specs.Commands.{Command}
 use Rattle.io_edge.specs.Outside.{OpenerShown}
 use Rattle.spec_site.specs.Configuration.{Fault, Site, user_named}
 use Rattle.jmapd_run.specs.declared.status.Status.{Status}
@@ -49,9 +50,9 @@ module _ (o o' : OpenerShown) where
   BatchHow config who (Err Usage) = (name : List ℕ) × (site : Site) × (who ≡ Some name) × IsSite o o' config site × (user_named site name ≡ None)
   BatchHow config who (Err e) = SiteHow config (Err e)
 
-  abbrev pub StartHow : List (List ℕ) → Result Start Status → Type 0
-  StartHow words (Ok start) = IsStart o o' words (start_shown start)
-  StartHow words (Err Usage) = IsStart o o' words starts.usage
-  StartHow words (Err OpenFault) = IsStart o o' words starts.not_opened
-  StartHow words (Err (Config field index)) = IsStart o o' words (starts.misconfigured field index)
-  StartHow words (Err e) = e ≡ NoMemory
+  abbrev pub StartHow : Option Command → Result Start Status → Type 0
+  StartHow asked (Ok start) = IsStart o o' asked (start_shown start)
+  StartHow asked (Err Usage) = IsStart o o' asked starts.usage
+  StartHow asked (Err OpenFault) = IsStart o o' asked starts.not_opened
+  StartHow asked (Err (Config field index)) = IsStart o o' asked (starts.misconfigured field index)
+  StartHow asked (Err e) = e ≡ NoMemory

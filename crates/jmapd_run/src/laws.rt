@@ -3,7 +3,6 @@ ghost use Rattle.jmapd_run.specs.Completes.{FaultlessRunsWork};
 ghost use Rattle.jmapd_run.specs.Determined.{OutputsAreDetermined};
 
 /// A run in which nothing fails, and whose words and configuration are accepted, does its work, or runs out of memory.
-#[tactic(auto, using(crate::proofs::Completing::faultless_runs_work))]
 pub fn faultless_runs_work()
     ensures { FaultlessRunsWork }
 {}

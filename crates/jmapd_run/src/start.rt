@@ -1,10 +1,13 @@
-//! What the words of the command line and the configuration come to.
-ghost use Rattle.std.specs.Prelude.{◌≡◌, ◌≤◌, ◌+◌, IfOk, map, option_map, string_bytes};
+//! What a command and the configuration come to.
+ghost use Rattle.std.specs.Prelude.{◌≡◌, ◌≤◌, ◌+◌, IfOk, Some, option_map};
+ghost use Rattle.command_line.specs.Commands.{stdio};
+ghost use Rattle.command_line.specs.Shown.{command_shown};
+ghost use Rattle.jmapd_run.specs.Runs.{streamed};
 ghost use Rattle.spec_site.specs.Configuration.{configured};
 ghost use Rattle.jmapd_run.specs.Shown.{BatchHow, HasItsUser, LoadHow, NamedHow, ReadHow, SiteHow, StartHow};
 
 use crate::status::Status;
-use command_line::command::{Command, read_command};
+use command_line::command::Command;
 use command_line::workload::Workload;
 use io_edge::opener::{LoadError, Opener};
 use session_doc::{ConfigurationError, Site};
@@ -22,26 +25,51 @@ pub(crate) enum Start {
     Workload(Workload),
 }
 
-/// What the words ask for, under the configuration that they name.
+/// What a command asks for, under the configuration that it names; it is `None` where the words were no command's.
 ///
-/// In order: `Usage` where the words are no command's, `OpenFault` where the configuration isn't loaded, `Config` where it is refused, and
+/// In order: `Usage` where there is no command or it is `listen`, `OpenFault` where the configuration isn't loaded, `Config` where it is refused, and
 /// `Usage` where it has no user of the name in `--user`. Takes memory for the site.
 pub(crate) fn start_from<O: Opener>(
     alloc: Global,
-    words: &[String],
+    command: Option<Command<'_>>,
     opener: &mut O,
 ) -> Result<Start, Status>
-    ensures how { StartHow (O.shown opener.old) (O.shown opener.new) (map string_bytes words.now) result }
+    ensures how { StartHow (O.shown opener.old) (O.shown opener.new) (streamed (option_map command_shown command.entry)) result }
     ensures files { (O.shown opener.new).files ≡ (O.shown opener.old).files }
     ensures once { (O.shown opener.new).loads ≤ (O.shown opener.old).loads + 1 }
     ensures user { IfOk result HasItsUser }
 {
-    match read_command(alloc, words) {
-        Ok(Some(Command::Batch { config, user })) => start_batch(alloc, opener, config, user),
-        Ok(Some(Command::Stdio { config })) => Ok(Start::Stdio(load_site(alloc, opener, config)?)),
-        Ok(Some(Command::Workload(work))) => Ok(Start::Workload(work)),
-        Ok(None) => Err(Status::Usage),
-        Err(_) => Err(Status::NoMemory),
+    match command {
+        Some(command) => start_of(alloc, command, opener),
+        None => Err(Status::Usage),
+    }
+}
+
+fn start_of<O: Opener>(alloc: Global, command: Command<'_>, opener: &mut O) -> Result<Start, Status>
+    ensures how { StartHow (O.shown opener.old) (O.shown opener.new) (streamed (Some (command_shown command.entry))) result }
+    ensures files { (O.shown opener.new).files ≡ (O.shown opener.old).files }
+    ensures once { (O.shown opener.new).loads ≤ (O.shown opener.old).loads + 1 }
+    ensures user { IfOk result HasItsUser }
+{
+    match command {
+        Command::Batch { config, user } => start_batch(alloc, opener, config, user),
+        Command::Stdio { config } => start_stdio(alloc, opener, config),
+        Command::Workload(work) => Ok(Start::Workload(work)),
+        Command::Listen(_) => Err(Status::Usage),
+    }
+}
+
+// One connection, for the users of the site of this name.
+#[tactic(auto, using(crate::proofs::Starting::stdio_refused))]
+fn start_stdio<O: Opener>(alloc: Global, opener: &mut O, config: &str) -> Result<Start, Status>
+    ensures how { StartHow (O.shown opener.old) (O.shown opener.new) (Some (stdio config.now)) result }
+    ensures files { (O.shown opener.new).files ≡ (O.shown opener.old).files }
+    ensures once { (O.shown opener.new).loads ≤ (O.shown opener.old).loads + 1 }
+    ensures user { IfOk result HasItsUser }
+{
+    match load_site(alloc, opener, config) {
+        Ok(site) => Ok(Start::Stdio(site)),
+        Err(status) => Err(status),
     }
 }
 

@@ -33,7 +33,7 @@ pub(crate) fn run_stdio<S: Source, K: Sink, C: Clock>(
     status_of(served.end)
 }
 
-// How the command ends, by how its connection ended. A desk over fresh accounts makes at most 160,000 calls, so its end isn't `PassSpent`.
+// How the command ends, by how its connection ended. A desk over fresh accounts is asked for at most 160,000 calls, so its end isn't `PassSpent`.
 fn status_of(end: ConnEnd) -> Status
     requires { end ≢ ConnEnd.PassSpent }
     ensures { status_of end ≡ Some result }

@@ -2,6 +2,8 @@
 #![tactic(auto)]
 
 mod connections;
+mod gated;
+mod meeting;
 mod sites;
 mod workers;
 

@@ -1,15 +1,28 @@
 //! Runs of `listen` over a host in memory.
+ghost use Rattle.std.specs.Prelude.{◌≡◌, ◌≤◌, All, IfOk, length};
+ghost use Rattle.account_desk.specs.SharedDesk.{shown_by_passes};
+ghost use Rattle.jmapd_listen.specs.Listens.{IsUnused};
+
 use crate::connections::{connections_of, failing, tell_output};
-use account_desk::gate::Gate;
-use account_desk::meeting::Meeting;
+use crate::gated::{GatedLock, gated_accounts};
+use crate::meeting::Meeting;
+use account_desk::shared_desk::SharedDesk;
+use command_line::command::{Command, read_command};
 use io_edge::memory_clock::StillClock;
 use io_edge::memory_opener::MemOpener;
-use jmapd_listen::listen::listen;
+use io_edge::memory_sink::MemSink;
+use io_edge::memory_source::MemSource;
+use jmapd_listen::listen::serve_site;
+use jmapd_listen::program::run_program;
+use jmapd_run::start::load_site;
 use jmapd_run::status::Status;
 use listen_edge::in_place::InPlace;
 use listen_edge::memory_host::MemHost;
 use listen_edge::real_threads::RealThreads;
+use listen_edge::spawner::Spawner;
+use listen_workers::desks::open_desks;
 use row_table::line::words_in;
+use session_doc::Site;
 use spec_json::tree::Tree;
 use std::alloc::{AllocError, Global};
 use std::fmt::Write;
@@ -22,7 +35,7 @@ const CLOCK: StillClock = StillClock {
 };
 
 /// The most workers of a row.
-const MOST_WORKERS: u32 = 16;
+const MAX_WORKERS: u32 = 16;
 
 /// How a run of the `words` ended, whether calls on two accounts missed each other where they were to meet, and what was written of the connections of each worker.
 ///
@@ -47,35 +60,101 @@ pub fn told<R: Threads + Wait + Copy + Send + Drop + 'static>(
     }
     let mut host = MemHost::new(alloc, rt, waiting, failing(alloc, asked)?)?;
     let meeting = Arc::new(alloc, Meeting::new())?;
-    let gate = match asked.truth_at("meets") {
-        Some(true) => Gate::Meets(Arc::try_clone(&meeting)?),
-        _ => Gate::Open,
+    let entered = if asked.truth_at("meets") == Some(true) {
+        Some(&meeting)
+    } else {
+        None
     };
-    let in_threads = asked.truth_at("threads") == Some(true);
-    let status = run(rt, alloc, &words, &mut opener, &mut host, in_threads, &gate);
+    let status = if asked.truth_at("threads") == Some(true) {
+        let mut spawner = RealThreads::new(rt);
+        run(
+            rt,
+            alloc,
+            &words,
+            &mut opener,
+            &mut host,
+            &mut spawner,
+            entered,
+        )?
+    } else {
+        let mut spawner = InPlace::new(rt);
+        run(
+            rt,
+            alloc,
+            &words,
+            &mut opener,
+            &mut host,
+            &mut spawner,
+            entered,
+        )?
+    };
     let missed = if meeting.was_missed() { ", missed" } else { "" };
     let mut told = format!(in alloc; "{status:?}{missed}")?;
     tell_outputs(alloc, &mut told, &host)?;
     Ok(Some(told))
 }
 
-/// Runs `listen` in real threads, or each worker as it is started.
-fn run<R: Threads + Wait + Copy + Send + Drop + 'static>(
+/// Runs the words, or serves the site that they name by accounts whose calls enter a meeting.
+fn run<R: Threads + Wait + Copy + Send + Drop + 'static, S: Spawner>(
     rt: R,
     alloc: Global,
     words: &[String],
     opener: &mut MemOpener,
     host: &mut MemHost<R>,
-    in_threads: bool,
-    gate: &Gate,
-) -> Status {
-    if in_threads {
-        let mut spawner = RealThreads::new(rt);
-        listen(alloc, rt, words, opener, host, &mut spawner, CLOCK, gate)
-    } else {
-        let mut spawner = InPlace::new(rt);
-        listen(alloc, rt, words, opener, host, &mut spawner, CLOCK, gate)
+    spawner: &mut S,
+    entered: Option<&Arc<Meeting>>,
+) -> Result<Status, AllocError> {
+    let mut clock = CLOCK;
+    match entered {
+        Some(meeting) => run_gated(rt, alloc, words, opener, host, spawner, meeting),
+        None => Ok(run_program(
+            alloc,
+            rt,
+            words,
+            opener,
+            &mut MemSource::new(Vec::new(alloc), usize::MAX, Vec::new(alloc)),
+            &mut MemSink::new(alloc, Vec::new(alloc)),
+            &mut clock,
+            host,
+            spawner,
+        )),
     }
+}
+
+/// Serves the site that words of `listen` name, by accounts whose calls enter a meeting.
+fn run_gated<R: Threads + Wait + Copy + Send + Drop + 'static, S: Spawner>(
+    rt: R,
+    alloc: Global,
+    words: &[String],
+    opener: &mut MemOpener,
+    host: &mut MemHost<R>,
+    spawner: &mut S,
+    meeting: &Arc<Meeting>,
+) -> Result<Status, AllocError> {
+    let Some(Command::Listen(asked)) = read_command(alloc, words)? else {
+        return Ok(Status::Usage);
+    };
+    let site = match load_site(alloc, opener, asked.config) {
+        Ok(site) => site,
+        Err(status) => return Ok(status),
+    };
+    let desks = gated_desks(alloc, rt, &site, meeting, asked.workers)?;
+    Ok(serve_site(alloc, &asked, site, desks, host, spawner, CLOCK))
+}
+
+/// A desk for each worker, over fresh accounts of a site whose calls enter a meeting.
+fn gated_desks<R: Wait + Copy + Drop>(
+    alloc: Global,
+    rt: R,
+    site: &Site,
+    meeting: &Arc<Meeting>,
+    workers: u32,
+) -> Result<Vec<SharedDesk<R, GatedLock>>, AllocError>
+    requires { (1 ≤ workers) × (workers ≤ 256) }
+    ensures workers { IfOk result (λ desks. length desks.items ≡ workers) }
+    ensures unused { IfOk result (λ desks. All (λ desk. IsUnused site.now (shown_by_passes desk)) desks.items) }
+{
+    open_desks(alloc, rt, gated_accounts(alloc, site, meeting)?, workers)
 }
 
 /// Tells what was written of the connections, those of worker 0 first.
@@ -84,7 +163,7 @@ fn tell_outputs<R: Wait + Copy + Send + Drop + 'static>(
     told: &mut String,
     host: &MemHost<R>,
 ) -> Result<(), AllocError> {
-    for worker in 0..MOST_WORKERS {
+    for worker in 0..MAX_WORKERS {
         for _ in 0..u64::MAX {
             match host.take_output(worker) {
                 Some(output) => tell_output(alloc, told, worker, &output)?,

@@ -1,11 +1,16 @@
 //! One worker over a listener in memory.
+ghost use Rattle.std.specs.Prelude.{IfOk};
+ghost use Rattle.account_desk.specs.SharedDesk.{shown_by_passes};
+ghost use Rattle.jmapd_listen.specs.Listens.{IsUnused};
 
 use crate::connections::{connections_of, failing, tell_output};
-use account_desk::gate::Gate;
+use account_core::account::Account;
 use account_desk::shared_desk::SharedDesk;
+use account_desk::sole_desk::fresh_accounts;
+use account_lock::locked::Locked;
 use io_edge::memory_clock::StillClock;
 use listen_edge::memory_listener::MemListener;
-use listen_workers::accounts::{Office, open_office};
+use listen_workers::desks::open_desks;
 use listen_workers::worker::worker;
 use row_table::files::bytes_of;
 use session_doc::Site;
@@ -32,12 +37,7 @@ pub fn told<R: Wait + Copy + Drop>(
     };
     let waiting = connections_of(alloc, asked.list_at("input").unwrap_or(&[]))?;
     let mut listener = MemListener::new(alloc, waiting, failing(alloc, asked)?)?;
-    let Office {
-        site,
-        accounts,
-        mut hands,
-    } = open_office(alloc, site, &Gate::Open, 1)?;
-    let mut desk = SharedDesk::new(rt, accounts, hands.remove(0));
+    let mut desk = one_desk(alloc, rt, &site)?;
     let mut clock = StillClock { moment: 0 };
     let connections = u64::try_from(connections.get()).unwrap_or(0);
     let done = worker(
@@ -55,4 +55,16 @@ pub fn told<R: Wait + Copy + Drop>(
         tell_output(alloc, &mut told, number, &back.output)?;
     }
     Ok(Some(told))
+}
+
+/// The desk of one worker, over fresh accounts of a site.
+fn one_desk<R: Wait + Copy + Drop>(
+    alloc: Global,
+    rt: R,
+    site: &Site,
+) -> Result<SharedDesk<R, Locked<Account>>, AllocError>
+    ensures { IfOk result (λ desk. IsUnused site.now (shown_by_passes desk)) }
+{
+    let mut desks = open_desks(alloc, rt, fresh_accounts(alloc, site)?, 1)?;
+    Ok(desks.remove(0))
 }

@@ -1,9 +1,9 @@
 //! The workers of `listen`: each serves one connection after the other, over any listener, desk and clock; how they are started and
-//! joined, and the accounts that they share.
+//! joined, and their desks, over accounts that they share.
 #![tactic(auto)]
 
-pub mod accounts;
 pub mod crew;
+pub mod desks;
 pub mod hands;
 pub mod laws;
 pub mod listeners;

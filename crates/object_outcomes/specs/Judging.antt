@@ -25,7 +25,7 @@ use Rattle.object_outcomes.specs.declared.setting.Judged.{Judged}
 use Rattle.object_outcomes.specs.declared.setting.Setting.{Setting}
 
 abbrev pub ground_in : Setting → operations.Ground
-ground_in s = record { base = record { account_id = s.account.now; zones = s.zones.now }; moment = s.moment }
+ground_in s = record { base = record { account_id = s.account.now; zones = s.zones.now; generation = s.generation }; moment = s.moment }
 
 abbrev pub operation_in : Operation → operations.Operation
 operation_in (Update id patch is_destroyed is_repeated) = update id.now (members_in (data_of patch.now)) is_destroyed is_repeated
@@ -40,10 +40,11 @@ abbrev pub IsBefore : List Change → Kind → ℕ → Option Tree → Type 0
 IsBefore cs kind n None = n ≡ next_number cs kind
 IsBefore cs kind n (Some t) = live_object cs kind n ≡ Some t
 
--- an accepted change may follow these; its object has a text of so many bytes, and it is of this series where it is an event
+-- an accepted change may follow these; its object has a text of so many bytes, and it is of this series where it is an event; nothing is put
+-- by what is refused
 abbrev pub MayFollow : List ZoneText → List Change → Outcome → ℕ → Option Series → Type 0
 MayFollow zones cs (Accepted c) size series = IsFit zones cs c × (size ≡ size_of_object c.object) × (series ≡ series_put zones c)
-MayFollow zones cs (Refused e) size series = Unit {0}
+MayFollow zones cs (Refused e) size series = (size ≡ 0) × (series ≡ None)
 
 abbrev pub IsAllowed : List ZoneText → List Change → Judged → Type 0
 IsAllowed zones cs j = MayFollow zones cs j.outcome j.size j.series

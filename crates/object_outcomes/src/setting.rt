@@ -16,6 +16,7 @@ pub struct Setting<'a> {
     pub kind: Kind,
     pub account: &'a Text,
     pub zones: &'a Zones,
+    pub generation: u64,
     pub moment: Moment,
 }
 

@@ -1,9 +1,10 @@
 -- Filters whose members are a list.
-use Rattle.std.proofs.Common.{◌≡◌, ◌∙◌, ℕ, ◌<◌, ◌≤◌, List, [], ◌∷◌, Bool, true, false, ◌||◌, Option, Some, None, if◌then◌else◌, refl, sym, ap, arith, map}
-use Rattle.std.specs.Prelude.{codes, option_and_then, option_map, unwrap_or}
+use Rattle.std.proofs.Common.{◌≡◌, ◌∙◌, ℕ, suc, ◌+◌, ◌<◌, ◌≤◌, List, [], ◌∷◌, Bool, true, false, ◌||◌, Option, Some, None, if◌then◌else◌, refl, sym, ap, arith, map}
+use Rattle.std.specs.Prelude.{MatchOption, codes, option_and_then, option_map, unwrap_or}
+use Rattle.std.specs.List.{sum}
 use Rattle.std.specs.Option.{option_map_or}
 use Rattle.std.specs.Str.{bytes_eq}
-use Rattle.spec_filters.specs.Filters.{FilterMeaning, Sought, holding, holds, is_found, meaning_of, operator_holds, said, said_at, said_items, said_list, some_true}
+use Rattle.spec_filters.specs.Filters.{FilterMeaning, Sought, count_parts, counting, holding, holds, is_found, meaning_of, operator_holds, said, said_at, said_items, said_list, some_true}
 use Rattle.spec_filters.specs.Members.{given_at}
 use Rattle.spec_json.specs.Data.{Data, null, truth, whole, text, list, object, Items, no_items, item, Pair, list_of, pairs_back, lookup, items_of, members_of, depth, items_depth, members_depth}
 use Rattle.spec_json.specs.Parts.{as_list, as_text}
@@ -42,7 +43,7 @@ conditions_fall ps ds h = conditions_fall_by ps (lookup (codes "conditions") ps)
 
 -- What is said of an object.
 
-module _ (m : FilterMeaning) where
+module _ {X : Type 0} (m : FilterMeaning X) where
   items_said : (is : Items) → said_items m is ≡ map (said m) (list_of is)
   items_said no_items = refl
   items_said (item d is) = ap (λ bs. said m d ∷ bs) (items_said is)
@@ -87,6 +88,23 @@ module _ (s : Sought) (ps : List Pair) where
 
   pub found_listed : (op : Data) (ds : List Data) → given_at (codes "operator") ps ≡ Some op → s.operator op ps ≡ false → conditions_in ps ≡ Some ds → some_true (map (is_found s) ds) ≡ is_found s (object (members_of ps))
   found_listed op ds h e k = sym (operator_said (meaning_of s) ps op (Some ds) h k ∙ ap (λ b. b || some_true (map (is_found s) ds)) e)
+
+-- How many operators and conditions there are.
+module _ (ps : List Pair) where
+  pub counted_condition : given_at (codes "operator") ps ≡ None → count_parts (object (members_of ps)) ≡ 1
+  counted_condition h = condition_said counting ps h
+
+  pub counted_unlisted : (op : Data) → given_at (codes "operator") ps ≡ Some op → conditions_in ps ≡ None → count_parts (object (members_of ps)) ≡ 1
+  counted_unlisted op h k = operator_said counting ps op None h k
+
+  pub counted_listed : (op : Data) (ds : List Data) → given_at (codes "operator") ps ≡ Some op → conditions_in ps ≡ Some ds → count_parts (object (members_of ps)) ≡ suc (sum (map count_parts ds))
+  counted_listed op ds h k = operator_said counting ps op (Some ds) h k
+
+-- what is left behind an operator is what is left behind its conditions, of one less
+pub left_behind_one : (o : Option ℕ) (left rest parts listed : ℕ) → rest + 1 ≡ left → parts ≡ suc listed → MatchOption o (rest < listed) (λ r. r + listed ≡ rest)
+    → MatchOption o (left < parts) (λ r. r + parts ≡ left)
+left_behind_one None left rest parts listed e f h = omega (arith, e, f, h)
+left_behind_one (Some r) left rest parts listed e f h = omega (arith, e, f, h)
 
 -- Where a filter holds.
 module _ (test : List Pair → Bool) (ps : List Pair) where

@@ -9,6 +9,7 @@ ghost use Rattle.query_filter.specs.ReadFilters.{IsRead};
 ghost use Rattle.query_filter.specs.declared.filter.FilterError.TheVariants.{NoMemory};
 
 use crate::members::given;
+use crate::parts::has_too_many_parts;
 use crate::sought::SoughtKind;
 use spec_json::tree::{Tree, TreeObject};
 use spec_time::wall::Wall;
@@ -21,7 +22,7 @@ use time_text::read_local;
 pub enum FilterError {
     /// It is no object, a known member has a value of a wrong kind, or an operator lacks its conditions, somewhere in it.
     Bad,
-    /// It isn't bad, and has an unknown member or operator.
+    /// It isn't bad, and has an unknown member or operator, or more operators and conditions than it may have.
     Unsupported,
     /// There was no memory.
     NoMemory,
@@ -61,7 +62,7 @@ impl Filter {
         if SoughtKind::Fault.is_found(tree) {
             return Err(FilterError::Bad);
         }
-        if SoughtKind::Unknown.is_found(tree) {
+        if SoughtKind::Unknown.is_found(tree) || has_too_many_parts(tree) {
             return Err(FilterError::Unsupported);
         }
         Ok(Filter { tree: tree.copy()? })

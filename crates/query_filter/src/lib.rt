@@ -10,6 +10,7 @@ mod filter;
 mod lengths;
 mod members;
 mod needles;
+mod parts;
 mod sought;
 mod texts;
 mod times;

@@ -5,7 +5,7 @@ use Rattle.std.proofs.lemmas.List.Elements.{filter-append}
 use Rattle.std.proofs.lemmas.List.Sums.{length-filter}
 use Rattle.account_store.proofs.EarlierLemmas.{ids_of_kind}
 use Rattle.account_store.specs.Earlier.{changes_up_to, live_ids}
-use Rattle.spec_history.specs.History.{changes_of, ids_at, is_kind, live_object, state_at}
+use Rattle.spec_history.specs.History.{changes_of, ids_at, is_kind, live_object, count_of_kind}
 use Rattle.spec_history.specs.Pages.{is_in}
 use Rattle.spec_history.specs.declared.entry.Change.{Change}
 use Rattle.spec_history.specs.declared.entry.Entry.{Entry}
@@ -43,11 +43,11 @@ matches_of_live see cs = some_given (λ id. match_of see id (live_object cs Even
 
 -- ---- the state that a history has come to
 
-pub state_counts : (cs : List Change) → state_at cs Event ≡ length (of_events cs)
+pub state_counts : (cs : List Change) → count_of_kind cs Event ≡ length (of_events cs)
 state_counts cs = sym (length-filter (λ c. is_kind Event c.kind) cs)
 
 -- the result at that state is that of the history
-pub result_now : (see : Tree → Option Item) (order : List Comparator) (es : List Entry) (k : ℕ) → k ≡ state_at (changes_of es) Event
+pub result_now : (see : Tree → Option Item) (order : List Comparator) (es : List Entry) (k : ℕ) → k ≡ count_of_kind (changes_of es) Event
     → result_among see order (changes_up_to es Event k) (ids_at (changes_of es) Event) ≡ result_of see order (changes_of es)
 result_now see order es k is =
     let all = of_events (changes_of es) in

@@ -1,7 +1,8 @@
 //! What changed of a query's result since a state.
 ghost use Rattle.std.specs.Prelude.{◌≡◌, ◌≤◌, IfErr, IfOk, OnOk, None, map, option_map, true, unsigned_abs};
 ghost use Rattle.account_store.specs.Store.{entries};
-ghost use Rattle.spec_history.specs.History.{changes_of, state_at};
+ghost use Rattle.event_store.specs.EventsBase.{base_of};
+ghost use Rattle.spec_history.specs.History.{changes_of, count_of_kind};
 ghost use Rattle.spec_history.specs.Pages.{is_within};
 ghost use Rattle.spec_history.specs.declared.entry.Kind.TheVariants.{Event};
 ghost use Rattle.spec_json.specs.TreeData.{data_of};
@@ -12,53 +13,44 @@ ghost use Rattle.query_methods.specs.Reports.{Reports};
 ghost use Rattle.query_methods.specs.Sights.{seen_by};
 
 use crate::error::QueryError;
+use crate::event_state::event_state;
 use crate::ids::{id_list, number_tree};
 use crate::result::{current_result, touched_result};
 use crate::sight::Sight;
 use crate::touched::touched_since;
-use account_store::Store;
 use event_store::StoredEvents;
 use query_order::change::changes_of;
 use query_order::order::Order;
 use spec_calls::call::{MethodError, QueryChangesArguments};
 use spec_history::entry::Kind;
 use spec_json::num::Num;
-use spec_json::text::Text;
 use spec_json::tree::{Tree, TreeList};
 use spec_queries::delta::{Delta, Place};
 use std::alloc::{AllocError, Global};
 use time_text::{object_id_text, state_text};
 
-/// The arguments of the reply that tells what changed of a result since a state. `Method` tells that it is more than the client takes.
+/// The arguments of the reply that tells what changed of a result since the state of this number. `Method` tells that it is more than the client takes.
 pub(crate) fn changed(
     alloc: Global,
     events: &StoredEvents<'_>,
-    account: &Text,
     sight: &Sight<'_>,
     order: &Order,
     arguments: &QueryChangesArguments,
-    state: u64,
+    since: u64,
 ) -> Result<Tree, QueryError>
     requires zones { sight.now.zones.now ≡ events.now.zones.now }
-    requires reached { state ≤ state_at (changes_of (entries events.now.store.now)) Event }
+    requires reached { since ≤ count_of_kind (changes_of (entries events.now.store.now)) Event }
     requires maximum { is_maximum arguments.now.max ≡ true }
-    ensures response { IfOk result (λ t. t ≡ changed_response (seen_by sight.now) order.now (changes_of (entries events.now.store.now)) account.now arguments.now state) }
-    ensures few { OnOk result (size_refusal (seen_by sight.now) order.now (changes_of (entries events.now.store.now)) arguments.now state ≡ None) }
-    ensures refused { IfErr result (λ e. Reports e (size_refusal (seen_by sight.now) order.now (changes_of (entries events.now.store.now)) arguments.now state)) }
+    ensures response { IfOk result (λ t. t ≡ changed_response (seen_by sight.now) order.now (changes_of (entries events.now.store.now)) (base_of events.now) arguments.now since) }
+    ensures few { OnOk result (size_refusal (seen_by sight.now) order.now (changes_of (entries events.now.store.now)) arguments.now since ≡ None) }
+    ensures refused { IfErr result (λ e. Reports e (size_refusal (seen_by sight.now) order.now (changes_of (entries events.now.store.now)) arguments.now since)) }
 {
     let now = current_result(alloc, events, sight, order)?;
-    let delta = delta_since(alloc, events, sight, order, state, &now)?;
+    let delta = delta_since(alloc, events, sight, order, since, &now)?;
     if !is_within(arguments.max, &delta) {
         return Err(QueryError::Method(MethodError::TooManyChanges));
     }
-    Ok(delta_tree(
-        alloc,
-        events.store,
-        account,
-        arguments,
-        now.len() as u64,
-        &delta,
-    )?)
+    Ok(delta_tree(alloc, events, arguments, now.len() as u64, &delta)?)
 }
 
 // Of the earlier result only those events are looked at that were touched since.
@@ -67,21 +59,21 @@ fn delta_since(
     events: &StoredEvents<'_>,
     sight: &Sight<'_>,
     order: &Order,
-    state: u64,
+    since: u64,
     now: &[u64],
 ) -> Result<Delta, AllocError>
     requires zones { sight.now.zones.now ≡ events.now.zones.now }
-    requires reached { state ≤ state_at (changes_of (entries events.now.store.now)) Event }
+    requires reached { since ≤ count_of_kind (changes_of (entries events.now.store.now)) Event }
     requires result { now.now ≡ result_of (seen_by sight.now) order.now (changes_of (entries events.now.store.now)) }
-    ensures { IfOk result (λ delta. delta ≡ delta_since (seen_by sight.now) order.now (changes_of (entries events.now.store.now)) state) }
+    ensures { IfOk result (λ delta. delta ≡ delta_since (seen_by sight.now) order.now (changes_of (entries events.now.store.now)) since) }
 {
     let touched = touched_since(
         alloc,
         events.store.entries(),
         events.store.count(Kind::Event),
-        state,
+        since,
     )?;
-    let before = touched_result(alloc, events, sight, order, state, &touched)?;
+    let before = touched_result(alloc, events, sight, order, since, &touched)?;
     changes_of(alloc, &before, now, &touched)
 }
 
@@ -124,19 +116,18 @@ fn added_items(alloc: Global, places: &[Place]) -> Result<Vec<Tree>, AllocError>
 
 fn delta_tree(
     alloc: Global,
-    store: &Store,
-    account: &Text,
+    events: &StoredEvents<'_>,
     arguments: &QueryChangesArguments,
     total: u64,
     delta: &Delta,
 ) -> Result<Tree, AllocError>
-    ensures { IfOk result (λ t. t ≡ delta_response account.now (changes_of (entries store.now)) arguments.now total delta.now) }
+    ensures { IfOk result (λ t. t ≡ delta_response (base_of events.now) (changes_of (entries events.now.store.now)) arguments.now total delta.now) }
 {
     let added = Tree::List(TreeList::new(added_items(alloc, delta.added.items())?));
     let removed = id_list(alloc, Kind::Event, delta.removed.items())?;
-    let state = Tree::Text(state_text(alloc, store.count(Kind::Event))?);
+    let state = Tree::Text(state_text(alloc, event_state(events))?);
     let mut members = vec![in alloc;
-        ("accountId", Tree::Text(account.copy()?)),
+        ("accountId", Tree::Text(events.account.copy()?)),
         ("added", added),
         ("newQueryState", state),
         ("oldQueryState", Tree::Text(arguments.since.copy()?)),

@@ -2,6 +2,7 @@
 ghost use Rattle.std.specs.Prelude.{◌≡◌, ◌==◌, IfErr, IfOk, OnOk, None, option_and_then, true};
 ghost use Rattle.std.specs.List.{position};
 ghost use Rattle.account_store.specs.Store.{entries};
+ghost use Rattle.event_store.specs.EventsBase.{base_of};
 ghost use Rattle.spec_history.specs.History.{changes_of};
 ghost use Rattle.spec_history.specs.ObjectId.{object_number};
 ghost use Rattle.spec_history.specs.declared.entry.Kind.TheVariants.{Event};
@@ -13,10 +14,10 @@ ghost use Rattle.query_methods.specs.Reports.{Reports};
 ghost use Rattle.query_methods.specs.Sights.{seen_by};
 
 use crate::error::QueryError;
+use crate::event_state::event_state;
 use crate::ids::{id_list, number_tree};
 use crate::result::current_result;
 use crate::sight::Sight;
-use account_store::Store;
 use event_store::StoredEvents;
 use query_order::order::Order;
 use query_order::window::window;
@@ -34,14 +35,13 @@ use time_text::{read_object_id, state_text};
 pub(crate) fn found(
     alloc: Global,
     events: &StoredEvents<'_>,
-    account: &Text,
     sight: &Sight<'_>,
     order: &Order,
     paging: &Paging,
 ) -> Result<Tree, QueryError>
     requires paging { is_paging paging.now ≡ true }
     requires zones { sight.now.zones.now ≡ events.now.zones.now }
-    ensures response { IfOk result (λ t. t ≡ found_response (seen_by sight.now) order.now (changes_of (entries events.now.store.now)) paging.now account.now) }
+    ensures response { IfOk result (λ t. t ≡ found_response (seen_by sight.now) order.now (changes_of (entries events.now.store.now)) paging.now (base_of events.now)) }
     ensures found { OnOk result (anchor_refusal (seen_by sight.now) order.now (changes_of (entries events.now.store.now)) paging.now ≡ None) }
     ensures refused { IfErr result (λ e. Reports e (anchor_refusal (seen_by sight.now) order.now (changes_of (entries events.now.store.now)) paging.now)) }
 {
@@ -49,7 +49,7 @@ pub(crate) fn found(
     let Some(cut) = cut_asked(paging, ids.len() as u64, anchor_in(&ids, &paging.anchor)) else {
         return Err(QueryError::Method(MethodError::AnchorNotFound));
     };
-    Ok(numbers_window(alloc, events.store, account, paging, &ids, cut)?)
+    Ok(numbers_window(alloc, events, paging, &ids, cut)?)
 }
 
 /// The window of a result of so many ids that a query asks for, or `None` where its anchor isn't in the result. Takes no memory.
@@ -104,20 +104,19 @@ pub fn cut_out<T>(cut: Cut, ids: &[T]) -> &[T]
 // The reply that tells a window of the numbers of events.
 fn numbers_window(
     alloc: Global,
-    store: &Store,
-    account: &Text,
+    events: &StoredEvents<'_>,
     paging: &Paging,
     ids: &[u64],
     cut: Cut,
 ) -> Result<Tree, AllocError>
-    ensures { IfOk result (λ t. t ≡ numbers_window account.now (changes_of (entries store.now)) paging.now ids.now cut) }
+    ensures { IfOk result (λ t. t ≡ numbers_window (base_of events.now) (changes_of (entries events.now.store.now)) paging.now ids.now cut) }
 {
     let part = Part {
         ids: id_list(alloc, Kind::Event, cut_out(cut, ids))?,
         total: ids.len() as u64,
         cut,
     };
-    window_tree(alloc, store, account, paging, false, part)
+    window_tree(alloc, events, paging, false, part)
 }
 
 /// The part of a result that a query asks for.
@@ -135,16 +134,15 @@ pub struct Part {
 /// result isn't told.
 pub fn window_tree(
     alloc: Global,
-    store: &Store,
-    account: &Text,
+    events: &StoredEvents<'_>,
     paging: &Paging,
     expand: bool,
     part: Part,
 ) -> Result<Tree, AllocError>
-    ensures { IfOk result (λ t. t ≡ window_response account.now (changes_of (entries store.now)) paging.now expand (data_of part.ids) part.total part.cut) }
+    ensures { IfOk result (λ t. t ≡ window_response (base_of events.now) (changes_of (entries events.now.store.now)) paging.now expand (data_of part.ids) part.total part.cut) }
 {
     let mut members = vec![in alloc;
-        ("accountId", Tree::Text(account.copy()?)),
+        ("accountId", Tree::Text(events.account.copy()?)),
         ("canCalculateChanges", Tree::Truth(!expand)),
         ("ids", part.ids),
     ]?;
@@ -152,8 +150,8 @@ pub fn window_tree(
         members.push(("limit", number_tree(MAX_IDS_IN_QUERY as u64)))?;
     }
     members.push(("position", number_tree(part.cut.from)))?;
-    let state = state_text(alloc, store.count(Kind::Event))?;
-    members.push(("queryState", Tree::Text(state)))?;
+    let state = event_state(events);
+    members.push(("queryState", Tree::Text(state_text(alloc, state)?)))?;
     if paging.calculate_total {
         members.push(("total", number_tree(part.total)))?;
     }

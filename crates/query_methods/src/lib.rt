@@ -4,6 +4,7 @@
 mod changed;
 pub mod criteria;
 pub mod error;
+mod event_state;
 pub mod found;
 pub mod ids;
 pub mod item;

@@ -37,11 +37,36 @@ fn stdio_names_a_configuration(rt: HostRuntime) -> Result<(), Fail> {
 }
 
 #[test]
+fn listen_names_a_configuration_and_a_port(rt: HostRuntime) -> Result<(), Fail> {
+    for (line, wanted) in [
+        ("listen --config c --port 80", ("c", 80, 4, 1_000_000)),
+        ("listen --port=65535 --config=c", ("c", 65535, 4, 1_000_000)),
+        (
+            "listen --config c --port 1 --workers 16 --connections 9",
+            ("c", 1, 16, 9),
+        ),
+    ] {
+        let words = words_of(rt.alloc(), line)?;
+        match read_command(rt.alloc(), &words)? {
+            Some(Command::Listen(asked)) => assert_eq!(rt;
+                (asked.config, asked.port, asked.workers, asked.connections),
+                wanted
+            ),
+            _ => assert!(rt; false, "at {line}"),
+        }
+    }
+    Ok(())
+}
+
+#[test]
 fn other_words_ask_for_nothing(rt: HostRuntime) -> Result<(), Fail> {
     assert!(rt; read_command(rt.alloc(), &[])?.is_none());
     for line in [
         "",
         "listen",
+        "listen --config c",
+        "listen --config c --port 0",
+        "listen --config c --port 80 --workers 17",
         "Batch",
         "jmapd batch",
         "batch more",

@@ -5,7 +5,7 @@ pub use Rattle.civil_days.proofs.Orders.{int_le_is, is_int_le}
 pub use Rattle.rule_expand.proofs.DueDays.{due_day, day_due}
 pub use Rattle.rule_expand.proofs.CountedDays.{counted_start, counted_later, counted_cases, in_cases, in_by, by_last_cases, by_last_start, by_last_later}
 pub use Rattle.rule_expand.proofs.LastDays.{set_is}
-use Rattle.std.proofs.Common.{◌≡◌, ℕ, zero, suc, ◌+◌, ◌-◌, ◌*◌, ◌<◌, ◌≤◌, inl, inr, Bool, true, false, refl, sym, ◌∙◌, arith, ℤ, pos, ◌+ℤ◌, ◌-ℤ◌, ◌*ℤ◌, ◌<ℤ◌, ◌≤ℤ◌, int_le, nat_le}
+use Rattle.std.proofs.Common.{◌≡◌, ℕ, zero, suc, ◌+◌, ◌-◌, ◌≤◌, inl, inr, Bool, true, false, refl, sym, ◌∙◌, arith, ℤ, pos, ◌+ℤ◌, ◌-ℤ◌, ◌*ℤ◌, ◌<ℤ◌, ◌≤ℤ◌, int_le, nat_le}
 use Rattle.std.proofs.lemmas.Bool.Decides.{nat_tests}
 use Rattle.jiff_core.proofs.SignedLemmas.{signed_arith}
 use Rattle.spec_series.specs.Places.{count_from}

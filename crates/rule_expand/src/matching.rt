@@ -16,7 +16,7 @@ pub(crate) fn matches(rule: &Rule, at: Dated) -> bool
     requires { IsNear 2199023260000 at.day }
     ensures { result ≡ day_matches rule.now at.day }
 {
-    if !in_months(rule.by_month.items(), at.month) {
+    if !in_months(&rule.by_month, at.month) {
         return false;
     }
     if !is_month_day(rule, at) {
@@ -30,11 +30,7 @@ fn is_month_day(rule: &Rule, at: Dated) -> bool
     ensures { result ≡ empty_or_any (month_day_matches at.day) rule.now.by_month_day }
 {
     let around = around_in_month(at);
-    in_month_days(
-        rule.by_month_day.items(),
-        around.before + 1,
-        around.after + 1,
-    )
+    in_month_days(&rule.by_month_day, around.before + 1, around.after + 1)
 }
 
 // Whether `byDay` matches the day.
@@ -47,7 +43,7 @@ fn is_weekday(rule: &Rule, at: Dated) -> bool
     }
     let scope = scope_of(rule, at);
     in_weekdays(
-        rule.by_day.items(),
+        &rule.by_day,
         at.weekday,
         scope.before / 7 + 1,
         scope.after / 7 + 1,
@@ -95,7 +91,7 @@ fn step(rule: &Rule, at: Dated) -> Dated
     ensures near { result.day ≤ℤ (at.day +ℤ pos 31) }
     ensures none { (n : ℤ) → at.day ≤ℤ n → n <ℤ result.day → day_matches rule.now n ≡ false }
 {
-    if in_months(rule.by_month.items(), at.month) {
+    if in_months(&rule.by_month, at.month) {
         next(at)
     } else {
         next_month(at)

@@ -210,7 +210,7 @@ fn has_kept_place(rule: &Rule, place: u32, total: u32, late: bool) -> bool
     requires total { total ≤ 367 }
     ensures { result ≡ (late && empty_or_any (is_place place (total + 1 - place)) rule.now.by_set) }
 {
-    late && in_month_days(rule.by_set.items(), place, total + 1 - place)
+    late && in_month_days(&rule.by_set, place, total + 1 - place)
 }
 
 // The place of the first day after another that is kept, of the days of a period.

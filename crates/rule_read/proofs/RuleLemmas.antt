@@ -1,7 +1,11 @@
 -- Rules, one after another.
 use Rattle.std.proofs.Common.{◌≡◌, ◌&&◌, ℤ, pos, Bool, true, false, nat_le, nat_lt, int_le, arith, if◌then◌else◌, List, [], ◌∷◌, ◌++◌, Option, Some, None, map, option_map, refl, sym, ap, ◌∙◌, append_assoc}
 use Rattle.spec_series.specs.declared.rule.Rule.{Rule}
-use Rattle.std.proofs.Common.{◌<◌, ◌+ℤ◌}
+use Rattle.spec_json.specs.Data.{Data}
+use Rattle.spec_json.specs.Parts.{all_some}
+use Rattle.spec_json.specs.TreeData.{data_of}
+use Rattle.spec_json.specs.declared.tree.Tree.{Tree}
+use Rattle.std.proofs.Common.{◌<◌, ◌+◌, ◌+ℤ◌, ℕ, suc, add-one, drop, drop-cons, get_or, length, option_and_then}
 use Rattle.std.specs.List.{list_all}
 use Rattle.std.proofs.lemmas.Bool.{and_from, and_parts}
 use Rattle.std.proofs.lemmas.Bool.Decides.{nat_tests}
@@ -20,10 +24,23 @@ map_push : (done : List Rule) (r : Rule) → map parts_of (done ++ r ∷ []) ≡
 map_push [] r = refl
 map_push (d ∷ ds) r = ap (λ xs. parts_of d ∷ xs) (map_push ds r)
 
-pub push_parts : (done : List Rule) (r : Rule) (rest : Option (List RuleParts))
+push_parts : (done : List Rule) (r : Rule) (rest : Option (List RuleParts))
     → option_map (λ xs. map parts_of done ++ xs) (option_map (λ xs. parts_of r ∷ xs) rest) ≡ option_map (λ xs. map parts_of (done ++ r ∷ []) ++ xs) rest
 push_parts done r None = refl
 push_parts done r (Some xs) = ap Some (sym (append_assoc (map parts_of done) (parts_of r ∷ []) xs) ∙ ap (λ ys. ys ++ xs) (sym (map_push done r)))
+
+-- one item more of a list of rules is a rule
+pub next_rule : (f : Data → Option RuleParts) (items : List Tree) (i : ℕ) (item : Tree) (done more : List Rule) (r : Rule) → i < length items → item ≡ get_or items i item → f (data_of item) ≡ Some (parts_of r) → more ≡ done ++ r ∷ []
+    → all_some f (map data_of items) ≡ option_map (λ xs. map parts_of done ++ xs) (all_some f (map data_of (drop i items)))
+    → all_some f (map data_of items) ≡ option_map (λ xs. map parts_of more ++ xs) (all_some f (map data_of (drop (i + 1) items)))
+next_rule f items i item done more r low here is_rule pushed so_far =
+    let rest = all_some f (map data_of (drop (i + 1) items)) in
+    let cut : drop i items ≡ item ∷ drop (i + 1) items = drop-cons items i item low ∙ rw add-one (ap (λ x. x ∷ drop (suc i) items) (sym here)) in
+    so_far
+    ∙ ap (λ ts. option_map (λ xs. map parts_of done ++ xs) (all_some f (map data_of ts))) cut
+    ∙ ap (λ o. option_map (λ xs. map parts_of done ++ xs) (option_and_then (λ y. option_map (λ ys. y ∷ ys) rest) o)) is_rule
+    ∙ push_parts done r rest
+    ∙ ap (λ rs. option_map (λ xs. map parts_of rs ++ xs) rest) (sym pushed)
 
 weekday_small : (n : ℤ) → nat_lt (weekday_of n) 7 ≡ true
 unfolding weekday_of

@@ -81,7 +81,7 @@ fn one_day(alloc: Global, weekday: u8) -> Result<NDays, AllocError>
         day: weekday,
         nth: None,
     })?;
-    Ok(NDays::new(days))
+    NDays::new(days)
 }
 
 /// The days of the month, with the start's where a monthly or yearly rule has none, and none of the week.
@@ -110,7 +110,7 @@ fn one(alloc: Global, number: u8) -> Result<Small, AllocError>
 {
     let mut numbers = Vec::new(alloc);
     numbers.push(i32::from(number))?;
-    Ok(Small::new(numbers))
+    Small::new(numbers)
 }
 
 /// The months, with the start's where a yearly rule has none, and has days of the month or none of the week.

@@ -29,7 +29,7 @@ pub(crate) fn ndays(
     ensures { IfOk result (λ o. o ≡ each_in (nday_in frequency) (option_map (λ t. data_of t.now) value.entry)) }
 {
     let Some(value) = value else {
-        return Ok(Some(NDays::new(Vec::new(alloc))));
+        return Ok(Some(NDays::new(Vec::new(alloc))?));
     };
     match items_of(value) {
         Some(items) => each_nday(alloc, frequency, items),
@@ -48,7 +48,7 @@ fn each_nday(alloc: Global, frequency: Freq, items: &[Tree]) -> Result<Option<ND
             None => return Ok(None),
         }
     }
-    Ok(Some(NDays::new(days)))
+    Ok(Some(NDays::new(days)?))
 }
 
 /// The places that a list gives, where each item is one; none, where there is no list.
@@ -61,7 +61,7 @@ pub(crate) fn places(
     ensures { IfOk result (λ o. o ≡ each_in (place_in most) (option_map (λ t. data_of t.now) value.entry)) }
 {
     let Some(value) = value else {
-        return Ok(Some(Small::new(Vec::new(alloc))));
+        return Ok(Some(Small::new(Vec::new(alloc))?));
     };
     match items_of(value) {
         Some(items) => each_place(alloc, most, items),
@@ -81,7 +81,7 @@ fn each_place(alloc: Global, most: u32, items: &[Tree]) -> Result<Option<Small>,
             None => return Ok(None),
         }
     }
-    Ok(Some(Small::new(places)))
+    Ok(Some(Small::new(places)?))
 }
 
 /// The months that a list names, where each item names one; none, where there is no list.
@@ -89,7 +89,7 @@ pub(crate) fn months(alloc: Global, value: Option<&Tree>) -> Result<Option<Small
     ensures { IfOk result (λ o. o ≡ each_in month_in (option_map (λ t. data_of t.now) value.entry)) }
 {
     let Some(value) = value else {
-        return Ok(Some(Small::new(Vec::new(alloc))));
+        return Ok(Some(Small::new(Vec::new(alloc))?));
     };
     match items_of(value) {
         Some(items) => each_month(alloc, items),
@@ -108,5 +108,5 @@ fn each_month(alloc: Global, items: &[Tree]) -> Result<Option<Small>, AllocError
             None => return Ok(None),
         }
     }
-    Ok(Some(Small::new(months)))
+    Ok(Some(Small::new(months)?))
 }

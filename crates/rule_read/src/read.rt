@@ -71,7 +71,6 @@ fn few_rules(alloc: Global, items: &[Tree], day: i64) -> Result<Option<Rules>, A
     }
 }
 
-#[tactic(auto, using(crate::proofs::RuleLemmas::push_parts))]
 fn each_rule(alloc: Global, items: &[Tree], day: i64) -> Result<Option<Rules>, AllocError>
     requires { unsigned_abs day < 2 ^ 42 }
     ensures value { IfOk result (λ o. option_map (λ rules. map parts_of rules) o ≡ all_some (rule_in day) (map data_of items.now)) }

@@ -105,7 +105,7 @@ fn told_busy(alloc: Global, asked: &Tree, events: &[Tree]) -> Result<Option<Stri
         };
         busy.add(alloc, &event.series, &event.rule)?;
     }
-    told_periods(alloc, busy.periods())
+    told_periods(alloc, &busy.into_periods(alloc)?)
 }
 
 fn told_periods(alloc: Global, periods: &[Period]) -> Result<Option<String>, AllocError> {

@@ -8,6 +8,7 @@ ghost use Rattle.session_doc.specs.Reports.{Reports};
 use crate::accounts::read_accounts;
 use crate::base_url::read_base_url;
 use crate::configuration_error::{ConfigurationError, bad};
+use crate::generation::read_generation;
 use crate::site::Site;
 use crate::users::read_users;
 use crate::zones::read_zones;
@@ -56,5 +57,6 @@ fn read_fields(alloc: Global, tree: &Tree) -> Result<Site, ConfigurationError>
     let accounts = read_accounts(alloc, tree)?;
     let users = read_users(alloc, &accounts, tree)?;
     let zones = Arc::new(alloc, read_zones(alloc, tree)?)?;
-    Ok(Site::new(base_url, accounts, users, zones))
+    let generation = read_generation(tree)?;
+    Ok(Site::new(base_url, accounts, users, zones, generation))
 }

@@ -8,6 +8,7 @@ mod built_in;
 mod capabilities;
 mod configuration;
 mod configuration_error;
+mod generation;
 mod grants;
 mod optional_list;
 mod session;

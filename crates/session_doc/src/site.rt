@@ -13,14 +13,15 @@ use std::marker::Model;
 use std::sync::Arc;
 use zone_table::Zones;
 
-/// What a configuration tells of: the base of the server's addresses, the accounts, the users who may use them, and the
-/// time zones.
+/// What a configuration tells of: the base of the server's addresses, the accounts, the users who may use them, the time zones, and
+/// which copy of the data the accounts go on from.
 #[derive(Drop)]
 pub struct Site {
     base_url: Text,
     accounts: Vec<Account>,
     users: Vec<SiteUser>,
     zones: Arc<Zones>,
+    generation: u64,
 }
 
 impl Model for Site {
@@ -31,9 +32,9 @@ impl Model for Site {
 
     ghost Value = { Described };
 
-    ghost view = { λ a. record { base_url = a.base_url; accounts = a.accounts.items; users = a.users.items; zones = arc_value a.zones } };
+    ghost view = { λ a. record { base_url = a.base_url; accounts = a.accounts.items; users = a.users.items; zones = arc_value a.zones; generation = a.generation } };
 
-    ghost invariant = { λ a. (length a.accounts.items ≤ MAX_ACCOUNTS) × (0 < length a.users.items) × (length a.users.items ≤ MAX_USERS) × HasItsAccounts (record { base_url = a.base_url; accounts = a.accounts.items; users = a.users.items; zones = arc_value a.zones }) };
+    ghost invariant = { λ a. (length a.accounts.items ≤ MAX_ACCOUNTS) × (0 < length a.users.items) × (length a.users.items ≤ MAX_USERS) × HasItsAccounts (record { base_url = a.base_url; accounts = a.accounts.items; users = a.users.items; zones = arc_value a.zones; generation = a.generation }) };
 }
 
 impl Site {
@@ -43,18 +44,20 @@ impl Site {
         accounts: Vec<Account>,
         users: Vec<SiteUser>,
         zones: Arc<Zones>,
+        generation: u64,
     ) -> Site
         requires few_accounts { length accounts.items ≤ MAX_ACCOUNTS }
         requires some_users { 0 < length users.items }
         requires few_users { length users.items ≤ MAX_USERS }
-        requires granted { HasItsAccounts (record { base_url = base_url; accounts = accounts.items; users = users.items; zones = arc_value zones }) }
-        ensures { result ≡ record { base_url = base_url; accounts = accounts.items; users = users.items; zones = arc_value zones } }
+        requires granted { HasItsAccounts (record { base_url = base_url; accounts = accounts.items; users = users.items; zones = arc_value zones; generation = generation }) }
+        ensures { result ≡ record { base_url = base_url; accounts = accounts.items; users = users.items; zones = arc_value zones; generation = generation } }
     {
         Site {
             base_url,
             accounts,
             users,
             zones,
+            generation,
         }
     }
 
@@ -124,6 +127,13 @@ impl Site {
         ensures { arc_value result.now ≡ self.now.zones }
     {
         &self.zones
+    }
+
+    /// Which copy of the data the accounts go on from. Takes no memory.
+    pub fn generation(&self) -> u64
+        ensures { result ≡ self.now.generation }
+    {
+        self.generation
     }
 
     /// What the server's addresses begin with. Takes no memory.

@@ -1,8 +1,9 @@
 -- The arguments of a response are those of the set that it tells of.
-use Rattle.std.proofs.Common.{◌≡◌, ◌∷◌, ℕ, List, [], codes, decimal, map, refl}
+use Rattle.std.proofs.Common.{◌≡◌, ◌∷◌, ℕ, List, [], codes, map, refl}
 use Rattle.cal_model.specs.Operations.{Ground}
 use Rattle.cal_model.specs.SetReply.{created_member, destroyed_item, list_or_null, object_or_null, refused_member, set_arguments, updated_member}
 use Rattle.cal_model.specs.Sets.{Objects, of_each}
+use Rattle.spec_history.specs.States.{state_text}
 use Rattle.spec_history.specs.declared.entry.Change.{Change}
 use Rattle.spec_history.specs.declared.entry.Kind.{Kind}
 use Rattle.spec_json.specs.Data.{Data, Pair, text}
@@ -23,11 +24,11 @@ pub told_is : (t : Told) (g : Ground) (kind : Kind) (made : List (List ℕ × Li
     → id ≡ text t.account.now
     → created ≡ object_or_null (of_each created_member (map pair_of t.creates.now) t.create_outcomes.now)
     → destroyed ≡ list_or_null (of_each destroyed_item t.destroys.now t.destroy_outcomes.now)
-    → new_state ≡ text (decimal t.new_state)
+    → new_state ≡ text (state_text t.new_state)
     → not_created ≡ object_or_null (of_each refused_member (map pair_of t.creates.now) t.create_outcomes.now)
     → not_destroyed ≡ object_or_null (of_each refused_member t.destroys.now t.destroy_outcomes.now)
     → not_updated ≡ object_or_null (of_each refused_member (map pair_of t.updates.now) t.update_outcomes.now)
-    → old_state ≡ text (decimal t.old_state)
+    → old_state ≡ text (state_text t.old_state)
     → updated ≡ object_or_null (of_each updated_member (map pair_of t.updates.now) t.update_outcomes.now)
     → Tells t g kind made cs s → tree ≡ set_arguments g kind made cs s
 told_is t g kind made cs s tree id created destroyed new_state not_created not_destroyed not_updated old_state updated is is_id is_created is_destroyed is_new is_not_created is_not_destroyed is_not_updated is_old is_updated h =

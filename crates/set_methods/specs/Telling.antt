@@ -2,7 +2,7 @@
 use Rattle.std.specs.Prelude.{◌≡◌, ◌++◌, ℕ, List, map}
 use Rattle.cal_model.specs.Operations.{Ground}
 use Rattle.cal_model.specs.Sets.{Objects, all_ids, create_outcomes, destroy_outcomes, ids_to_destroy, set_changes, update_outcomes}
-use Rattle.spec_history.specs.History.{state_at}
+use Rattle.spec_history.specs.States.{state_of}
 use Rattle.spec_history.specs.declared.entry.Change.{Change}
 use Rattle.spec_history.specs.declared.entry.Kind.{Kind}
 use Rattle.spec_json.specs.TreeData.{pair_of}
@@ -11,8 +11,8 @@ use Rattle.set_methods.specs.declared.told.Told.{Told}
 
 pub record Tells (t : Told) (g : Ground) (kind : Kind) (created : List (List ℕ × List ℕ)) (cs : List Change) (s : Objects) : Type 0 where
   pub account : t.account.now ≡ g.base.account_id
-  pub old_state : t.old_state ≡ state_at cs kind
-  pub new_state : t.new_state ≡ state_at (cs ++ set_changes g kind created cs s) kind
+  pub old_state : t.old_state ≡ state_of g.base.generation kind cs
+  pub new_state : t.new_state ≡ state_of g.base.generation kind (cs ++ set_changes g kind created cs s)
   pub creates : map pair_of t.creates.now ≡ s.creates
   pub create_outcomes : t.create_outcomes.now ≡ create_outcomes g kind created cs s
   pub updates : map pair_of t.updates.now ≡ s.updates

@@ -3,7 +3,7 @@ ghost use Rattle.std.specs.Prelude.{◌≡◌, ◌++◌, IfOk, List, OnOk, flat_
 ghost use Rattle.cal_model.specs.SetReply.{set_arguments};
 ghost use Rattle.cal_model.specs.Operations.{changes_in};
 ghost use Rattle.cal_model.specs.Sets.{new_ids, objects_of, set_changes};
-ghost use Rattle.spec_history.specs.History.{state_at};
+ghost use Rattle.spec_history.specs.States.{state_of};
 ghost use Rattle.spec_history.specs.declared.entry.Change.{Change as AnyChange};
 ghost use Rattle.object_outcomes.specs.Judging.{ground_in};
 ghost use Rattle.set_methods.specs.Telling.{IsCreated};
@@ -20,6 +20,7 @@ use cal_model::view::AccountView;
 use object_outcomes::created_ids::CreatedIds;
 use object_outcomes::setting::Setting;
 use spec_calls::call::SetArguments;
+use spec_history::state::State;
 use spec_json::lists::Pairs;
 use spec_json::tree::Tree;
 use std::alloc::{AllocError, Global};
@@ -35,6 +36,7 @@ pub(crate) fn carry_out<V: AccountView>(
     created: &Pairs,
 ) -> Result<Plan, AllocError>
     requires zones { (V.base view.old).zones ≡ setting.now.zones.now }
+    requires generation { (V.base view.old).generation ≡ setting.now.generation }
     ensures arguments { IfOk result (λ p. p.arguments ≡ set_arguments (ground_in setting.now) setting.now.kind created.now (V.changes view.old) (objects_of arguments.now)) }
     ensures created { IfOk result (λ p. p.created ≡ new_ids (ground_in setting.now) setting.now.kind created.now (V.changes view.old) (objects_of arguments.now)) }
     ensures changes { OnOk result (V.changes view.new ≡ V.changes view.old ++ set_changes (ground_in setting.now) setting.now.kind created.now (V.changes view.old) (objects_of arguments.now)) }
@@ -57,14 +59,15 @@ fn change_all<V: AccountView>(
     view: &mut V,
     setting: &Setting<'_>,
     arguments: &SetArguments,
-    old_state: u64,
+    old_state: State,
     made: &Creates,
 ) -> Result<Tree, AllocError>
     requires creates { vec_len made.now.outcomes ≡ length (objects_of arguments.now).creates }
     requires zones { (V.base view.old).zones ≡ setting.now.zones.now }
+    requires generation { (V.base view.old).generation ≡ setting.now.generation }
     ensures arguments { IfOk result (λ t. (created : List (List ℕ × List ℕ)) (cs : List AnyChange)
         → IsCreated made.now (ground_in setting.now) setting.now.kind created cs (objects_of arguments.now) → V.changes view.old ≡ cs ++ flat_map changes_in made.now.outcomes.items
-        → old_state ≡ state_at cs setting.now.kind → t ≡ set_arguments (ground_in setting.now) setting.now.kind created cs (objects_of arguments.now)) }
+        → old_state ≡ state_of setting.now.generation setting.now.kind cs → t ≡ set_arguments (ground_in setting.now) setting.now.kind created cs (objects_of arguments.now)) }
     ensures changes { OnOk result ((created : List (List ℕ × List ℕ)) (cs : List AnyChange)
         → IsCreated made.now (ground_in setting.now) setting.now.kind created cs (objects_of arguments.now) → V.changes view.old ≡ cs ++ flat_map changes_in made.now.outcomes.items
         → V.changes view.new ≡ cs ++ set_changes (ground_in setting.now) setting.now.kind created cs (objects_of arguments.now)) }

@@ -35,14 +35,14 @@ pub fn plan<V: AccountView>(
     requires staged { V.changes view.old ≡ changes_of (V.entries view.old) }
     requires zones { zones.now ≡ (V.base view.old).zones }
     requires account { account.now ≡ (V.base view.old).account_id }
-    ensures carried_out { OnOk result (set_refusal arguments.now.kind (changes_of (V.entries view.old)) (objects_of arguments.now) arguments.now.if_in_state arguments.now.remove_events ≡ None) }
+    ensures carried_out { OnOk result (set_refusal (V.base view.old).generation arguments.now.kind (changes_of (V.entries view.old)) (objects_of arguments.now) arguments.now.if_in_state arguments.now.remove_events ≡ None) }
     ensures arguments { IfOk result (λ p. p.arguments
         ≡ set_arguments (ground_at (V.base view.old) moment) arguments.now.kind created.now (changes_of (V.entries view.old)) (objects_of arguments.now)) }
     ensures created { IfOk result (λ p. p.created
         ≡ new_ids (ground_at (V.base view.old) moment) arguments.now.kind created.now (changes_of (V.entries view.old)) (objects_of arguments.now)) }
     ensures changes { OnOk result (V.changes view.new
         ≡ changes_of (V.entries view.old) ++ set_changes (ground_at (V.base view.old) moment) arguments.now.kind created.now (changes_of (V.entries view.old)) (objects_of arguments.now)) }
-    ensures refused { IfErr result (λ e. Reports e (set_refusal arguments.now.kind (changes_of (V.entries view.old)) (objects_of arguments.now) arguments.now.if_in_state arguments.now.remove_events)) }
+    ensures refused { IfErr result (λ e. Reports e (set_refusal (V.base view.old).generation arguments.now.kind (changes_of (V.entries view.old)) (objects_of arguments.now) arguments.now.if_in_state arguments.now.remove_events)) }
     ensures forgotten { OnErr result (V.changes view.new ≡ changes_of (V.entries view.old)) }
     ensures entries { V.entries view.new ≡ V.entries view.old }
     ensures base { V.base view.new ≡ V.base view.old }
@@ -54,6 +54,7 @@ pub fn plan<V: AccountView>(
         kind: arguments.kind,
         account,
         zones,
+        generation: view.generation(),
         moment,
     };
     match carry_out(alloc, view, &setting, arguments, created) {

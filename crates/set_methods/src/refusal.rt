@@ -24,7 +24,7 @@ pub(crate) fn refusal<V: AccountView>(
     view: &V,
     arguments: &SetArguments,
 ) -> Result<Option<MethodError>, AllocError>
-    ensures { IfOk result (λ r. r ≡ set_refusal arguments.now.kind (V.changes view.now) (objects_of arguments.now) arguments.now.if_in_state arguments.now.remove_events) }
+    ensures { IfOk result (λ r. r ≡ set_refusal (V.base view.now).generation arguments.now.kind (V.changes view.now) (objects_of arguments.now) arguments.now.if_in_state arguments.now.remove_events) }
 {
     if !are_values(arguments) {
         return Ok(Some(MethodError::InvalidArguments));
@@ -91,7 +91,7 @@ fn is_in_state<V: AccountView>(
     kind: Kind,
     state: &Option<Text>,
 ) -> Result<bool, AllocError>
-    ensures { IfOk result (λ b. b ≡ is_in_state kind (V.changes view.now) state.now) }
+    ensures { IfOk result (λ b. b ≡ is_in_state (V.base view.now).generation kind (V.changes view.now) state.now) }
 {
     match state {
         Some(state) => Ok(state.as_str() == state_text(alloc, view.state(kind))?.as_str()),

@@ -2,6 +2,7 @@
 
 use crate::named_id::NamedId;
 use cal_model::outcome::Outcome;
+use spec_history::state::State;
 use spec_json::text::Text;
 use spec_json::tree::Member;
 
@@ -9,8 +10,8 @@ use spec_json::tree::Member;
 #[derive(Drop)]
 pub(crate) struct Told<'a> {
     pub account: &'a Text,
-    pub old_state: u64,
-    pub new_state: u64,
+    pub old_state: State,
+    pub new_state: State,
     pub creates: &'a [Member],
     pub create_outcomes: &'a [Outcome],
     pub updates: &'a [Member],

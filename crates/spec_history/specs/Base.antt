@@ -6,7 +6,9 @@ pub record Base : Type 0 where
   pub account_id : List ℕ
   -- the names of its time zones, each with its POSIX rule
   pub zones : List (List ℕ × List ℕ)
+  -- which copy of the data the account goes on from: another one after an older copy was put back
+  pub generation : ℕ
 
 -- that of what has no account
 abbrev pub no_base : Base
-no_base = record { account_id = []; zones = [] }
+no_base = record { account_id = []; zones = []; generation = 0 }

@@ -45,9 +45,9 @@ ids_at cs kind = ids_from [] cs kind
 abbrev pub next_number : List Change → Kind → ℕ
 next_number cs kind = suc (length (ids_at cs kind))
 
--- the state of a kind, the number of its changes (RFC 8620 section 5.1)
-abbrev pub state_at : List Change → Kind → ℕ
-state_at cs kind = count_by (λ c. is_kind kind c.kind) cs
+-- the number of changes of a kind, which is that of its state (RFC 8620 section 5.1)
+abbrev pub count_of_kind : List Change → Kind → ℕ
+count_of_kind cs kind = count_by (λ c. is_kind kind c.kind) cs
 
 abbrev pub some_object : Option Tree → List Tree
 some_object None = []

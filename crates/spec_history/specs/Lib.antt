@@ -4,4 +4,5 @@ pub mod MostTurns
 pub mod History
 pub mod ObjectId
 pub mod Pages
+pub mod States
 pub mod PagesLead

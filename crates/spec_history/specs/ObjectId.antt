@@ -1,7 +1,5 @@
--- The ids of objects, and the state of a kind (RFC 8620 sections 1.2 and 5.1).
+-- The ids of objects (RFC 8620 section 1.2).
 use Rattle.std.specs.Prelude.{ℕ, List, [], ◌∷◌, ◌==◌, Option, Some, None, decimal, nat_lt, option_and_then, if◌then◌else◌}
-use Rattle.spec_history.specs.History.{state_at}
-use Rattle.spec_history.specs.declared.entry.Change.{Change}
 use Rattle.spec_history.specs.declared.entry.Kind.{Kind}
 use Rattle.spec_history.specs.declared.entry.Kind.TheVariants.{Calendar, Event}
 use Rattle.spec_json.specs.Number.{number_in}
@@ -22,7 +20,3 @@ positive n = if nat_lt 0 n then Some n else None
 abbrev pub object_number : Kind → List ℕ → Option ℕ
 object_number kind [] = None
 object_number kind (b ∷ bs) = if b == letter kind then option_and_then positive (number_in bs) else None
-
--- the state of a kind, as clients see it
-abbrev pub state_text : Kind → List Change → List ℕ
-state_text kind cs = decimal (state_at cs kind)

@@ -5,3 +5,4 @@ pub mod book;
 pub mod entry;
 pub mod ids;
 pub mod stamp;
+pub mod state;

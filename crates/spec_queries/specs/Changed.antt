@@ -3,8 +3,10 @@ use Rattle.std.specs.Prelude.{ℕ, ℤ, pos, ◌+◌, List, [], ◌∷◌, Bool,
 use Rattle.spec_calls.specs.declared.call.MethodError.{MethodError}
 use Rattle.spec_calls.specs.declared.call.MethodError.TheVariants.{TooManyChanges}
 use Rattle.spec_calls.specs.declared.call.QueryChangesArguments.{QueryChangesArguments}
-use Rattle.spec_history.specs.ObjectId.{id_text, state_text}
+use Rattle.spec_history.specs.Base.{Base}
+use Rattle.spec_history.specs.ObjectId.{id_text}
 use Rattle.spec_history.specs.Pages.{is_within}
+use Rattle.spec_history.specs.States.{state_of, state_text}
 use Rattle.spec_history.specs.declared.entry.Change.{Change}
 use Rattle.spec_history.specs.declared.entry.Kind.TheVariants.{Event}
 use Rattle.spec_json.specs.Data.{Data, items_of, list, members_of, object, text, whole}
@@ -27,10 +29,10 @@ abbrev pub added_item : Place → Data
 added_item place = object (members_of ((codes "id", text (id_text Event place.id)) ∷ (codes "index", whole (pos place.index)) ∷ []))
 
 -- the arguments of the reply that tells what changed, where the result has so many ids now
-abbrev pub delta_response : List ℕ → List Change → QueryChangesArguments → ℕ → Delta → Tree
-delta_response account cs q total delta = Object (
-    (codes "accountId", text account) ∷ (codes "added", list (items_of (map added_item delta.added)))
-    ∷ (codes "newQueryState", text (state_text Event cs)) ∷ (codes "oldQueryState", text q.since)
+abbrev pub delta_response : Base → List Change → QueryChangesArguments → ℕ → Delta → Tree
+delta_response base cs q total delta = Object (
+    (codes "accountId", text base.account_id) ∷ (codes "added", list (items_of (map added_item delta.added)))
+    ∷ (codes "newQueryState", text (state_text (state_of base.generation Event cs))) ∷ (codes "oldQueryState", text q.since)
     ∷ (codes "removed", id_list Event delta.removed) ∷ total_member q.calculate_total total)
 
 module _ (see : Tree → Option Item) (order : List Comparator) (cs : List Change) where
@@ -41,5 +43,5 @@ module _ (see : Tree → Option Item) (order : List Comparator) (cs : List Chang
   abbrev pub size_refusal : QueryChangesArguments → ℕ → Option MethodError
   size_refusal q k = if is_within (option_map unsigned_abs q.max) (size_of_delta (delta_since k)) then None else Some TooManyChanges
 
-  abbrev pub changed_response : List ℕ → QueryChangesArguments → ℕ → Tree
-  changed_response account q k = delta_response account cs q (length (result_of see order cs)) (delta_since k)
+  abbrev pub changed_response : Base → QueryChangesArguments → ℕ → Tree
+  changed_response base q k = delta_response base cs q (length (result_of see order cs)) (delta_since k)

@@ -8,6 +8,7 @@ use Rattle.spec_calls.specs.declared.call.MethodError.{MethodError}
 use Rattle.spec_calls.specs.declared.call.Paging.{Paging}
 use Rattle.spec_events.specs.Events.{has_recurrence}
 use Rattle.spec_filters.specs.Matches.{event_matches, instants_asked}
+use Rattle.spec_history.specs.Base.{Base}
 use Rattle.spec_history.specs.History.{ids_at, live_object}
 use Rattle.spec_history.specs.ObjectId.{id_text}
 use Rattle.spec_history.specs.declared.entry.Change.{Change}
@@ -119,8 +120,8 @@ abbrev pub cut_among : Paging → List (List ℕ) → Option Cut
 cut_among p ids = cut_asked p (length ids) (anchor_among ids p.anchor)
 
 -- the arguments of the reply that tells this window of a result
-abbrev pub expanded_window : List ℕ → List Change → Paging → List (List ℕ) → Cut → Tree
-expanded_window account cs p ids cut = window_response account cs p true (list (items_of (map text (cut_out cut ids)))) (length ids) cut
+abbrev pub expanded_window : Base → List Change → Paging → List (List ℕ) → Cut → Tree
+expanded_window base cs p ids cut = window_response base cs p true (list (items_of (map text (cut_out cut ids)))) (length ids) cut
 
 -- ids by the order of their items; equal ones stay as they stand
 abbrev pub ids_in_order : List Comparator → List (List ℕ × Item) → List (List ℕ)
@@ -133,5 +134,5 @@ module _ (zones : List ZoneText) (cs : List Change) (c : Criteria) where
   abbrev pub expanded_anchor_refusal : Paging → Option MethodError
   expanded_anchor_refusal p = missing_anchor (cut_among p expanded_ids)
 
-  abbrev pub expanded_response : List ℕ → Paging → Tree
-  expanded_response account p = expanded_window account cs p expanded_ids (unwrap_or (cut_among p expanded_ids) no_window)
+  abbrev pub expanded_response : Base → Paging → Tree
+  expanded_response base p = expanded_window base cs p expanded_ids (unwrap_or (cut_among p expanded_ids) no_window)

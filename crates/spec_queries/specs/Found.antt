@@ -5,7 +5,9 @@ use Rattle.std.specs.Option.{option_map_or}
 use Rattle.spec_calls.specs.declared.call.MethodError.{MethodError}
 use Rattle.spec_calls.specs.declared.call.MethodError.TheVariants.{AnchorNotFound}
 use Rattle.spec_calls.specs.declared.call.Paging.{Paging}
-use Rattle.spec_history.specs.ObjectId.{object_number, state_text}
+use Rattle.spec_history.specs.Base.{Base}
+use Rattle.spec_history.specs.ObjectId.{object_number}
+use Rattle.spec_history.specs.States.{state_of, state_text}
 use Rattle.spec_history.specs.declared.entry.Change.{Change}
 use Rattle.spec_history.specs.declared.entry.Kind.TheVariants.{Event}
 use Rattle.spec_json.specs.Data.{Data, Pair, text, truth, whole}
@@ -61,15 +63,15 @@ abbrev pub no_window : Cut
 no_window = record { from = 0; to = 0 }
 
 -- the arguments of the reply that tells these ids, which are a window of a result of so many
-abbrev pub window_response : List ℕ → List Change → Paging → Bool → Data → ℕ → Cut → Tree
-window_response account cs p expand ids total cut = Object (
-    (codes "accountId", text account) ∷ (codes "canCalculateChanges", truth (not expand)) ∷ (codes "ids", ids)
-    ∷ server_limit p.limit ++ (codes "position", whole (pos cut.from)) ∷ (codes "queryState", text (state_text Event cs))
+abbrev pub window_response : Base → List Change → Paging → Bool → Data → ℕ → Cut → Tree
+window_response base cs p expand ids total cut = Object (
+    (codes "accountId", text base.account_id) ∷ (codes "canCalculateChanges", truth (not expand)) ∷ (codes "ids", ids)
+    ∷ server_limit p.limit ++ (codes "position", whole (pos cut.from)) ∷ (codes "queryState", text (state_text (state_of base.generation Event cs)))
     ∷ total_member p.calculate_total total)
 
 -- the same of the numbers of events
-abbrev pub numbers_window : List ℕ → List Change → Paging → List ℕ → Cut → Tree
-numbers_window account cs p ids cut = window_response account cs p false (id_list Event (cut_out cut ids)) (length ids) cut
+abbrev pub numbers_window : Base → List Change → Paging → List ℕ → Cut → Tree
+numbers_window base cs p ids cut = window_response base cs p false (id_list Event (cut_out cut ids)) (length ids) cut
 
 abbrev pub cut_of_numbers : Paging → List ℕ → Option Cut
 cut_of_numbers p ids = cut_asked p (length ids) (anchor_in ids p.anchor)
@@ -78,7 +80,7 @@ module _ (see : Tree → Option Item) (order : List Comparator) (cs : List Chang
   abbrev pub anchor_refusal : Option MethodError
   anchor_refusal = missing_anchor (cut_of_numbers p (result_of see order cs))
 
-  abbrev pub found_response : List ℕ → Tree
-  found_response account =
+  abbrev pub found_response : Base → Tree
+  found_response base =
       let ids = result_of see order cs in
-      numbers_window account cs p ids (unwrap_or (cut_of_numbers p ids) no_window)
+      numbers_window base cs p ids (unwrap_or (cut_of_numbers p ids) no_window)

@@ -8,6 +8,7 @@ use Rattle.spec_calls.specs.declared.call.Paging.{Paging}
 use Rattle.spec_calls.specs.declared.call.QueryArguments.{QueryArguments}
 use Rattle.spec_calls.specs.declared.call.QueryChangesArguments.{QueryChangesArguments}
 use Rattle.spec_core.specs.declared.numbers.TheConstants.{MAX_UNSIGNED_INT}
+use Rattle.spec_history.specs.Base.{Base}
 use Rattle.spec_history.specs.declared.entry.Change.{Change}
 use Rattle.spec_history.specs.declared.entry.Kind.TheVariants.{Event}
 use Rattle.spec_json.specs.Data.{whole}
@@ -17,9 +18,8 @@ use Rattle.spec_queries.specs.Criteria.{criteria_refusal, order_of, sight_of}
 use Rattle.spec_queries.specs.Expanded.{expanded_anchor_refusal, expanded_response}
 use Rattle.spec_queries.specs.Found.{anchor_refusal, found_response}
 use Rattle.spec_queries.specs.States.{is_known_state, is_maximum}
-use Rattle.spec_site.specs.TimeZones.{ZoneText}
 use Rattle.property_table.specs.Values.{is_unsigned_int}
-use Rattle.time_text.specs.State.{state_in}
+use Rattle.time_text.specs.State.{number_named}
 
 -- an Int (RFC 8620 section 1.3)
 abbrev pub is_int : ℤ → Bool
@@ -36,32 +36,32 @@ events_asked criteria paging = record { criteria = criteria; expand = false; pag
 abbrev pub occurrences_asked : Criteria → Paging → QueryArguments
 occurrences_asked criteria paging = record { criteria = criteria; expand = true; paging = paging }
 
-module _ (zones : List ZoneText) (cs : List Change) (q : QueryArguments) where
+module _ (base : Base) (cs : List Change) (q : QueryArguments) where
   abbrev pub query_refusal : Option MethodError
   query_refusal =
       if not (is_paging q.paging) then Some InvalidArguments
-      else option_or (criteria_refusal zones q.criteria q.expand)
-      (if q.expand then expanded_anchor_refusal zones cs q.criteria q.paging else anchor_refusal (sight_of zones q.criteria) (order_of q.criteria) cs q.paging)
+      else option_or (criteria_refusal base.zones q.criteria q.expand)
+      (if q.expand then expanded_anchor_refusal base.zones cs q.criteria q.paging else anchor_refusal (sight_of base.zones q.criteria) (order_of q.criteria) cs q.paging)
 
-  abbrev pub query_response : List ℕ → Tree
-  query_response account =
-      if q.expand then expanded_response zones cs q.criteria account q.paging
-      else found_response (sight_of zones q.criteria) (order_of q.criteria) cs q.paging account
+  abbrev pub query_response : Tree
+  query_response =
+      if q.expand then expanded_response base.zones cs q.criteria base q.paging
+      else found_response (sight_of base.zones q.criteria) (order_of q.criteria) cs q.paging base
 
--- the state that a text names
-abbrev pub state_named : List ℕ → ℕ
-state_named since = unwrap_or (state_in since) 0
+module _ (base : Base) (cs : List Change) (q : QueryChangesArguments) where
+  -- the number of the state that the client knows
+  abbrev pub number_known : ℕ
+  number_known = unwrap_or (number_named base.generation q.since) 0
 
-module _ (zones : List ZoneText) (cs : List Change) (q : QueryChangesArguments) where
   abbrev pub since_refusal : Option MethodError
   since_refusal =
-      if q.expand || not (is_known_state Event cs q.since) then Some CannotCalculateChanges
-      else size_refusal (sight_of zones q.criteria) (order_of q.criteria) cs q (state_named q.since)
+      if q.expand || not (is_known_state base.generation Event cs q.since) then Some CannotCalculateChanges
+      else size_refusal (sight_of base.zones q.criteria) (order_of q.criteria) cs q number_known
 
   abbrev pub query_changes_refusal : Option MethodError
   query_changes_refusal =
       if not (is_maximum q.max) then Some InvalidArguments
-      else option_or (criteria_refusal zones q.criteria false) since_refusal
+      else option_or (criteria_refusal base.zones q.criteria false) since_refusal
 
-  abbrev pub query_changes_response : List ℕ → Tree
-  query_changes_response account = changed_response (sight_of zones q.criteria) (order_of q.criteria) cs account q (state_named q.since)
+  abbrev pub query_changes_response : Tree
+  query_changes_response = changed_response (sight_of base.zones q.criteria) (order_of q.criteria) cs base q number_known

@@ -1,3 +1,4 @@
 -- The lemmas, by subject.
 pub mod Numbers
 pub mod Occurrences
+pub mod Searches

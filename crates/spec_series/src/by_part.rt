@@ -1,5 +1,10 @@
 //! What the members of a recurrence rule are made of (RFC 8984 section 4.3.3).
-ghost use Rattle.std.specs.Prelude.{◌≡◌, IfOk};
+ghost use Rattle.std.specs.Prelude.{◌≡◌, ◌==◌, ◌&&◌, Bool, ℤ, IfOk};
+ghost use Rattle.std.specs.List.{list_any};
+ghost use Rattle.std.specs.List.Sorted.{IsSorted};
+ghost use Rattle.std.specs.Option.{option_cmp, option_eq};
+ghost use Rattle.std.specs.Ordering.{int_cmp, int_eq, nat_cmp, ordering_then};
+ghost use Rattle.spec_series.specs.declared.by_part.NDay.{NDay};
 
 use spec_time::wall::Wall;
 use std::alloc::AllocError;
@@ -30,7 +35,7 @@ pub enum End {
 }
 
 /// A day of the week, and perhaps its place: an item of `byDay`.
-#[derive(Clone, Copy, Debug, PartialEq, Eq, Drop)]
+#[derive(Clone, Copy, Debug, PartialEq, Eq, PartialOrd, Ord, Drop)]
 pub struct NDay {
     /// The day of the week, from 0 for Monday to 6 for Sunday.
     pub day: u8,
@@ -42,6 +47,10 @@ pub struct NDay {
 #[derive(Drop)]
 pub struct NDays {
     items: Vec<NDay>,
+    // The same days, so that a binary search finds them.
+    sorted: Vec<NDay>,
+    ghost same: { (p : NDay → Bool) → list_any p items.items ≡ list_any p sorted.items },
+    ghost rising: { IsSorted (λ a b. ordering_then (nat_cmp a.day b.day) (option_cmp int_cmp a.nth b.nth)) sorted.items },
 }
 
 impl Model for NDays {
@@ -54,11 +63,14 @@ impl Model for NDays {
 }
 
 impl NDays {
-    /// A list of these days. Takes no memory.
-    pub fn new(items: Vec<NDay>) -> NDays
-        ensures { result ≡ items.items }
+    /// A list of these days. Takes memory for a copy of them.
+    #[tactic(auto, using(crate::proofs::Searches::sorted_alike))]
+    pub fn new(items: Vec<NDay>) -> Result<NDays, AllocError>
+        ensures { IfOk result (λ xs. xs ≡ items.items) }
     {
-        NDays { items }
+        let mut sorted = items.clone()?;
+        sorted.sort_unstable();
+        Ok(NDays { items, sorted })
     }
 
     /// The days, in order. Takes no memory.
@@ -68,12 +80,29 @@ impl NDays {
         &self.items
     }
 
+    /// Whether an item has the weekday, in the time of a binary search. Takes no memory.
+    pub fn has_weekday(&self, weekday: u8) -> bool
+        ensures { result ≡ list_any (λ d. weekday == d.day) self.now }
+    {
+        self.sorted
+            .binary_search_by_key(&weekday, |d| d.day)
+            .is_ok()
+    }
+
+    /// Whether the day is an item, in the time of a binary search. Takes no memory.
+    pub fn contains(&self, day: NDay) -> bool
+        ensures { result ≡ list_any (λ d. (day.day == d.day) && option_eq int_eq d.nth day.nth) self.now }
+    {
+        self.sorted.binary_search(&day).is_ok()
+    }
+
     /// Gives an equal list.
     pub fn copy(&self) -> Result<NDays, AllocError>
         ensures { IfOk result (λ xs. xs ≡ self.now) }
     {
         Ok(NDays {
             items: self.items.clone()?,
+            sorted: self.sorted.clone()?,
         })
     }
 }
@@ -82,6 +111,10 @@ impl NDays {
 #[derive(Drop)]
 pub struct Small {
     items: Vec<i32>,
+    // The same numbers, so that a binary search finds them.
+    sorted: Vec<i32>,
+    ghost same: { (p : ℤ → Bool) → list_any p items.items ≡ list_any p sorted.items },
+    ghost rising: { IsSorted int_cmp sorted.items },
 }
 
 impl Model for Small {
@@ -93,11 +126,14 @@ impl Model for Small {
 }
 
 impl Small {
-    /// A list of these numbers. Takes no memory.
-    pub fn new(items: Vec<i32>) -> Small
-        ensures { result ≡ items.items }
+    /// A list of these numbers. Takes memory for a copy of them.
+    #[tactic(auto, using(crate::proofs::Searches::sorted_alike))]
+    pub fn new(items: Vec<i32>) -> Result<Small, AllocError>
+        ensures { IfOk result (λ xs. xs ≡ items.items) }
     {
-        Small { items }
+        let mut sorted = items.clone()?;
+        sorted.sort_unstable();
+        Ok(Small { items, sorted })
     }
 
     /// The numbers, in order. Takes no memory.
@@ -107,12 +143,20 @@ impl Small {
         &self.items
     }
 
+    /// Whether the number is an item, in the time of a binary search. Takes no memory.
+    pub fn contains(&self, number: i32) -> bool
+        ensures { result ≡ list_any (λ k. int_eq k number) self.now }
+    {
+        self.sorted.binary_search(&number).is_ok()
+    }
+
     /// Gives an equal list.
     pub fn copy(&self) -> Result<Small, AllocError>
         ensures { IfOk result (λ xs. xs ≡ self.now) }
     {
         Ok(Small {
             items: self.items.clone()?,
+            sorted: self.sorted.clone()?,
         })
     }
 }

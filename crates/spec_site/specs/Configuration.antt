@@ -1,18 +1,19 @@
 -- What the bytes of a configuration come to: a site, or its first bad field with the place of the first bad item.
-use Rattle.std.specs.Prelude.{ℕ, ◌<◌, ◌&&◌, All, slice_index_or, List, [], ◌∷◌, ◌++◌, Bool, true, false, not, Option, Some, None, option_and_then, option_map, Result, Ok, Err, codes, length, nat_le, nat_lt, position, if◌then◌else◌}
+use Rattle.std.specs.Prelude.{ℕ, ℤ, ◌<◌, ◌&&◌, All, slice_index_or, List, [], ◌∷◌, ◌++◌, Bool, true, false, not, Option, Some, None, option_and_then, option_map, Result, Ok, Err, codes, int_le, length, nat_le, nat_lt, pos, position, unsigned_abs, if◌then◌else◌}
 use Rattle.std.specs.List.{list_any}
 use Rattle.std.specs.Result.{result_ok}
 use Rattle.std.specs.Str.{bytes_eq}
 use Rattle.spec_json.specs.Data.{Data, null, object, field}
 use Rattle.spec_core.specs.Names.{is_token}
 use Rattle.spec_core.specs.Id.{is_id}
+use Rattle.spec_core.specs.declared.numbers.TheConstants.{MAX_UNSIGNED_INT}
 use Rattle.spec_json.specs.Json.{Reading, value, reading}
-use Rattle.spec_json.specs.Parts.{as_list, as_text, list_at, text_at}
+use Rattle.spec_json.specs.Parts.{as_list, as_text, as_whole, list_at, text_at}
 use Rattle.spec_core.specs.Names.{is_name}
 use Rattle.spec_site.specs.TimeZones.{ZoneText, is_good_zone}
 use Rattle.spec_site.specs.declared.limits.TheConstants.{MAX_ACCOUNTS, MAX_BASE_URL_BYTES, MAX_CONFIGURATION_BYTES, MAX_USERS, MAX_ZONES}
 use Rattle.spec_site.specs.declared.field.Field.{Field}
-use Rattle.spec_site.specs.declared.field.Field.TheVariants.{Json, BaseUrl, Accounts, Users, Zones}
+use Rattle.spec_site.specs.declared.field.Field.TheVariants.{Json, BaseUrl, Accounts, Users, Zones, Generation}
 use Rattle.spec_core.specs.declared.user.Grant.{Grant}
 use Rattle.spec_core.specs.declared.user.User.{User}
 
@@ -32,6 +33,8 @@ pub record Site : Type 0 where
   pub accounts : List SiteAccount
   pub users : List SiteUser
   pub zones : List ZoneText
+  -- which copy of the data the accounts go on from
+  pub generation : ℕ
 
 -- the first bad field, and the place of its first bad item, 0 where no item is bad alone
 pub record Fault : Type 0 where
@@ -45,6 +48,7 @@ field_name BaseUrl = codes "baseUrl"
 field_name Accounts = codes "accounts"
 field_name Users = codes "users"
 field_name Zones = codes "zones"
+field_name Generation = codes "generation"
 
 -- ---- lists
 
@@ -160,6 +164,23 @@ zone_in earlier d = passing (is_good_zone earlier) (zone_text d)
 abbrev pub zones_in : Data → Result (List ZoneText) ℕ
 zones_in d = read_list 0 MAX_ZONES zone_in (optional_list (field (field_name Zones) d))
 
+-- ---- generation
+
+-- the number of an UnsignedInt (RFC 8620 section 1.3)
+abbrev pub unsigned_number : ℤ → Option ℕ
+unsigned_number n = if int_le (pos 0) n && int_le n (pos MAX_UNSIGNED_INT) then Some (unsigned_abs n) else None
+
+abbrev pub unsigned_of : Data → Option ℕ
+unsigned_of d = option_and_then unsigned_number (as_whole d)
+
+abbrev pub generation_of : Option Data → Result ℕ ℕ
+generation_of None = Ok 0
+generation_of (Some d) = on_read 0 Ok (unsigned_of d)
+
+-- 0 where the field is absent
+abbrev pub generation_in : Data → Result ℕ ℕ
+generation_in d = generation_of (field (field_name Generation) d)
+
 -- ---- the whole
 
 -- goes on with what a field is read as
@@ -171,7 +192,8 @@ and_then name (Ok x) next = next x
 abbrev pub site_in : Data → Result Site Fault
 site_in d =
     and_then BaseUrl (base_url_in d) (λ base_url. and_then Accounts (accounts_in d) (λ accounts. and_then Users (users_in accounts d) (λ users.
-    and_then Zones (zones_in d) (λ zones. Ok (record { base_url = base_url; accounts = accounts; users = users; zones = zones })))))
+    and_then Zones (zones_in d) (λ zones. and_then Generation (generation_in d) (λ generation.
+    Ok (record { base_url = base_url; accounts = accounts; users = users; zones = zones; generation = generation }))))))
 
 abbrev pub site_read : Reading → Result Site Fault
 site_read (value (object members)) = site_in (object members)
@@ -191,6 +213,7 @@ built_in = record {
     user = record { name = codes "local"; grants = record { account = 0; id = codes "A1"; read_only = false } ∷ [] };
   } ∷ [];
   zones = [];
+  generation = 0;
 }
 
 -- ---- users by what they are known by

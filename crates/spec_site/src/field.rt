@@ -15,6 +15,8 @@ pub enum Field {
     Users,
     /// `zones`: the time zones, by name and POSIX rule.
     Zones,
+    /// `generation`: which copy of the data the accounts go on from.
+    Generation,
 }
 
 impl Field {
@@ -28,6 +30,7 @@ impl Field {
             Field::Accounts => "accounts",
             Field::Users => "users",
             Field::Zones => "zones",
+            Field::Generation => "generation",
         }
     }
 }

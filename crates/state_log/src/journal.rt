@@ -1,6 +1,6 @@
 //! The journal: the entries of an account, in order.
 ghost use Rattle.std.specs.Prelude.{◌≡◌, ◌≤◌, ◌<◌, ◌+◌, ◌++◌, ◌∷◌, ◌↔◌, [], IfOk, IsErrOf, OnOk, false};
-ghost use Rattle.spec_history.specs.History.{changes_of, state_at};
+ghost use Rattle.spec_history.specs.History.{changes_of, count_of_kind};
 ghost use Rattle.spec_history.specs.Pages.{is_retained, mentions};
 ghost use Rattle.spec_history.specs.declared.entry.Kind.TheVariants.{Calendar, Event};
 ghost use Rattle.state_log.specs.Notes.{said};
@@ -91,14 +91,14 @@ impl Journal {
 
     /// The state of a kind: how many entries are of it (RFC 8620 section 5.1). Takes no memory.
     pub fn count(&self, kind: Kind) -> u64
-        ensures { result ≡ state_at (changes_of (logged self.now)) kind }
+        ensures { result ≡ count_of_kind (changes_of (logged self.now)) kind }
     {
         self.index_of(kind).notes.len() as u64
     }
 
     /// Whether pages are made from state `k` of a kind: it was reached, and at most [`WINDOW`] changes ago. Takes no memory.
     pub fn retained(&self, kind: Kind, k: u64) -> bool
-        ensures { result ≡ is_retained (state_at (changes_of (logged self.now)) kind) k }
+        ensures { result ≡ is_retained (count_of_kind (changes_of (logged self.now)) kind) k }
     {
         let count = self.count(kind);
         k <= count && count - k <= WINDOW
@@ -111,7 +111,7 @@ impl Journal {
     /// not with the changes before.
     pub fn changes(&self, kind: Kind, since: u64, max: Option<u64>) -> Result<Page, ChangesError>
         ensures ok { IfOk result (IsPage (mentions kind (changes_of (logged self.now))) since max) }
-        ensures not_retained { IsErrOf result ChangesError.NotRetained ↔ (is_retained (state_at (changes_of (logged self.now)) kind) since ≡ false) }
+        ensures not_retained { IsErrOf result ChangesError.NotRetained ↔ (is_retained (count_of_kind (changes_of (logged self.now)) kind) since ≡ false) }
     {
         if !self.retained(kind, since) {
             return Err(ChangesError::NotRetained);

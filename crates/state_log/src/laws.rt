@@ -1,6 +1,6 @@
 //! The laws of pages, each the contract of a function that does nothing.
 ghost use Rattle.std.specs.Prelude.{◌≡◌, ◌≤◌, ◌<◌, ℕ, List, Option, Some, true, length, is_some, take, filter};
-ghost use Rattle.spec_history.specs.History.{ids_at, is_kind, live_object, state_at};
+ghost use Rattle.spec_history.specs.History.{ids_at, is_kind, live_object, count_of_kind};
 ghost use Rattle.spec_history.specs.Pages.{Mention, ids_of, is_live, is_within, mentions, page_end, size_of_page};
 ghost use Rattle.spec_history.specs.PagesLead.{AreApart, held_after_all, last_state};
 ghost use Rattle.spec_history.specs.declared.entry.Change.{Change};
@@ -26,9 +26,9 @@ pub fn pages_are_longest()
 
 /// What pages call live at the state of a kind are the objects of the history, and their ids are those of the history. Takes no memory.
 pub fn states_show_objects()
-    ensures live { (cs : List Change) (kind : Kind) (id : ℕ) → is_live (mentions kind cs) (state_at cs kind) id ≡ is_some (live_object cs kind id) }
+    ensures live { (cs : List Change) (kind : Kind) (id : ℕ) → is_live (mentions kind cs) (count_of_kind cs kind) id ≡ is_some (live_object cs kind id) }
     ensures ids { (cs : List Change) (kind : Kind) → ids_of (mentions kind cs) ≡ ids_at cs kind }
-    ensures state { (cs : List Change) (kind : Kind) → length (mentions kind cs) ≡ state_at cs kind }
+    ensures state { (cs : List Change) (kind : Kind) → length (mentions kind cs) ≡ count_of_kind cs kind }
 {}
 
 /// What pages call live at an earlier state of a kind are the objects after so many changes of the kind. Takes no memory.

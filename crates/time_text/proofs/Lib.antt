@@ -3,3 +3,4 @@ pub mod DateLemmas
 pub mod FormLemmas
 pub mod DurationLemmas
 pub mod WrittenLemmas
+pub mod StateLemmas

@@ -15,10 +15,10 @@ use Rattle.std.specs.Str.Parse.{ParsesUnsigned}
 use Rattle.spec_json.specs.Number.{number_in, value_of_digits, writes_out}
 use Rattle.time_text.specs.Digits.{has_leading_zero}
 
-abbrev are_digits : List ℕ → Bool
+abbrev pub are_digits : List ℕ → Bool
 are_digits s = list_all is_ascii_digit s
 
-own : IsNumeralModel (λ s. are_digits s ≡ true) value_of_digits
+pub own : IsNumeralModel (λ s. are_digits s ≡ true) value_of_digits
 own = numerals_by_fold _ (search rules) (λ n s. fold (λ m b. 10 * m + (b - 48)) n s) (search rules)
 
 no_choice : (b : Bool) (n : ℕ) → (b ≡ true → ⊥) → (if b then Some n else None) ≡ None

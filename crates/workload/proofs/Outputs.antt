@@ -34,6 +34,6 @@ module _ (answer : Base → List Entry → Call → ℤ → Reply) (added : Base
       let bookings = a.1.bookings ∙ sym b.1.bookings in
       let clashes = a.1.clashes ∙ sym b.1.clashes in
       let entries = a.1.entries ∙ sym b.1.entries in
-      let pages = same_pages _ a.1.pages b.1.pages (codes "0") a.1.are_pages b.1.are_pages in
+      let pages = same_pages _ a.1.pages b.1.pages (codes "0-0") a.1.are_pages b.1.are_pages in
       let changed = a.1.changed ∙ (ap (λ (rs : List Reply). sum (map count_of_ids rs)) pages ∙ sym b.1.changed) in
       a.2 ∙ ((λ i. line (codes "bookings") (bookings i) ++ line (codes "clashes") (clashes i) ++ line (codes "entries") (entries i) ++ line (codes "changed") (changed i)) ∙ sym b.2)

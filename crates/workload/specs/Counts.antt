@@ -4,7 +4,7 @@ use Rattle.std.specs.Option.{option_map_or}
 use Rattle.std.specs.Str.{bytes_eq}
 use Rattle.spec_calls.specs.declared.call.Reply.{Reply}
 use Rattle.spec_json.specs.Data.{Data, field}
-use Rattle.spec_json.specs.Number.{number_in}
+use Rattle.time_text.specs.State.{state_in}
 use Rattle.spec_json.specs.Parts.{list_at, object_at, text_at, truth_at}
 use Rattle.spec_json.specs.TreeData.{data_of}
 use Rattle.workload.specs.Generated.{creation_id}
@@ -48,7 +48,7 @@ count_of_ids r = count_listed (codes "created") r + count_listed (codes "updated
 
 -- the number of changes that a state stands for
 abbrev pub state_number : List ℕ → ℕ
-state_number state = unwrap_or (number_in state) 0
+state_number state = option_map_or (λ s. s.number) (state_in state) 0
 
 -- ---- what is written
 

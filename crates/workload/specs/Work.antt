@@ -41,7 +41,7 @@ module _ (answer : Base → List Entry → Call → ℤ → Reply) (added : Base
     pub clashes : n.clashes ≡ count_by is_refused_as_clash (replies 2 (with_call 1 h room_call) (request_calls 1 number size))
     pub entries : n.entries ≡ length (with_calls 1 h (room_call ∷ request_calls 1 number size))
     pub pages : List Reply
-    pub are_pages : ArePages (with_calls 1 h (room_call ∷ request_calls 1 number size)) (codes "0") pages
+    pub are_pages : ArePages (with_calls 1 h (room_call ∷ request_calls 1 number size)) (codes "0-0") pages
     pub changed : n.changed ≡ sum (map count_of_ids pages)
 
   -- these are the four lines

@@ -32,7 +32,7 @@ pub fn work<B: Book<Call = Call, Reply = Reply>>(
     ask(account, 1, room_call(alloc)?)?;
     let (bookings, clashes) = make_requests(alloc, account, number, size)?;
     let entries = account.count();
-    let changed = count_changed(alloc, account, Text::from_str(alloc, "0")?)?;
+    let changed = count_changed(alloc, account, Text::from_str(alloc, "0-0")?)?;
     Ok(Numbers {
         bookings,
         clashes,

@@ -3,6 +3,7 @@ ghost use Rattle.std.specs.Prelude.{◌<◌};
 
 use crate::CLOCK;
 use crate::connections::case::Case;
+use command_line::command::read_command;
 use io_edge::fault::Failed;
 use io_edge::memory_opener::MemOpener;
 use io_edge::memory_sink::MemSink;
@@ -105,7 +106,7 @@ pub fn outcome_of(
     let mut clock = CLOCK;
     let status = run(
         alloc,
-        &case.words,
+        read_command(alloc, &case.words)?,
         &mut opener,
         &mut source,
         &mut output,

@@ -7,7 +7,7 @@ use row_table::files::Files;
 use std::alloc::{AllocError, Global};
 
 /// The most bytes of an input whose takes and gives fail one after the other.
-const MOST_FAILING: usize = 1500;
+const MAX_FAILING: usize = 1500;
 
 /// What a run is to come to.
 #[derive(Drop)]
@@ -26,7 +26,7 @@ pub fn other_than_wanted(
 ) -> Result<Option<String>, AllocError> {
     let input = case.input(alloc)?;
     let other = other_in_pieces(alloc, case, files, &input)?;
-    if other.is_some() || !case.is_connection() || input.len() > MOST_FAILING {
+    if other.is_some() || !case.is_connection() || input.len() > MAX_FAILING {
         return Ok(other);
     }
     match other_at_takes(alloc, case, files, &input)? {

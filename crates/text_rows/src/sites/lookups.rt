@@ -4,7 +4,8 @@ use spec_json::text::Text;
 use spec_json::tree::Tree;
 use std::alloc::{AllocError, Global};
 
-/// What is found otherwise than the configuration has it: its users by name and by token, the ids of its accounts, and how many there are.
+/// What is found otherwise than the configuration has it: its users by name and by token, the ids of its accounts, how many there are, and
+/// the generation.
 pub fn lookups_differ(
     alloc: Global,
     site: &Site,
@@ -22,6 +23,9 @@ pub fn lookups_differ(
     if !are_numbered(site, accounts.items()) {
         return told(alloc, "an account of another number");
     }
+    if !is_of_generation(site, configuration) {
+        return told(alloc, "another generation");
+    }
     let stranger = Text::from_str(alloc, "no user has this one")?;
     if site.user_named(stranger.as_str()).is_some() || site.user_of(&stranger).is_some() {
         return told(alloc, "a user who isn't there");
@@ -31,6 +35,13 @@ pub fn lookups_differ(
 
 fn told(alloc: Global, other: &str) -> Result<Option<String>, AllocError> {
     Ok(Some(String::from_str(alloc, other)?))
+}
+
+fn is_of_generation(site: &Site, configuration: &Tree) -> bool {
+    match configuration.number_at("generation") {
+        Some(generation) => i128::from(site.generation()) == generation.get(),
+        None => site.generation() == 0,
+    }
 }
 
 /// Whether these are the users, each found by name and by token.

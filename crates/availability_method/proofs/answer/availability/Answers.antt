@@ -1,5 +1,6 @@
 use Rattle.std.proofs.Common.{◌≡◌, ◌&&◌, Bool, true, false, not, Some, refl, sym, ◌∙◌}
 use Rattle.std.specs.Str.{bytes_eq}
+use Rattle.event_store.specs.EventsBase.{base_of}
 use Rattle.spec_availability.specs.Availability.{availability_refusal}
 use Rattle.spec_calls.specs.declared.call.AvailabilityArguments.{AvailabilityArguments}
 use Rattle.spec_calls.specs.declared.call.MethodError.TheVariants.{InvalidArguments}
@@ -26,7 +27,7 @@ no_zone base q h = rw (not_all (bytes_eq q.id base.account_id) _ _ h) refl
 
 pub returns-then-ne : goal.returns-then-ne
 returns-then-ne c =
-    let base : Base = record { account_id = c.args.account.now; zones = c.args.events.now.zones.now } in
+    let base = base_of c.args.events.now in
     let q = c.args.arguments.now in
     elim c.then-ne.branch [
       | then-ne-via-then-ne w ↦ other_id base q (rw (c.as_str.ensures, c.as_str-2.ensures) at (not_is _ (sym c.ne.ensures ∙ w.if-ne.true)))
@@ -34,4 +35,4 @@ returns-then-ne c =
     ]
 
 pub response-requires : goal.response-requires
-response-requires c = rw c.periods.ensures c.in_ok-busy.ensures.years
+response-requires c = rw c.deref-2.ensures.value c.in_ok-periods.ensures.years

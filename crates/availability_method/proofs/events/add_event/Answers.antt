@@ -7,6 +7,6 @@ use Rattle.availability_method.proofs.BusyLemmas.{one_more_by}
 use Rattle.availability_method.proofs.events.add_event.Goals as goal
 
 pub returns-clause-busy : goal.returns-clause-busy
-returns-clause-busy c = one_more_by c.add.result c.args.busy.now.window c.args.busy.now.periods.items c.add.new.self.periods.items
+returns-clause-busy c = one_more_by c.add.result c.args.busy.now.window c.args.busy.now.spans.items c.add.new.self.spans.items
     (series_in c.args.zones.now (data_of c.args.event.now.object.now)) (rule_of_event c.args.zones.now c.args.floating.now (data_of c.args.event.now.object.now)) c.in-Some.series.now (tz_view c.in-Some-rule_of_event.rule)
     (sym c.requires ∙ ap (option_map (λ s. s.now)) c.in-Some.is) (sym c.in-Some-rule_of_event.ensures) c.add.ensures.busy

@@ -15,11 +15,11 @@ touched_since-requires-clause-count c =
 pub returns : goal.returns
 returns c =
     let cs = changes_of (entries c.args.events.now.store.now) in
-    let touched : c.deref-3.result.now ≡ touched_since cs c.args.state =
-    c.deref-3.ensures.value ∙ c.in_ok-touched.ensures ∙ ap (λ es. touched_since (changes_of es) c.args.state) c.entries.ensures in
+    let touched : c.deref-3.result.now ≡ touched_since cs c.args.since =
+    c.deref-3.ensures.value ∙ c.in_ok-touched.ensures ∙ ap (λ es. touched_since (changes_of es) c.args.since) c.entries.ensures in
     let lists : c.deref.result.now ≡ c.deref-3.result.now = c.deref.ensures.value ∙ sym c.deref-3.ensures.value in
-    let before : filter (is_in c.deref-3.result.now) c.deref-2.result.now ≡ filter (is_in c.deref-3.result.now) (result_at (seen_by c.args.sight.now) c.args.order.now cs c.args.state) =
+    let before : filter (is_in c.deref-3.result.now) c.deref-2.result.now ≡ filter (is_in c.deref-3.result.now) (result_at (seen_by c.args.sight.now) c.args.order.now cs c.args.since) =
     ap (filter (is_in c.deref-3.result.now)) c.deref-2.ensures.value ∙ rw lists at c.in_ok-before.ensures in
     IfOk-weaker c.changes_of.result _ _
-    (λ delta is. is ∙ delta_is (seen_by c.args.sight.now) c.args.order.now cs c.args.state c.deref-2.result.now c.args.now.now c.deref-3.result.now touched before c.requires.result)
+    (λ delta is. is ∙ delta_is (seen_by c.args.sight.now) c.args.order.now cs c.args.since c.deref-2.result.now c.args.now.now c.deref-3.result.now touched before c.requires.result)
     c.changes_of.ensures

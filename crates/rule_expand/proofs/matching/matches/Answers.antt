@@ -7,7 +7,7 @@ use Rattle.rule_expand.proofs.matching.matches.Goals as goal
 pub returns-then-not-in_months : goal.returns-then-not-in_months
 unfolding month_matches
 returns-then-not-in_months c =
-    let e = rw (c.items.ensures, c.args.at.month_is) at c.in_months.ensures in
+    let e = rw c.args.at.month_is at c.in_months.ensures in
     no_month c.args.rule.now c.args.at.day (sym e ∙ c.if-not-in_months.true)
 
 pub returns-then-not-is_month_day : goal.returns-then-not-is_month_day
@@ -16,5 +16,5 @@ returns-then-not-is_month_day c = no_month_day c.args.rule.now c.args.at.day (sy
 pub returns : goal.returns
 unfolding month_matches
 returns c =
-    let e = rw (c.items.ensures, c.args.at.month_is) at c.in_months.ensures in
+    let e = rw c.args.at.month_is at c.in_months.ensures in
     by_weekday c.args.rule.now c.args.at.day c.is_weekday.result c.is_weekday.ensures (sym c.is_month_day.ensures ∙ c.if-not-is_month_day.false) (sym e ∙ c.if-not-in_months.false)

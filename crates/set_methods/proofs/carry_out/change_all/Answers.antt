@@ -2,7 +2,7 @@ use Rattle.std.proofs.Common.{◌≡◌, ◌∙◌, [], arith, map, refl, ap}
 use Rattle.std.proofs.lemmas.Grind.{common_steps}
 use Rattle.cal_model.specs.Operations.{destroy, outcomes}
 use Rattle.cal_model.specs.Sets.{ids_named, objects_of, updates_after}
-use Rattle.spec_history.specs.History.{state_at}
+use Rattle.spec_history.specs.States.{state_of}
 use Rattle.spec_json.specs.TreeData.{pair_of}
 use Rattle.object_outcomes.specs.Judging.{ground_in, operation_in}
 use Rattle.set_methods.proofs.PlanLemmas.{as_many, length-updates_after, set_is}
@@ -20,6 +20,7 @@ returns g c =
     let s = objects_of c.args.arguments.now in
     let ids = c.args.made.now.ids in
     let named = c.in_ok-named.named.items in
+    let same_generation = ap (λ b. b.generation) (c.run-2.ensures.base ∙ c.run.ensures.base) ∙ c.requires.generation in
     let c1 = g.V.AccountView.changes c.args.view.now in
     let c2 = g.V.AccountView.changes c.run.new.view in
     let c3 = g.V.AccountView.changes c.run-2.new.view in
@@ -38,7 +39,7 @@ returns g c =
           c.in_ok-response_arguments.ensures G kind created cs s record {
             account = refl;
             old_state = is_state;
-            new_state = c.state.ensures ∙ ap (λ t. state_at t kind) came.all;
+            new_state = c.state.ensures ∙ (λ i. state_of (same_generation i) kind (came.all i));
             creates = c.creates.ensures;
             create_outcomes = c.deref-5.ensures.value ∙ made.outcomes;
             updates = c.updates-2.ensures;

@@ -1,18 +1,8 @@
-use Rattle.std.proofs.Common.{◌<◌, ◌^◌, arith, rules}
-use Rattle.account_desk.proofs.FreshLemmas.{all_opened, count_fresh, opened_more, shown_fresh, sole_fresh}
+use Rattle.account_desk.proofs.FreshLemmas.{shown_fresh, sole_fresh}
 use Rattle.account_desk.proofs.sole_desk.SoleDesk.open.Goals as goal
 
 pub invariant_of-result : goal.invariant_of-result
-invariant_of-result c =
-    let all = all_opened c.args.site.now c.loop-n.n c.accounts-count.result c.loop-n.accounts.items c.accounts-count.ensures c.loop-n-test.false c.loop-n.invariant in
-    let fits : c.accounts-count.result < 2 ^ 32 = search rules in
-    let count = count_fresh c.args.site.now c.loop-n.accounts.items all in
-    sole_fresh c.args.site.now c.loop-n.accounts.items all (omega (arith, fits, count, c.accounts-count.ensures))
-
-pub loop-n-preserved : goal.loop-n-preserved
-loop-n-preserved c =
-    opened_more c.args.site.now c.loop-n.n c.loop-n.accounts.items c.push.new.self.items c.in_ok-open_account.field-0 (search rules) c.loop-n.invariant c.in_ok-open_account.ensures c.in_ok-push.ensures.items
+invariant_of-result c = sole_fresh c.args.site.now c.in_ok-fresh_accounts.field-0.items c.in_ok-fresh_accounts.ensures.fresh c.in_ok-fresh_accounts.ensures.few
 
 pub returns : goal.returns
-returns c = shown_fresh c.args.site.now c.loop-n.accounts.items
-    (all_opened c.args.site.now c.loop-n.n c.accounts-count.result c.loop-n.accounts.items c.accounts-count.ensures c.loop-n-test.false c.loop-n.invariant)
+returns c = shown_fresh c.args.site.now c.in_ok-fresh_accounts.field-0.items c.in_ok-fresh_accounts.ensures.fresh

@@ -13,7 +13,7 @@ use Rattle.account_desk.proofs.sole_desk.SoleDeskDesk.call.Goals as goal
 pub invariant_of-self : goal.invariant_of-self
 invariant_of-self c =
     let d = c.self.inside in
-    let few : d.turns < most_turns = grind (arith, c.self.invariant.within, c.if-self-eq-MOST_TURNS.false) in
+    let few : d.turns < most_turns = grind (arith, c.self.invariant.within, c.if-self-eq-MAX_TURNS.false) in
     let there : c.args.account < length d.accounts.items = search rules in
     let e = c.act-reply.ensures in
     let old = c.index_mut.result.now in
@@ -24,7 +24,7 @@ invariant_of-self c =
 pub returns : goal.returns
 returns c =
     let d = c.self.inside in
-    let few : d.turns < most_turns = grind (arith, c.self.invariant.within, c.if-self-eq-MOST_TURNS.false) in
+    let few : d.turns < most_turns = grind (arith, c.self.invariant.within, c.if-self-eq-MAX_TURNS.false) in
     let there : c.args.account < length d.accounts.items = search rules in
     let e = c.act-reply.ensures in
     let old = c.index_mut.result.now in

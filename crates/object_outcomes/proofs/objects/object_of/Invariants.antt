@@ -1,7 +1,0 @@
-use Rattle.std.proofs.Common.{◌≡◌, [], map}
-use Rattle.spec_json.specs.Edit.{put_all}
-use Rattle.spec_json.specs.TreeData.{pair_of}
-use Rattle.object_outcomes.proofs.objects.object_of.Given as goal
-
-abbrev pub invariant-loop-member : goal.invariant-loop-member
-invariant-loop-member l = l.object ≡ put_all (map pair_of l.yielded) []
