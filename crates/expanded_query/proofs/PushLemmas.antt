@@ -1,10 +1,12 @@
--- The step of a loop that pushes what two functions make of each element.
-use Rattle.std.proofs.Common.{◌≡◌, ◌∙◌, ℕ, ◌+◌, ◌<◌, List, [], ◌∷◌, ◌++◌, drop, get_or, length, map, sym, ap}
+-- The step of a loop that pushes what is made of each element.
+use Rattle.std.proofs.Common.{◌≡◌, ◌∙◌, ℕ, ◌+◌, ◌<◌, List, [], ◌∷◌, ◌++◌, drop, get_or, length, sym, ap}
 use Rattle.std.proofs.lemmas.List.{append_assoc, drop_more}
 
-pub pushed : {A B C : Type 0} (f : A → B) (g : B → C) (xs : List A) (k : ℕ) (x : A) (now next all : List C) → k < length xs → x ≡ get_or xs k x → next ≡ now ++ g (f x) ∷ []
-    → now ++ map g (map f (drop k xs)) ≡ all → next ++ map g (map f (drop (k + 1) xs)) ≡ all
-pushed f g xs k x now next all l here is h =
-    let rest = map g (map f (drop (k + 1) xs)) in
-    ap (λ ys. ys ++ rest) is ∙ append_assoc now (g (f x) ∷ []) rest
-    ∙ ap (λ y. now ++ g (f y) ∷ rest) here ∙ ap (λ ys. now ++ map g (map f ys)) (sym (drop_more xs k x l)) ∙ h
+module _ {A B : Type 0} (made : List A → List B) (one : A → B) (steps : (x : A) (xs : List A) → made (x ∷ xs) ≡ one x ∷ made xs) where
+  pub pushed : (xs : List A) (k : ℕ) (x : A) (now next all : List B) → k < length xs → x ≡ get_or xs k x → next ≡ now ++ one x ∷ []
+      → now ++ made (drop k xs) ≡ all → next ++ made (drop (k + 1) xs) ≡ all
+  pushed xs k x now next all l here is h =
+      let rest = made (drop (k + 1) xs) in
+      ap (λ ys. ys ++ rest) is ∙ append_assoc now (one x ∷ []) rest
+      ∙ ap (λ y. now ++ one y ∷ rest) here
+      ∙ ap (λ ys. now ++ ys) (sym (ap made (drop_more xs k x l) ∙ steps (get_or xs k x) (drop (k + 1) xs))) ∙ h

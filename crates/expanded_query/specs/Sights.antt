@@ -4,14 +4,21 @@ use Rattle.expanded_query.specs.declared.sight.OccurrenceSight.{OccurrenceSight}
 use Rattle.spec_history.specs.History.{live_object}
 use Rattle.spec_history.specs.declared.entry.Change.{Change}
 use Rattle.spec_history.specs.declared.entry.Kind.TheVariants.{Event}
+use Rattle.spec_filters.specs.Matches.{instants_asked}
 use Rattle.spec_json.specs.Data.{Data}
+use Rattle.spec_json.specs.Parts.{members_in}
 use Rattle.spec_queries.specs.Expanded.{expanded_matches, results_of_event, results_of_live}
 use Rattle.spec_queries.specs.declared.item.Item.{Item}
 use Rattle.spec_site.specs.TimeZones.{ZoneText}
+use Rattle.spec_windows.specs.declared.window.Window.{Window}
 
 -- the zones, the query's zone, and the filter
 abbrev pub looks_for : OccurrenceSight → List ZoneText × (List ℕ × Data)
 looks_for s = (s.zones.now, (s.floating.now, s.filter.filter))
+
+-- the window between the filter's times
+abbrev pub window_of : OccurrenceSight → Window
+window_of s = instants_asked s.filter.clock (members_in s.filter.filter)
 
 -- what event n gives, what these events give as far as they are live, and what all live events do
 abbrev pub gives : OccurrenceSight → ℕ → Data → List (List ℕ × Item)

@@ -1,9 +1,10 @@
-//! What comparators see of an occurrence.
+//! What comparators see of an occurrence that may differ from what they see of its event.
 ghost use Rattle.std.specs.Prelude.{◌≡◌, IfOk, true, unwrap_or, pos};
+ghost use Rattle.expanded_query.specs.OwnTitles.{title_or};
 ghost use Rattle.jiff_tz.specs.PosixText.{tz_view};
 ghost use Rattle.spec_json.specs.Parts.{members_in};
 ghost use Rattle.spec_json.specs.TreeData.{data_of};
-ghost use Rattle.spec_queries.specs.Expanded.{item_of_occurrence, title_at, title_in};
+ghost use Rattle.spec_queries.specs.Expanded.{title_at, title_in};
 ghost use Rattle.spec_recurrence.specs.Overrides.{occurrence_in};
 ghost use Rattle.spec_time.specs.LocalTimes.{local_text};
 ghost use Rattle.spec_time.specs.Walls.{is_in_years};
@@ -12,38 +13,16 @@ ghost use Rattle.spec_windows.specs.Clocks.{instant_in};
 use event_model::occurrence::override_at;
 use jiff_tz::posix::TimeZone;
 use overrides::occurrence::occurrence_tree;
-use query_methods::item::{text_or_empty, utc_moment};
+use query_methods::item::text_or_empty;
 use spec_json::text::Text;
 use spec_json::tree::{Tree, TreeObject};
-use spec_queries::item::Item;
-use spec_series::occurrence::Occurrence;
 use spec_time::wall::Wall;
 use std::alloc::{AllocError, Global};
 use time_text::local_text;
 use zone_instants::instant;
 
-/// What comparators see of an occurrence of an event whose zone has this rule. Takes memory for its uid and title.
-pub(crate) fn item_of_occurrence(
-    alloc: Global,
-    event: &Tree,
-    rule: &TimeZone,
-    occurrence: &Occurrence,
-) -> Result<Item, AllocError>
-    requires { is_in_years occurrence.now.rid ≡ true }
-    ensures { IfOk result (λ item. item ≡ item_of_occurrence (instant_in (tz_view rule.now)) (data_of event.now) occurrence.now) }
-{
-    let uid = text_or_empty(alloc, event, "uid")?;
-    let title = title_of(alloc, event, occurrence.rid)?;
-    Ok(Item {
-        start: start_instant(rule, occurrence.start),
-        uid,
-        title,
-        created: utc_moment(event, "created"),
-        updated: utc_moment(event, "updated"),
-    })
-}
-
-fn start_instant(rule: &TimeZone, start: Wall) -> i64
+/// The moment at which an occurrence starts whose event's zone has this rule, in seconds of UTC from 1970. Takes no memory.
+pub(crate) fn start_instant(rule: &TimeZone, start: Wall) -> i64
     ensures { result ≡ unwrap_or (instant_in (tz_view rule.now) start) (pos 0) }
 {
     match instant(rule, start) {
@@ -52,29 +31,36 @@ fn start_instant(rule: &TimeZone, start: Wall) -> i64
     }
 }
 
-// The title of the occurrence with a recurrence id.
+/// The title of the occurrence with a recurrence id, where an override names it; else it has that of the event. Takes memory for it.
 #[tactic(auto, using(crate::proofs::TitleLemmas::no_overrides))]
-fn title_of(alloc: Global, event: &Tree, rid: Wall) -> Result<Text, AllocError>
+pub(crate) fn own_title(
+    alloc: Global,
+    event: &Tree,
+    rid: Wall,
+) -> Result<Option<Box<Text>>, AllocError>
     requires { is_in_years rid ≡ true }
-    ensures { IfOk result (λ title. title ≡ title_at (local_text rid) (data_of event.now)) }
+    ensures { IfOk result (λ own. title_or (data_of event.now) own ≡ title_at (local_text rid) (data_of event.now)) }
 {
     match event.get("recurrenceOverrides") {
         Some(_) => {
             let key = local_text(alloc, rid)?;
-            title_at(alloc, event, &key)
+            own_title_at(alloc, event, &key)
         }
-        None => text_or_empty(alloc, event, "title"),
+        None => Ok(None),
     }
 }
 
 // The same by the LocalDateTime of the recurrence id. The object of the occurrence is made only where an override names it.
 #[tactic(auto, using(crate::proofs::TitleLemmas::own_title, crate::proofs::TitleLemmas::title_patched))]
-fn title_at(alloc: Global, event: &Tree, key: &Text) -> Result<Text, AllocError>
-    ensures { IfOk result (λ title. title ≡ title_at key.now (data_of event.now)) }
+fn own_title_at(alloc: Global, event: &Tree, key: &Text) -> Result<Option<Box<Text>>, AllocError>
+    ensures { IfOk result (λ own. title_or (data_of event.now) own ≡ title_at key.now (data_of event.now)) }
 {
     match override_at(event, key) {
-        Some(patch) => patched_title(alloc, event, key, patch),
-        None => text_or_empty(alloc, event, "title"),
+        Some(patch) => {
+            let title = patched_title(alloc, event, key, patch)?;
+            Ok(Some(Box::new(alloc, title)?))
+        }
+        None => Ok(None),
     }
 }
 

@@ -6,7 +6,10 @@ ghost use Rattle.spec_history.specs.History.{changes_of};
 ghost use Rattle.spec_queries.specs.Queries.{occurrences_asked, query_refusal, query_response};
 ghost use Rattle.query_methods.specs.Reports.{Reports};
 
-use crate::found::{expanded_ids, found};
+use crate::all_found::all_found;
+use crate::found::found;
+use crate::order::in_order;
+use crate::sources::sources;
 use crate::terms::read_terms;
 use event_store::StoredEvents;
 use query_methods::error::QueryError;
@@ -18,7 +21,8 @@ use std::alloc::Global;
 /// The arguments of the reply to a query of the events of an account, each of whose occurrences is a result of its own. `Method` tells why
 /// it is refused.
 ///
-/// Takes memory for the ids and the items of all results. Time grows with the number of events and with that of the results.
+/// Takes memory for all results, some 60 bytes for each and for a title where an override names it, and for the ids that are told. Time
+/// grows with the number of events and with that of the results.
 pub fn expanded_query(
     alloc: Global,
     events: &StoredEvents<'_>,
@@ -33,6 +37,8 @@ pub fn expanded_query(
         return Err(QueryError::Method(MethodError::InvalidArguments));
     }
     let terms = read_terms(alloc, events.zones, criteria)?;
-    let ids = expanded_ids(alloc, events, &terms.sight, &terms.order)?;
-    found(alloc, events, &ids, paging)
+    let sources = sources(alloc, events, &terms.sight)?;
+    let all = all_found(alloc, &sources, terms.sight.window())?;
+    let results = in_order(alloc, &all, &terms.order)?;
+    found(alloc, events, &results, paging)
 }

@@ -1,26 +1,23 @@
 //! What a query sees of events whose occurrences are results.
-ghost use Rattle.std.specs.Prelude.{◌≡◌, ◌++◌, All, IfOk, OnOk, Some, map, option_map, true, unwrap_or};
+ghost use Rattle.std.specs.Prelude.{◌≡◌, IfOk, Some, flat_map, option_map, unwrap_or};
 ghost use Rattle.event_store.specs.StoredEvents.{HasItsSeries};
 ghost use Rattle.jiff_tz.specs.PosixText.{tz_view};
-ghost use Rattle.spec_filters.specs.Matches.{instants_asked};
-ghost use Rattle.spec_json.specs.Parts.{members_in};
+ghost use Rattle.occurrence_windows.specs.Bounds.{AreNear};
+ghost use Rattle.expanded_query.specs.Founds.{given_by};
+ghost use Rattle.spec_json.specs.Parts.{some_of};
 ghost use Rattle.spec_json.specs.TreeData.{data_of};
-ghost use Rattle.spec_queries.specs.Expanded.{occurrence_result, results_by};
-ghost use Rattle.spec_time.specs.Walls.{is_in_years};
-ghost use Rattle.spec_windows.specs.Clocks.{instant_in};
+ghost use Rattle.spec_queries.specs.Expanded.{results_by};
 ghost use Rattle.spec_windows.specs.ZoneRules.{rule_of, utc_rule};
+ghost use Rattle.spec_windows.specs.declared.window.Window.{Window};
 
-use crate::id::result_id;
-use crate::item::item_of_occurrence;
-use crate::matches::Matches;
-use crate::occurrences::occurrences_overlapping;
+use crate::source::Source;
 use event_store::StoredEvent;
 use jiff_tz::posix::TimeZone;
 use query_filter::{Filter, ZonedFilter};
 use spec_json::text::Text;
 use spec_json::tree::Tree;
-use spec_series::occurrence::Occurrence;
 use spec_series::series::Series;
+use spec_windows::window::Window;
 use std::alloc::{AllocError, Global};
 use zone_instants::rule_of_event;
 use zone_table::Zones;
@@ -35,7 +32,7 @@ pub(crate) struct OccurrenceSight<'a> {
 }
 
 impl<'a> OccurrenceSight<'a> {
-    ghost use Rattle.expanded_query.specs.Sights.{gives, looks_for};
+    ghost use Rattle.expanded_query.specs.Sights.{gives, looks_for, window_of};
 
     /// What is seen by a filter whose zone has this rule. Takes memory for folded texts.
     pub(crate) fn new(
@@ -56,70 +53,49 @@ impl<'a> OccurrenceSight<'a> {
         })
     }
 
-    /// Adds what the event of a number gives: its occurrences that overlap the window, where the filter holds of it.
-    pub(crate) fn add(
+    /// The window between the times of the filter. Takes no memory.
+    pub(crate) fn window(&self) -> Window
+        ensures value { result ≡ window_of self.now }
+        ensures near { AreNear result }
+    {
+        self.filter.window()
+    }
+
+    /// The event of a number, where its occurrences are results. Takes memory for folded texts.
+    pub(crate) fn source<'b>(
         &self,
         alloc: Global,
         number: u64,
-        event: &StoredEvent<'_>,
-        matches: &mut Matches,
-    ) -> Result<(), AllocError>
+        event: &StoredEvent<'b>,
+    ) -> Result<Option<Source<'b>>, AllocError>
         requires { HasItsSeries self.now.zones.now event.now }
-        ensures ids { OnOk result (matches.new.ids.items ≡ matches.old.ids.items ++ map (λ p. p.0) (gives self.now number (data_of event.now.object.now))) }
-        ensures items { OnOk result (matches.new.items.items ≡ matches.old.items.items ++ map (λ p. p.1) (gives self.now number (data_of event.now.object.now))) }
+        ensures { IfOk result (λ source. flat_map (given_by (window_of self.now)) (some_of source) ≡ gives self.now number (data_of event.now.object.now)) }
     {
         let object = event.object;
         let series = event.series;
         if !self.filter.may_match(series) {
-            return Ok(());
+            return Ok(None);
         }
         let rule = rule_of_event(self.zones, self.floating, object);
         if self.filter.matches(alloc, object, series, rule.as_ref())? {
-            self.add_overlapping(alloc, number, object, series, rule.as_ref(), matches)
+            Ok(source_of(number, object, series, rule))
         } else {
-            Ok(())
+            Ok(None)
         }
-    }
-
-    // Adds the occurrences that overlap the window, by the series of the event and the rule of its zone.
-    fn add_overlapping(
-        &self,
-        alloc: Global,
-        number: u64,
-        event: &Tree,
-        series: Option<&Series>,
-        rule: Option<&TimeZone>,
-        matches: &mut Matches,
-    ) -> Result<(), AllocError>
-        ensures ids { OnOk result (matches.new.ids.items ≡ matches.old.ids.items ++ map (λ p. p.0) (results_by (option_map (λ s. s.now) series.entry) (option_map (λ r. tz_view r.now) rule.entry) (instants_asked self.now.filter.clock (members_in self.now.filter.filter)) number (data_of event.now))) }
-        ensures items { OnOk result (matches.new.items.items ≡ matches.old.items.items ++ map (λ p. p.1) (results_by (option_map (λ s. s.now) series.entry) (option_map (λ r. tz_view r.now) rule.entry) (instants_asked self.now.filter.clock (members_in self.now.filter.filter)) number (data_of event.now))) }
-    {
-        let (Some(series), Some(rule)) = (series, rule) else {
-            return Ok(());
-        };
-        let occurrences = occurrences_overlapping(alloc, series, rule, self.filter.window())?;
-        add_occurrences(alloc, number, event, rule, &occurrences, matches)
     }
 }
 
-// Adds occurrences of an event whose zone has this rule.
-fn add_occurrences(
-    alloc: Global,
+// An event with its series and the rule of its zone, where it has both.
+fn source_of<'a>(
     number: u64,
-    event: &Tree,
-    rule: &TimeZone,
-    occurrences: &[Occurrence],
-    matches: &mut Matches,
-) -> Result<(), AllocError>
-    requires { All (λ o. is_in_years o.rid ≡ true) occurrences.now }
-    ensures ids { OnOk result (matches.new.ids.items ≡ matches.old.ids.items ++ map (λ p. p.0) (map (occurrence_result (instant_in (tz_view rule.now)) number (data_of event.now)) occurrences.now)) }
-    ensures items { OnOk result (matches.new.items.items ≡ matches.old.items.items ++ map (λ p. p.1) (map (occurrence_result (instant_in (tz_view rule.now)) number (data_of event.now)) occurrences.now)) }
+    event: &'a Tree,
+    series: Option<&'a Series>,
+    rule: Option<TimeZone>,
+) -> Option<Source<'a>>
+    ensures { (w : Window) → flat_map (given_by w) (some_of result) ≡ results_by (option_map (λ s. s.now) series.entry) (option_map tz_view rule) w number (data_of event.now) }
 {
-    for occurrence in occurrences {
-        let id = result_id(alloc, number, event, occurrence.rid)?;
-        let item = item_of_occurrence(alloc, event, rule, occurrence)?;
-        matches.ids.push(id)?;
-        matches.items.push(item)?;
+    match (series, rule) {
+        (Some(series), Some(rule)) => Some(Source::new(number, event, series, rule)),
+        _ => None,
     }
-    Ok(())
 }

@@ -41,6 +41,13 @@ impl Order {
         self.comparators.is_empty()
     }
 
+    /// The comparators, in their order. Takes no memory.
+    pub fn comparators(&self) -> &[Comparator]
+        ensures { result.now ≡ self.now }
+    {
+        &self.comparators
+    }
+
     /// How two items stand to each other: `Equal` where no comparator tells them apart. Takes no memory.
     pub fn compare(&self, a: &Item, b: &Item) -> Ordering
         ensures { result ≡ by_all self.now a.now b.now }

@@ -1,0 +1,40 @@
+-- What occurrences stand for as results, by their events.
+use Rattle.std.specs.Prelude.{ℕ, List, Some}
+use Rattle.std.specs.Option.{option_map_or}
+use Rattle.expanded_query.specs.declared.found_occurrence.FoundOccurrence.{FoundOccurrence}
+use Rattle.expanded_query.specs.declared.ranked.Ranked.{Ranked}
+use Rattle.expanded_query.specs.declared.source.Source.{Source}
+use Rattle.jiff_tz.specs.PosixText.{tz_view}
+use Rattle.spec_json.specs.TreeData.{data_of}
+use Rattle.spec_queries.specs.Expanded.{result_id, results_by}
+use Rattle.spec_queries.specs.declared.item.Item.{Item}
+use Rattle.spec_windows.specs.declared.window.Window.{Window}
+
+-- what an event gives: its occurrences that overlap the window
+abbrev pub given_by : Window → Source → List (List ℕ × Item)
+given_by w s = results_by (Some s.series.now) (Some (tz_view s.rule)) w s.number (data_of s.event.now)
+
+abbrev pub title_of : FoundOccurrence → List ℕ
+title_of f = option_map_or (λ b. b.value) f.title f.source.now.title.now
+
+abbrev pub item_of : FoundOccurrence → Item
+item_of f = record {
+  start = f.start;
+  uid = f.source.now.uid.now;
+  title = title_of f;
+  created = f.source.now.created;
+  updated = f.source.now.updated;
+}
+
+abbrev pub id_of : FoundOccurrence → List ℕ
+id_of f = result_id f.source.now.number (data_of f.source.now.event.now) f.rid
+
+abbrev pub result_of : FoundOccurrence → List ℕ × Item
+result_of f = (id_of f, item_of f)
+
+-- of one at its place
+abbrev pub id_at : Ranked → List ℕ
+id_at r = id_of r.found.now
+
+abbrev pub result_at : Ranked → List ℕ × Item
+result_at r = result_of r.found.now
