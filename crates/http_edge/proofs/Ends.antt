@@ -5,8 +5,8 @@ use Rattle.std.proofs.lemmas.List.{take_min, take-append-le, length-take}
 use Rattle.std.proofs.lemmas.Bool.Decides.{nat_tests}
 use Rattle.spec_http.specs.Heads.{ended, too_long, unended, head_length, head_end, end_at, later}
 use Rattle.http_edge.specs.Searches.{IsSearched, is_last, next_state, search_from}
-use Rattle.http_edge.specs.declared.search.State.{State}
-use Rattle.http_edge.specs.declared.search.State.TheVariants.{Within}
+use Rattle.http_edge.specs.declared.search.SearchState.{SearchState}
+use Rattle.http_edge.specs.declared.search.SearchState.TheVariants.{Within}
 use Rattle.http_edge.proofs.Searching.{search-cons, search_ahead}
 
 -- ---- an end tells what the search found
@@ -46,11 +46,11 @@ found_at : (t : Bool) (o p : Option ℕ) (n : ℕ) → ((m : ℕ) → o ≡ Some
 found_at true o p n ih e = e
 found_at false o p n ih e = let l = later_some o n e in ap later (ih l.0 l.1) ∙ ap Some (sym l.2)
 
-nothing_in : (s : State) (n : ℕ) → search_from s [] ≡ Some n → ⊥
+nothing_in : (s : SearchState) (n : ℕ) → search_from s [] ≡ Some n → ⊥
 unfolding search_from
 nothing_in s n e = cc
 
-search-more : (s : State) (bytes more : List ℕ) (n : ℕ) → search_from s bytes ≡ Some n → search_from s (bytes ++ more) ≡ Some n
+search-more : (s : SearchState) (bytes more : List ℕ) (n : ℕ) → search_from s bytes ≡ Some n → search_from s (bytes ++ more) ≡ Some n
 search-more s [] more n e = absurd (nothing_in s n e)
 search-more s (b ∷ bytes) more n e =
     search-cons s b (bytes ++ more) ∙ found_at (is_last s b) (search_from (next_state s b) bytes) (search_from (next_state s b) (bytes ++ more)) n
@@ -86,7 +86,7 @@ within_at : (t : Bool) (o : Option ℕ) (n k : ℕ) → ((m : ℕ) → o ≡ Som
 within_at true o n k ih e = let one : 1 ≡ n = cc in omega (arith, one)
 within_at false o n k ih e = let l = later_some o n e in let h = ih l.0 l.1 in let q = l.2 in omega (arith, h, q)
 
-search-within : (s : State) (bytes : List ℕ) (n : ℕ) → search_from s bytes ≡ Some n → n ≤ length bytes
+search-within : (s : SearchState) (bytes : List ℕ) (n : ℕ) → search_from s bytes ≡ Some n → n ≤ length bytes
 search-within s [] n e = absurd (nothing_in s n e)
 search-within s (b ∷ bytes) n e =
     within_at (is_last s b) (search_from (next_state s b) bytes) n (length bytes) (λ m h. search-within (next_state s b) bytes m h) (sym (search-cons s b bytes) ∙ e)
@@ -103,7 +103,7 @@ nothing_unended = refl
 
 -- ---- what a search of the first bytes says of the end
 
-pub open_none : (p : List ℕ) (s : State) → IsSearched p s → head_length p ≡ None
+pub open_none : (p : List ℕ) (s : SearchState) → IsSearched p s → head_length p ≡ None
 unfolding search_from
 open_none p s h = ap head_length (sym (append-nil p)) ∙ h []
 

@@ -5,7 +5,7 @@ use Rattle.io_edge.specs.Outside.{Rose, SourceShown}
 use Rattle.http_edge.specs.Reading.{AskedWhile, Took, StopCause}
 use Rattle.std.proofs.lemmas.List.{take-append-le}
 use Rattle.http_edge.specs.Searches.{IsSearched}
-use Rattle.http_edge.specs.declared.search.State.{State}
+use Rattle.http_edge.specs.declared.search.SearchState.{SearchState}
 use Rattle.http_edge.specs.declared.kept.Stop.{Stop}
 use Rattle.http_edge.specs.declared.kept.Stop.TheVariants.{Ended, Failed, NoMemory}
 
@@ -35,7 +35,7 @@ asked_for Such most {s} {t} {u} {old} {mid} {kept} one two few such =
     inr (one.taken, two.taken, two.grown ∙ ap (λ l. l ++ two.taken) one.grown, omega (arith, size, few), subst Such one.grown such)
 
 -- what was searched is searched still when more bytes have come
-pub searched_still : {s t : SourceShown} (kept slice kept' : List ℕ) (searched : ℕ) (state : State) → slice ≡ kept → Took s t kept kept' → searched ≤ length kept → IsSearched (take searched slice) state → IsSearched (take searched kept') state
+pub searched_still : {s t : SourceShown} (kept slice kept' : List ℕ) (searched : ℕ) (state : SearchState) → slice ≡ kept → Took s t kept kept' → searched ≤ length kept → IsSearched (take searched slice) state → IsSearched (take searched kept') state
 searched_still kept slice kept' searched state is took within found =
     let same : take searched slice ≡ take searched kept' = ap (take searched) is ∙ (sym (take-append-le searched kept took.taken within) ∙ ap (take searched) (sym took.grown)) in
     subst (λ (l : List ℕ). IsSearched l state) same found

@@ -6,7 +6,7 @@ ghost use Rattle.http_edge.specs.Reading.{AskedWhile, GivesNext, StopCause, Took
 use crate::head::{HeadError, read_head};
 use crate::kept::{Kept, Stop};
 use crate::message::{Message, take_message};
-use crate::search::{Search, State, go_on};
+use crate::search::{Search, SearchState, go_on};
 use io_edge::source::Source;
 use spec_core::limits::MAX_SIZE_REQUEST;
 use spec_http::limits::{MAX_HEAD, PIECE};
@@ -90,7 +90,7 @@ fn find_head<S: Source>(
     ensures stop { IfErr result (λ stop. (head_end kept.new ≡ unended) × StopCause (S.shown source.old) (S.shown source.new) stop) }
 {
     let mut searched = 0;
-    let mut state = State::Within;
+    let mut state = SearchState::Within;
     loop {
         let prefix = kept.as_slice().len().min(MAX_HEAD);
         match go_on(&kept.as_slice()[..prefix], searched, state, looked) {

@@ -1,10 +1,10 @@
 //! Where a head ends, found piece by piece.
 ghost use Rattle.std.specs.Prelude.{◌≤◌, ◌<◌, ◌≡◌, ◌+◌, ◌-◌, length, take, true, false, IfSome, IfNone};
-ghost use Rattle.http_edge.specs.Searches.{IsSearched, Finds, is_last, next_state};
+ghost use Rattle.http_edge.specs.Searches.{IsSearched, FindsEnd, is_last, next_state};
 
 /// Where a search stands between two bytes.
 #[derive(Clone, Copy)]
-pub enum State {
+pub enum SearchState {
     Within,
     AfterFeed,
     AfterReturn,
@@ -16,15 +16,15 @@ pub enum Search {
     /// A head of so many bytes.
     Ended(usize),
     /// No head ends in the bytes.
-    Open(State),
+    Open(SearchState),
 }
 
 /// Goes on with a search behind the first `from` bytes. `looked` counts the bytes that are looked at: of those behind them none twice.
-pub fn go_on(bytes: &[u8], from: usize, state: State, looked: &mut usize) -> Search
+pub fn go_on(bytes: &[u8], from: usize, state: SearchState, looked: &mut usize) -> Search
     requires within { from ≤ length bytes.now }
     requires searched { IsSearched (take from bytes.now) state }
     requires countable { looked.old + (length bytes.now - from) ≤ usize.MAX }
-    ensures finds { Finds bytes.now result }
+    ensures finds { FindsEnd bytes.now result }
     ensures once { (looked.old ≤ looked.new) × (looked.new + from ≤ looked.old + length bytes.now) }
 {
     let mut state = state;
@@ -38,7 +38,7 @@ pub fn go_on(bytes: &[u8], from: usize, state: State, looked: &mut usize) -> Sea
 }
 
 // The state behind one more byte, which is counted, or `None` where the byte is the last of a head.
-fn step(state: State, byte: u8, looked: &mut usize) -> Option<State>
+fn step(state: SearchState, byte: u8, looked: &mut usize) -> Option<SearchState>
     requires { looked.old < usize.MAX }
     ensures counted { looked.new ≡ looked.old + 1 }
     ensures last { IfNone result (is_last state byte ≡ true) }
@@ -46,27 +46,27 @@ fn step(state: State, byte: u8, looked: &mut usize) -> Option<State>
 {
     *looked += 1;
     match state {
-        State::Within => {
+        SearchState::Within => {
             if byte == b'\n' {
-                Some(State::AfterFeed)
+                Some(SearchState::AfterFeed)
             } else {
-                Some(State::Within)
+                Some(SearchState::Within)
             }
         }
-        State::AfterFeed => {
+        SearchState::AfterFeed => {
             if byte == b'\n' {
                 None
             } else if byte == b'\r' {
-                Some(State::AfterReturn)
+                Some(SearchState::AfterReturn)
             } else {
-                Some(State::Within)
+                Some(SearchState::Within)
             }
         }
-        State::AfterReturn => {
+        SearchState::AfterReturn => {
             if byte == b'\n' {
                 None
             } else {
-                Some(State::Within)
+                Some(SearchState::Within)
             }
         }
     }

@@ -1,9 +1,10 @@
 -- Splices put in order, and a change leads from an old result to a new one.
-use Rattle.std.proofs.Common.{◌≡◌, ℕ, ◌+◌, ◌<◌, ◌≤◌, ◌==◌, List, [], ◌∷◌, ◌++◌, Bool, true, false, true≢false, cond, not, ◌&&◌, ◌||◌, length, filter, min, insert, refl, sym, ap, ◌∙◌, arith, append_assoc, append-nil, length-append}
-use Rattle.std.proofs.Common.{eqb-true, eq-eqb}
+use Rattle.std.proofs.Common.{◌≡◌, ℕ, ◌+◌, ◌<◌, ◌≤◌, ◌==◌, List, [], ◌∷◌, ◌++◌, Bool, true, false, cond, not, ◌&&◌, ◌||◌, length, filter, min, insert, refl, sym, ap, ◌∙◌, arith, append_assoc, append-nil, length-append}
+use Rattle.std.proofs.Common.{eq-eqb}
 use Rattle.std.proofs.lemmas.List.Edits.{insert-append_left, insert_end}
 use Rattle.std.proofs.lemmas.Bool.{or_right}
 use Rattle.spec_queries.specs.declared.delta.Place.{Place}
+use Rattle.spec_history.proofs.IdLemmas.{is_in-filter}
 use Rattle.spec_history.specs.Pages.{is_in}
 use Rattle.spec_queries.specs.QueryChanges.{indexed, with_places}
 use Rattle.spec_queries.specs.QueryChangesLead.{Lead, StandAlike}
@@ -27,33 +28,12 @@ kept_same xs ys ids e = ap (λ h. filter (λ id. not (h id)) ids) e
 
 -- a change leads from the old result to the new one
 
--- whether an id is among those of a list that pass, for one more of the list
-table : (a b c d : Bool) → (a ≡ true → b ≡ c) → cond b (a || (d && c)) (d && c) ≡ ((a || d) && c)
-table true true true d g = refl
-table true true false d g = absurd (true≢false (g refl))
-table true false true d g = absurd (true≢false (sym (g refl)))
-table true false false true g = refl
-table true false false false g = refl
-table false true c d g = refl
-table false false c d g = refl
-
-has_cond : (b : Bool) (y : ℕ) (ys : List ℕ) (id : ℕ) → is_in (cond b (y ∷ ys) ys) id ≡ cond b ((y == id) || is_in ys id) (is_in ys id)
-has_cond true y ys id = refl
-has_cond false y ys id = refl
-
-has_filter : (test : ℕ → Bool) (ys : List ℕ) (id : ℕ) → is_in (filter test ys) id ≡ (is_in ys id && test id)
-has_filter test [] id = refl
-has_filter test (y ∷ ys) id =
-    has_cond (test y) y (filter test ys) id
-    ∙ ap (λ e. cond (test y) ((y == id) || e) e) (has_filter test ys id)
-    ∙ table (y == id) (test y) (test id) (is_in ys id) (λ e. ap test (eqb-true y id e))
-
 -- what is left without those that pass, taken from a longer list, are those that don't pass
 pub left_out : (test : ℕ → Bool) (all ids : List ℕ) → ((id : ℕ) → is_in ids id ≡ true → is_in all id ≡ true) → filter (λ id. not (is_in (filter test all) id)) ids ≡ filter (λ id. not (test id)) ids
 left_out test all [] h = refl
 left_out test all (x ∷ xs) h =
     let there : is_in all x ≡ true = h x (ap (λ t. t || is_in xs x) (eq-eqb x x refl)) in
-    let same : is_in (filter test all) x ≡ test x = has_filter test all x ∙ ap (λ t. t && test x) there in
+    let same : is_in (filter test all) x ≡ test x = is_in-filter test all x ∙ ap (λ t. t && test x) there in
     ap (λ t. cond (not t) (x ∷ filter (λ id. not (is_in (filter test all) id)) xs) (filter (λ id. not (is_in (filter test all) id)) xs)) same
     ∙ ap (λ l. cond (not (test x)) (x ∷ l) l) (left_out test all xs (λ id p. h id (or_right (x == id) (is_in xs id) p)))
 

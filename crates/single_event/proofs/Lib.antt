@@ -1,2 +1,1 @@
-mod DepthLemmas
 pub mod TimeLemmas

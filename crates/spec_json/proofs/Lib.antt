@@ -10,3 +10,5 @@ pub mod MergeLemmas
 pub mod MemberLemmas
 pub mod SameLists
 pub mod InOrderLemmas
+mod DepthLemmas
+pub mod TreeBack

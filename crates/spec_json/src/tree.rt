@@ -4,6 +4,7 @@ ghost use Rattle.spec_json.specs.Data.{items_of, members_of};
 ghost use Rattle.spec_json.specs.SameData.{same_items, same_members};
 ghost use Rattle.spec_json.specs.TreeData.{data_of, pair_of};
 
+pub mod depth;
 mod edit;
 pub mod merge;
 mod place;

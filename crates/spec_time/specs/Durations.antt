@@ -4,6 +4,7 @@ use Rattle.std.specs.Char.{is_ascii_digit}
 use Rattle.std.specs.List.{list_all}
 use Rattle.std.specs.Option.{option_or}
 use Rattle.spec_json.specs.Number.{value_of_digits}
+use Rattle.spec_time.specs.Walls.{hour_seconds}
 use Rattle.spec_time.specs.declared.length.Length.{Length}
 
 -- as short as every length that is read
@@ -65,7 +66,7 @@ abbrev pub dur_minute : Form
 dur_minute = followed_by (part 77 (λ n. length_of 0 (60 * n))) (or_nothing dur_second)
 
 abbrev pub dur_hour : Form
-dur_hour = followed_by (part 72 (λ n. length_of 0 (3600 * n))) (or_nothing (either dur_minute dur_second))
+dur_hour = followed_by (part 72 (λ n. length_of 0 (hour_seconds * n))) (or_nothing (either dur_minute dur_second))
 
 -- `T`, and then hours, minutes and seconds
 abbrev pub dur_time : Form

@@ -2,7 +2,7 @@
 use Rattle.std.specs.Prelude.{◌≤ℤ◌, ℕ, ℤ, pos, List, [], ◌∷◌, ◌++◌, ◌+◌, ◌*◌, ◌/◌, ◌%◌, ◌&&◌, Bool, Option, Some, None, option_and_then, option_map, codes, nat_le, nat_lt, unsigned_abs, if◌then◌else◌}
 use Rattle.spec_time.specs.CivilDay.{day_number, day_of_month, month_length, month_of, year_of}
 use Rattle.spec_time.specs.Forms.{fits_form, pair_at, two}
-use Rattle.spec_time.specs.Walls.{day_of_wall, second_of_wall, wall_at}
+use Rattle.spec_time.specs.Walls.{day_of_wall, hour_seconds, second_of_wall, wall_at}
 
 -- the calendar has this date (RFC 3339 section 5.7)
 abbrev pub is_date : ℕ → ℕ → ℕ → Bool
@@ -14,7 +14,7 @@ day_in y m d = if is_date y m d then Some (day_number (pos y) m d) else None
 
 -- hours, minutes and seconds as seconds
 abbrev pub seconds_of_clock : ℕ → ℕ → ℕ → ℕ
-seconds_of_clock h m s = 3600 * h + 60 * m + s
+seconds_of_clock h m s = hour_seconds * h + 60 * m + s
 
 -- the second of the day, none where there is no such time of day
 abbrev pub second_in : ℕ → ℕ → ℕ → Option ℕ
@@ -53,7 +53,7 @@ abbrev pub date_text : ℕ → ℕ → ℕ → List ℕ
 date_text y m d = two (y / 100) ++ two (y % 100) ++ 45 ∷ two m ++ 45 ∷ two d
 
 abbrev pub clock_text : ℕ → List ℕ
-clock_text s = two (s / 3600) ++ 58 ∷ two (s / 60 % 60) ++ 58 ∷ two (s % 60)
+clock_text s = two (s / hour_seconds) ++ 58 ∷ two (s / 60 % 60) ++ 58 ∷ two (s % 60)
 
 -- the LocalDateTime of a wall second
 abbrev pub local_text : ℤ → List ℕ

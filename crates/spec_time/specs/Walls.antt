@@ -2,6 +2,10 @@
 use Rattle.std.specs.Prelude.{ℕ, ℤ, pos, negsuc, int_le, ◌+ℤ◌, ◌*ℤ◌, ◌&&◌, Bool}
 use Rattle.spec_time.specs.Floor.{floor_div, modulo}
 
+-- the seconds of an hour
+abbrev pub hour_seconds : ℕ
+hour_seconds = 3600
+
 -- the day of a wall second
 abbrev pub day_of_wall : ℤ → ℤ
 day_of_wall w = floor_div w 86400

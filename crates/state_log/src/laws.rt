@@ -1,7 +1,7 @@
 //! The laws of pages, each the contract of a function that does nothing.
-ghost use Rattle.std.specs.Prelude.{◌≡◌, ◌≤◌, ◌<◌, ℕ, List, Option, Some, true, length, is_some, take, filter};
-ghost use Rattle.spec_history.specs.History.{ids_at, is_kind, live_object, count_of_kind};
-ghost use Rattle.spec_history.specs.Pages.{Mention, ids_of, is_live, is_within, mentions, page_end, size_of_page};
+ghost use Rattle.std.specs.Prelude.{◌≡◌, ◌≤◌, ◌<◌, ℕ, List, Option, Some, true, length, is_some, option_and_then, take, filter};
+ghost use Rattle.spec_history.specs.History.{ids_at, is_kind, live_object, names, count_of_kind};
+ghost use Rattle.spec_history.specs.Pages.{Mention, ids_of, is_live, is_within, last, mentions, page_end, size_of_page};
 ghost use Rattle.spec_history.specs.PagesLead.{AreApart, held_after_all, last_state};
 ghost use Rattle.spec_history.specs.declared.entry.Change.{Change};
 ghost use Rattle.spec_history.specs.declared.entry.Kind.{Kind};
@@ -24,8 +24,10 @@ pub fn pages_are_longest()
     ensures longest { (ms : List Mention) (k : ℕ) (most : Option ℕ) (j : ℕ) → k < j → j ≤ length ms → is_within most (size_of_page ms k j) ≡ true → j ≤ page_end ms k most }
 {}
 
-/// What pages call live at the state of a kind are the objects of the history, and their ids are those of the history. Takes no memory.
+/// The object of a number is that of the last change that names it. What pages call live at the state of a kind are the objects of the
+/// history; their ids are the different numbers of the kind, in the order in which changes first name them. Takes no memory.
 pub fn states_show_objects()
+    ensures objects { (cs : List Change) (kind : Kind) (id : ℕ) → live_object cs kind id ≡ option_and_then (λ c. c.object) (last (filter (names kind id) cs)) }
     ensures live { (cs : List Change) (kind : Kind) (id : ℕ) → is_live (mentions kind cs) (count_of_kind cs kind) id ≡ is_some (live_object cs kind id) }
     ensures ids { (cs : List Change) (kind : Kind) → ids_of (mentions kind cs) ≡ ids_at cs kind }
     ensures state { (cs : List Change) (kind : Kind) → length (mentions kind cs) ≡ count_of_kind cs kind }

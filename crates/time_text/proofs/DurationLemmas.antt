@@ -10,7 +10,7 @@ use borrow.Author.Tests.{eqb-true}
 use Rattle.spec_json.specs.Number.{value_of_digits}
 use Rattle.spec_time.specs.Durations.{Form, all_but_last, after_letter, together, dur_day, dur_hour, dur_minute, dur_second, dur_time, dur_week, duration_in, either, followed_by, is_number, is_part, length_of, or_nothing, part}
 use Rattle.spec_time.specs.declared.length.Length.{Length}
-use Rattle.time_text.specs.DurationParts.{amount, behind_part, clock_in, digits_first, has_part, parts_in, parts_read, seconds_in}
+use Rattle.time_text.specs.DurationParts.{amount, behind_part, clock_in, digits_first, duration_by_parts, has_part, parts_in, seconds_in}
 
 by_bool : {Q : Type 0} (b : Bool) → (b ≡ true → Q) → (b ≡ false → Q) → Q
 by_bool true f g = f refl
@@ -359,7 +359,7 @@ parts_are s =
     ∙ sum_of_days (seconds_in (w || has_part 68 behind_weeks) (behind_part 68 behind_weeks)) (amount 87 s) (amount 68 behind_weeks)
 
 -- what is read part by part is what the grammar names
-pub duration_is : (s : List ℕ) → duration_in s ≡ parts_read s
+pub duration_is : (s : List ℕ) → duration_in s ≡ duration_by_parts s
 unfolding duration_in
 duration_is [] = refl
 duration_is (b ∷ bs) = by_bool (b == 80) (λ e. rw e (parts_are bs)) (λ e. rw e refl)

@@ -11,7 +11,7 @@ use Rattle.spec_history.specs.States.{hyphen, state_in_generation, state_text}
 use Rattle.spec_history.specs.declared.state.State.{State}
 use Rattle.spec_json.specs.Number.{number_in}
 use Rattle.time_text.proofs.NumberLemmas.{decimal_back, own}
-use Rattle.time_text.specs.State.{joined, state_in, unsigned_in, up_to_unsigned}
+use Rattle.time_text.specs.State.{state_in, state_with, unsigned_in, up_to_unsigned}
 
 abbrev is_hyphen : ℕ → Bool
 is_hyphen b = b == hyphen
@@ -62,10 +62,10 @@ unsigned_small : (o : Option ℕ) (k : ℕ) → option_and_then up_to_unsigned o
 unsigned_small None k e = cc
 unsigned_small (Some n) k e = small_of n k e
 
-joined_small : (g n : Option ℕ) (s : State) → joined g n ≡ Some s → (g ≡ Some s.generation) × (n ≡ Some s.number)
-joined_small None n s e = cc
-joined_small (Some g) None s e = cc
-joined_small (Some g) (Some n) s e = (λ i. option_map_state (λ x. x.generation) (e i), λ i. option_map_state (λ x. x.number) (e i))
+state_with_small : (g n : Option ℕ) (s : State) → state_with g n ≡ Some s → (g ≡ Some s.generation) × (n ≡ Some s.number)
+state_with_small None n s e = cc
+state_with_small (Some g) None s e = cc
+state_with_small (Some g) (Some n) s e = (λ i. option_map_state (λ x. x.generation) (e i), λ i. option_map_state (λ x. x.number) (e i))
   where
     option_map_state : (State → ℕ) → Option State → Option ℕ
     option_map_state f None = None
@@ -75,6 +75,6 @@ joined_small (Some g) (Some n) s e = (λ i. option_map_state (λ x. x.generation
 pub generation_small : (text : List ℕ) (s : State) → state_in text ≡ Some s → s.generation ≤ MAX_UNSIGNED_INT
 generation_small text s e = at (position is_hyphen text) e
   where
-    at : (place : Option ℕ) → option_and_then (λ k. joined (unsigned_in (take k text)) (unsigned_in (drop (k + 1) text))) place ≡ Some s → s.generation ≤ MAX_UNSIGNED_INT
+    at : (place : Option ℕ) → option_and_then (λ k. state_with (unsigned_in (take k text)) (unsigned_in (drop (k + 1) text))) place ≡ Some s → s.generation ≤ MAX_UNSIGNED_INT
     at None e = cc
-    at (Some k) e = unsigned_small (number_in (take k text)) s.generation (joined_small _ _ s e).0
+    at (Some k) e = unsigned_small (number_in (take k text)) s.generation (state_with_small _ _ s e).0

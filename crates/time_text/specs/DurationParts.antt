@@ -40,6 +40,6 @@ parts_in s =
     option_map (length_of (7 * amount 87 s + amount 68 (behind_part 87 s))) (seconds_in (has_part 87 s || has_part 68 (behind_part 87 s)) (behind_part 68 (behind_part 87 s)))
 
 -- all, behind `P`
-abbrev pub parts_read : List ℕ → Option Length
-parts_read [] = None
-parts_read (b ∷ bs) = if b == 80 then parts_in bs else None
+abbrev pub duration_by_parts : List ℕ → Option Length
+duration_by_parts [] = None
+duration_by_parts (b ∷ bs) = if b == 80 then parts_in bs else None

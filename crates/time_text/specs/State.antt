@@ -12,12 +12,12 @@ up_to_unsigned n = if nat_le n MAX_UNSIGNED_INT then Some n else None
 abbrev pub unsigned_in : List ℕ → Option ℕ
 unsigned_in s = option_and_then up_to_unsigned (number_in s)
 
-abbrev pub joined : Option ℕ → Option ℕ → Option State
-joined generation number = option_and_then (λ g. option_map (state_in_generation g) number) generation
+abbrev pub state_with : Option ℕ → Option ℕ → Option State
+state_with generation number = option_and_then (λ g. option_map (state_in_generation g) number) generation
 
 -- the state that a text names: two numbers below 2^53, the generation first, joined by a hyphen
 abbrev pub state_in : List ℕ → Option State
-state_in s = option_and_then (λ place. joined (unsigned_in (take place s)) (unsigned_in (drop (place + 1) s))) (position (λ b. b == hyphen) s)
+state_in s = option_and_then (λ place. state_with (unsigned_in (take place s)) (unsigned_in (drop (place + 1) s))) (position (λ b. b == hyphen) s)
 
 abbrev pub number_within : ℕ → State → Option ℕ
 number_within generation s = if s.generation == generation then Some s.number else None

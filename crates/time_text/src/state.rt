@@ -1,7 +1,7 @@
 //! States.
 ghost use Rattle.std.specs.Prelude.{◌≡◌, ◌==◌, ◌<◌, IfOk, IfSome, length, position};
 ghost use Rattle.spec_history.specs.States.{hyphen, state_text};
-ghost use Rattle.time_text.specs.State.{joined, number_named, state_in, unsigned_in};
+ghost use Rattle.time_text.specs.State.{number_named, state_in, state_with, unsigned_in};
 
 use crate::number::read_number;
 use spec_core::numbers::MAX_UNSIGNED_INT;
@@ -17,7 +17,7 @@ pub fn read_state(text: &[u8]) -> Option<State>
     ensures { result ≡ state_in text.now }
 {
     let hyphen = place_of_hyphen(text)?;
-    joined(
+    state_with(
         read_unsigned(&text[..hyphen]),
         read_unsigned(&text[hyphen + 1..]),
     )
@@ -30,8 +30,8 @@ fn place_of_hyphen(text: &[u8]) -> Option<usize>
     text.iter().position(|byte| *byte == b'-')
 }
 
-fn joined(generation: Option<u64>, number: Option<u64>) -> Option<State>
-    ensures { result ≡ joined generation number }
+fn state_with(generation: Option<u64>, number: Option<u64>) -> Option<State>
+    ensures { result ≡ state_with generation number }
 {
     Some(State {
         generation: generation?,

@@ -1,7 +1,7 @@
 use Rattle.std.proofs.Common.{◌≡◌, ◌*◌, ◌+◌, drop, map, nat_le}
 use Rattle.spec_json.specs.Data.{items_depth, items_of, members_depth, members_of}
 use Rattle.spec_json.specs.TreeData.{data_of, pair_of}
-use Rattle.single_event.proofs.depth.+nests.Given as goal
+use Rattle.spec_json.proofs.tree.depth.+nests.Given as goal
 
 abbrev pub decreases-nests_within : goal.decreases-nests_within
 decreases-nests_within l = 2 * l.most
