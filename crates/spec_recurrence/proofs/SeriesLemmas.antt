@@ -1,9 +1,10 @@
--- A series is the one that has its parts.
-use Rattle.std.proofs.Common.{◌≡◌, Bool, true, false, Some, length as count, nat_le, refl, ap, arith}
+-- A series is the one that has its parts, and has no others.
+use Rattle.std.proofs.Common.{◌≡◌, Bool, true, false, Some, length as count, nat_le, refl, sym, ap, arith}
 use Rattle.std.proofs.Math.Bool.{Bool-set}
 use Rattle.std.proofs.Math.Bridge.{le_prop}
 use Rattle.std.proofs.lemmas.Bool.{and_from}
 use Rattle.std.proofs.lemmas.Bool.Decides.{nat_tests}
+use Rattle.std.proofs.lemmas.Option.{none-some, same_Some}
 use Rattle.spec_recurrence.specs.SeriesOf.{IsSeries, SeriesParts, is_series, limits_of_series, series_by, series_by_parts, series_parts, series_where}
 use Rattle.spec_series.specs.SeriesLimits.{wall_seconds}
 use Rattle.spec_series.specs.declared.series.Series.{Series}
@@ -37,6 +38,14 @@ is_same s limits = ap (series_by (series_parts s)) (limits_are_one (series_parts
 by_test : (s : Series) (b : Bool) (h : is_series (series_parts s) ≡ b) → b ≡ true → series_where (series_parts s) b h ≡ Some s
 by_test s false h e = cc
 by_test s true h e = ap Some (is_same s (limits_of_series (series_parts s) h))
+
+parts_by : (p : SeriesParts) (b : Bool) (h : is_series p ≡ b) (s : Series) → series_where p b h ≡ Some s → series_parts s ≡ p
+parts_by p false h s e = absurd (none-some s e)
+parts_by p true h s e = ap series_parts (sym (same_Some (series_by p (limits_of_series p h)) s e))
+
+pub parts_back : (p : SeriesParts) (s : Series) → series_by_parts p ≡ Some s → series_parts s ≡ p
+unfolding series_by_parts
+parts_back p s e = parts_by p (is_series p) refl s e
 
 pub series_back : (s : Series) → series_by_parts (series_parts s) ≡ Some s
 unfolding series_by_parts

@@ -7,8 +7,8 @@ use Rattle.std.proofs.lemmas.Bool.{and_parts, leb-true, ltb-true}
 use Rattle.spec_events.specs.Events.{start_in}
 use Rattle.spec_json.specs.Data.{Data, field}
 use Rattle.spec_json.specs.Parts.{all_some}
-use Rattle.spec_series.specs.RuleLimits.{are_by_parts, is_end}
-use Rattle.spec_series.specs.RuleObjects.{RuleParts, rules_in}
+use Rattle.spec_series.specs.RuleLimits.{are_by_parts, are_year_days, is_end, is_skip}
+use Rattle.spec_series.specs.RuleObjects.{RuleParts, fits_frequency, rules_in}
 use Rattle.spec_series.specs.declared.rule.Rule.{Rule}
 
 abbrev pub is_interval : ℕ → Bool
@@ -18,10 +18,13 @@ abbrev pub has_by_parts : RuleParts → Bool
 has_by_parts p = are_by_parts p.frequency p.by_day p.by_month_day p.by_month p.by_set
 
 abbrev pub ends_within : RuleParts → Bool
-ends_within p = has_by_parts p && is_end p.end
+ends_within p = is_end p.end && fits_frequency p
+
+abbrev pub repeats_within : RuleParts → Bool
+repeats_within p = has_by_parts p && ends_within p
 
 abbrev pub weeks_start_within : RuleParts → Bool
-weeks_start_within p = nat_lt p.week_start 7 && ends_within p
+weeks_start_within p = nat_lt p.week_start 7 && repeats_within p
 
 -- the parts keep within the limits of a rule
 abbrev pub is_within_limits : RuleParts → Bool
@@ -33,18 +36,24 @@ pub record IsWithinLimits (p : RuleParts) : Type 0 where
   pub week_start : p.week_start < 7
   pub by_parts : has_by_parts p ≡ true
   pub end : is_end p.end ≡ true
+  pub year_days : are_year_days p.frequency p.by_year_day ≡ true
+  pub skip : is_skip p.skip p.frequency p.by_day p.by_month_day p.by_year_day p.by_set ≡ true
 
 abbrev pub limits_of : (p : RuleParts) → is_within_limits p ≡ true → IsWithinLimits p
 limits_of p fits =
     let first = and_parts (is_interval p.interval) (weeks_start_within p) fits in
     let bounds = and_parts (nat_le 1 p.interval) (nat_le p.interval 1000) first.0 in
-    let second = and_parts (nat_lt p.week_start 7) (ends_within p) first.1 in
-    let third = and_parts (has_by_parts p) (is_end p.end) second.1 in
+    let second = and_parts (nat_lt p.week_start 7) (repeats_within p) first.1 in
+    let third = and_parts (has_by_parts p) (ends_within p) second.1 in
+    let fourth = and_parts (is_end p.end) (fits_frequency p) third.1 in
+    let fifth = and_parts (are_year_days p.frequency p.by_year_day) _ fourth.1 in
     record {
       interval = (leb-true 1 p.interval bounds.0, leb-true p.interval 1000 bounds.1);
       week_start = ltb-true p.week_start 7 second.0;
       by_parts = third.0;
-      end = third.1;
+      end = fourth.0;
+      year_days = fifth.0;
+      skip = fifth.1;
     }
 
 -- the rule that has these parts
@@ -56,11 +65,15 @@ rule_by p limits = record {
   by_day = p.by_day;
   by_month_day = p.by_month_day;
   by_month = p.by_month;
+  by_year_day = p.by_year_day;
   by_set = p.by_set;
+  skip = p.skip;
   end = p.end;
   interval_in = limits.interval;
   week_start_in = limits.week_start;
   by_parts_in = limits.by_parts;
+  year_days_in = limits.year_days;
+  skip_in = limits.skip;
   end_in = limits.end;
 }
 

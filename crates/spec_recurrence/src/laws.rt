@@ -2,20 +2,22 @@
 ghost use Rattle.std.specs.Prelude.{◌≡◌, ◌<◌, ◌^◌, Some, true, ℕ, ℤ};
 ghost use Rattle.spec_recurrence.specs.OccurrenceIds.{IsIdReadBack};
 ghost use Rattle.spec_recurrence.specs.RulesOf.{rule_by_parts};
-ghost use Rattle.spec_series.specs.RuleObjects.{parts_of};
-ghost use Rattle.spec_recurrence.specs.SeriesOf.{series_by_parts, series_parts};
+ghost use Rattle.spec_series.specs.RuleObjects.{RuleParts, parts_of};
+ghost use Rattle.spec_recurrence.specs.SeriesOf.{SeriesParts, series_by_parts, series_parts};
 ghost use Rattle.spec_series.specs.declared.rule.Rule.{Rule};
 ghost use Rattle.spec_series.specs.declared.series.Series.{Series};
 ghost use Rattle.spec_time.specs.Walls.{is_in_years};
 
-/// A rule is the one that has its parts.
+/// What is made of parts is the rule that has them, and each rule is made of its parts: so there is none exactly where no rule has them.
 pub fn rules_are_their_parts()
-    ensures { (r : Rule) → rule_by_parts (parts_of r) ≡ Some r }
+    ensures parts { (p : RuleParts) (r : Rule) → rule_by_parts p ≡ Some r → parts_of r ≡ p }
+    ensures one { (r : Rule) → rule_by_parts (parts_of r) ≡ Some r }
 {}
 
-/// A series is the one that has its parts.
+/// The same of series.
 pub fn series_are_their_parts()
-    ensures { (s : Series) → series_by_parts (series_parts s) ≡ Some s }
+    ensures parts { (p : SeriesParts) (s : Series) → series_by_parts p ≡ Some s → series_parts s ≡ p }
+    ensures one { (s : Series) → series_by_parts (series_parts s) ≡ Some s }
 {}
 
 /// A synthetic id in the years 0 to 9999 that was written is read back.

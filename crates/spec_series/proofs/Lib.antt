@@ -2,3 +2,5 @@
 pub mod Numbers
 pub mod Occurrences
 pub mod Searches
+pub mod LeastItems
+pub mod FirstEdition

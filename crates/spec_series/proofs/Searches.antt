@@ -1,5 +1,5 @@
 -- A binary search in what was sorted tells whether an item is in a list.
-use Rattle.std.proofs.Common.{◌≡◌, ℕ, ◌<◌, ◌≤◌, ◌&&◌, ◌==◌, Bool, true, false, ℤ, List, [], ◌∷◌, length, get_or, Option, Some, None, Result, Ok, Err, MatchResult, is_ok, refl, sym, ap, arith, ◌∙◌, ⊎_elim, Ordering, Less, Equal, Greater, nat_cmp}
+use Rattle.std.proofs.Common.{◌≡◌, ℕ, ◌<◌, ◌≤◌, ◌&&◌, ◌==◌, false, ℤ, List, [], ◌∷◌, length, Option, Some, None, Result, Ok, Err, MatchResult, is_ok, refl, sym, ap, arith, ◌∙◌, ⊎_elim, Ordering, Less, Equal, Greater, nat_cmp}
 use Rattle.std.specs.Cmp.{IsTotalOrder, tied_then, unsigned_tied}
 use Rattle.std.specs.Cmp.Lexicographic.{options_total}
 use Rattle.std.proofs.lemmas.Cmp.{int_cmp_total, nat_cmp_total, on_total, then_total}

@@ -1,9 +1,10 @@
 //! What the members of a recurrence rule are made of (RFC 8984 section 4.3.3).
-ghost use Rattle.std.specs.Prelude.{◌≡◌, ◌==◌, ◌&&◌, Bool, ℤ, IfOk};
+ghost use Rattle.std.specs.Prelude.{◌≡◌, ◌==◌, ◌&&◌, Bool, ℤ, IfOk, IfSome, IsNone};
 ghost use Rattle.std.specs.List.{list_any};
 ghost use Rattle.std.specs.List.Sorted.{IsSorted};
 ghost use Rattle.std.specs.Option.{option_cmp, option_eq};
 ghost use Rattle.std.specs.Ordering.{int_cmp, int_eq, nat_cmp, ordering_then};
+ghost use Rattle.spec_series.specs.Items.{IsLeastItem, NoneFrom};
 ghost use Rattle.spec_series.specs.declared.by_part.NDay.{NDay};
 
 use spec_time::wall::Wall;
@@ -21,6 +22,17 @@ pub enum Freq {
     Monthly,
     /// A period is a year.
     Yearly,
+}
+
+/// What is done with a date that a month of the rule lacks: its `skip`.
+#[derive(Clone, Copy, Debug, PartialEq, Eq, Drop)]
+pub enum Skip {
+    /// It is left out.
+    Omit,
+    /// It is moved to the month's last day.
+    Backward,
+    /// It is moved to the first day of the month after.
+    Forward,
 }
 
 /// Where a rule ends: its `count` or its `until`.
@@ -148,6 +160,17 @@ impl Small {
         ensures { result ≡ list_any (λ k. int_eq k number) self.now }
     {
         self.sorted.binary_search(&number).is_ok()
+    }
+
+    /// The least item that is at least the number, in the time of a binary search. Takes no memory.
+    pub fn at_least(&self, number: i32) -> Option<i32>
+        ensures none { IsNone result → NoneFrom self.now number }
+        ensures some { IfSome result (IsLeastItem self.now number) }
+    {
+        match self.sorted.binary_search(&number) {
+            Ok(_) => Some(number),
+            Err(place) => self.sorted.get(place).copied(),
+        }
     }
 
     /// Gives an equal list.

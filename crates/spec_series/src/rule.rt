@@ -1,9 +1,9 @@
 //! Recurrence rules (RFC 8984 section 4.3.3).
 ghost use Rattle.std.specs.Prelude.{◌≡◌, ◌<◌, true, IfOk};
 ghost use Rattle.std.specs.Int.{IsInRange};
-ghost use Rattle.spec_series.specs.RuleLimits.{are_by_parts, is_end};
+ghost use Rattle.spec_series.specs.RuleLimits.{are_by_parts, are_year_days, is_end, is_skip};
 
-use crate::by_part::{End, Freq, NDays, Small};
+use crate::by_part::{End, Freq, NDays, Skip, Small};
 use std::alloc::AllocError;
 use std::marker::Model;
 
@@ -22,13 +22,19 @@ pub struct Rule {
     pub by_month_day: Small,
     /// `byMonth`: months, where January is 1.
     pub by_month: Small,
+    /// `byYearDay`: days of the year, from 1, or from -1 for the last.
+    pub by_year_day: Small,
     /// `bySetPosition`: places among the matching days of a period, from 1, or from -1 for the last.
     pub by_set: Small,
+    /// `skip`: what is done with dates that a month hasn't.
+    pub skip: Skip,
     /// `count` or `until`.
     pub end: End,
     pub ghost interval_in: { IsInRange 1 1000 interval },
     pub ghost week_start_in: { week_start < 7 },
     pub ghost by_parts_in: { are_by_parts frequency by_day by_month_day by_month by_set ≡ true },
+    pub ghost year_days_in: { are_year_days frequency by_year_day ≡ true },
+    pub ghost skip_in: { is_skip skip frequency by_day by_month_day by_year_day by_set ≡ true },
     pub ghost end_in: { is_end end ≡ true },
 }
 
@@ -44,7 +50,9 @@ impl Rule {
             by_day: self.by_day.copy()?,
             by_month_day: self.by_month_day.copy()?,
             by_month: self.by_month.copy()?,
+            by_year_day: self.by_year_day.copy()?,
             by_set: self.by_set.copy()?,
+            skip: self.skip,
             end: self.end,
         })
     }

@@ -1,5 +1,8 @@
-use Rattle.spec_recurrence.proofs.SeriesLemmas.{series_back}
+use Rattle.spec_recurrence.proofs.SeriesLemmas.{parts_back, series_back}
 use Rattle.spec_recurrence.proofs.laws.series_are_their_parts.Goals as goal
 
-pub returns : goal.returns
-returns c = series_back
+pub returns-clause-parts : goal.returns-clause-parts
+returns-clause-parts c = parts_back
+
+pub returns-clause-one : goal.returns-clause-one
+returns-clause-one c = series_back
