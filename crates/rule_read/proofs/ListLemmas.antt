@@ -123,3 +123,7 @@ nday_by f true day nth x h = nday_of_by f (option_and_then weekday_in day) (nth_
 
 pub nday_pass : (f : Freq) (d : Data) (x : NDay) → nday_in f d ≡ Some x → is_nday f x ≡ true
 nday_pass f d x h = nday_by f (is_nday_object d) (present_at (codes "day") d) (present_at (codes "nthOfPeriod") d) x h
+
+-- the place of a day in its month or year is read by the frequency
+pub days_pass : (o : Option Data) (f : Freq) (g : Option Freq) (ds : List NDay) → g ≡ Some f → option_and_then (λ h. each_in (nday_in h) o) g ≡ Some ds → list_all (is_nday f) ds ≡ true
+days_pass o f g ds e h = each_pass (nday_in f) (is_nday f) (nday_pass f) o ds (sym (rw e at h))

@@ -8,9 +8,9 @@ use Rattle.std.proofs.lemmas.Int.{ints}
 use Rattle.std.proofs.lemmas.Option.{none-some, same_Some}
 use Rattle.spec_json.specs.Data.{Data}
 use Rattle.spec_json.specs.Parts.{as_text, as_whole}
-use Rattle.spec_recurrence.specs.RulesOf.{ends_within, has_by_parts, is_interval, is_within_limits, rule_by_parts, rule_where, weeks_start_within}
+use Rattle.spec_recurrence.specs.RulesOf.{has_by_parts, is_interval, is_within_limits, rule_by_parts, rule_where}
 use Rattle.spec_series.specs.RuleLimits.{is_end, is_month, is_nday, is_place_to}
-use Rattle.spec_series.specs.RuleObjects.{RuleParts, each_in, end_in, filled, frequency_of, interval_in, local_at, month_in, nday_in, place_in, present_at, rule_in, thousand_in, thousand_of, week_start_in}
+use Rattle.spec_series.specs.RuleObjects.{RuleParts, each_in, end_in, filled, fits_frequency, frequency_of, interval_in, local_at, month_in, nday_in, place_in, present_at, rule_in, thousand_in, thousand_of, week_start_in}
 use Rattle.spec_series.specs.declared.by_part.End.{End}
 use Rattle.spec_series.specs.declared.by_part.End.TheVariants.{Count, Never, Until}
 use Rattle.spec_series.specs.declared.by_part.Freq.{Freq}
@@ -19,7 +19,7 @@ use Rattle.spec_time.specs.Forms.{fits_form, fits_marks}
 use Rattle.spec_time.specs.LocalTimes.{local_in, spaced_wall}
 use Rattle.spec_time.specs.Walls.{is_in_years}
 use Rattle.time_text.proofs.DateLemmas.{spaced_in_years}
-use Rattle.rule_read.proofs.ListLemmas.{day_pass, each_pass, month_pass, nday_pass, place_pass}
+use Rattle.rule_read.proofs.ListLemmas.{day_pass, days_pass, each_pass, month_pass, place_pass}
 use Rattle.rule_read.proofs.ReadingLemmas.{made}
 use Rattle.rule_read.proofs.RuleLemmas.{filled_parts}
 
@@ -71,16 +71,11 @@ end_pass (Some c) (Some u) e h = absurd (none-some e h)
 
 -- The rule, member by member.
 
-filled_within : (n : ℤ) (q : RuleParts) → is_within_limits q ≡ true → is_within_limits (filled n q) ≡ true
-filled_within n q h =
-    let a = and_parts (is_interval q.interval) (weeks_start_within q) h in
-    let b = and_parts (nat_lt q.week_start 7) (ends_within q) a.1 in
-    let c = and_parts (has_by_parts q) (is_end q.end) b.1 in
-    and_from _ _ a.0 (and_from _ _ b.0 (and_from _ _ (filled_parts q.frequency n q.by_day q.by_month_day q.by_month q.by_set c.0) c.1))
-
--- The place of a day in its month or year is read by the frequency.
-days_pass : (o : Option Data) (f : Freq) (g : Option Freq) (ds : List NDay) → g ≡ Some f → option_and_then (λ h. each_in (nday_in h) o) g ≡ Some ds → list_all (is_nday f) ds ≡ true
-days_pass o f g ds e h = each_pass (nday_in f) (is_nday f) (nday_pass f) o ds (sym (rw e at h))
+filled_within : (n : ℤ) (q : RuleParts) → is_interval q.interval ≡ true → nat_lt q.week_start 7 ≡ true → has_by_parts q ≡ true → is_end q.end ≡ true
+    → fits_frequency (filled n q) ≡ true → is_within_limits (filled n q) ≡ true
+filled_within n q interval week by_parts end fits =
+    let parts = filled_parts q.frequency n q.by_day q.by_month_day q.by_month q.by_year_day q.by_set by_parts in
+    and_from _ _ interval (and_from _ _ week (and_from _ _ parts (and_from _ _ end fits)))
 
 rule_within : (n : ℤ) (d : Data) (p : RuleParts) → rule_in n d ≡ Some p → is_within_limits p ≡ true
 rule_within n d p h =
@@ -95,8 +90,8 @@ rule_within n d p h =
     let end = end_pass (present_at (codes "count") d) (present_at (codes "until") d) q.end r.end in
     let week = week_start_pass (present_at (codes "firstDayOfWeek") d) q.week_start r.week_start in
     let interval = interval_pass (present_at (codes "interval") d) q.interval r.interval in
-    let within : is_within_limits q ≡ true = and_from _ _ interval (and_from _ _ week (and_from _ _ by_parts end)) in
-    subst (λ x. is_within_limits x ≡ true) m.1.filled (filled_within n q within)
+    let fits = subst (λ x. fits_frequency x ≡ true) (sym m.1.filled) m.1.fits in
+    subst (λ x. is_within_limits x ≡ true) m.1.filled (filled_within n q interval week by_parts end fits)
 
 where_some : (p : RuleParts) (b : Bool) (h : is_within_limits p ≡ b) → b ≡ true → is_some (rule_where p b h) ≡ true
 where_some p false h e = cc

@@ -71,9 +71,9 @@ module _ (f : Freq) (n : ℤ) where
   months_by true xs h = and_from (is_month (pos (month_of n))) true (month_small n) refl
   months_by false xs h = h
 
-  pub filled_parts : (by_day : List NDay) (by_month_day by_month by_set : List ℤ) → are_by_parts f by_day by_month_day by_month by_set ≡ true
-      → are_by_parts f (implied_days f n by_day) (implied_month_days f n by_day by_month_day) (implied_months f n by_day by_month_day by_month) by_set ≡ true
-  filled_parts by_day by_month_day by_month by_set h =
+  pub filled_parts : (by_day : List NDay) (by_month_day by_month by_year_day by_set : List ℤ) → are_by_parts f by_day by_month_day by_month by_set ≡ true
+      → are_by_parts f (implied_days f n by_day) (implied_month_days f n by_day by_month_day by_year_day) (implied_months f n by_day by_month_day by_month by_year_day) by_set ≡ true
+  filled_parts by_day by_month_day by_month by_year_day by_set h =
       let a = and_parts (list_all (is_nday f) by_day) _ h in
       let b = and_parts (list_all (is_place_to 31) by_month_day) _ a.1 in
       let c = and_parts (list_all is_month by_month) (list_all (is_place_to 366) by_set) b.1 in

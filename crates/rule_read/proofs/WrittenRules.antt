@@ -1,5 +1,5 @@
 -- A rule that was written is read back.
-use Rattle.std.proofs.Common.{zero, suc, ◌≡◌, ◌&&◌, ◌≤◌, ◌<◌, ℕ, ℤ, pos, negsuc, List, [], ◌∷◌, Bool, true, false, Option, Some, None, map, nat_le, nat_lt, int_le, if◌then◌else◌, refl, ap, ◌∙◌, arith, subst, option_and_then, option_map}
+use Rattle.std.proofs.Common.{zero, suc, ◌≡◌, ◌&&◌, ◌||◌, ◌≤◌, ◌<◌, ℕ, ℤ, pos, negsuc, List, [], ◌∷◌, Bool, true, false, Option, Some, None, map, nat_le, nat_lt, int_le, if◌then◌else◌, refl, sym, ap, ◌∙◌, arith, subst, option_and_then, option_map}
 use Rattle.std.specs.List.{list_all}
 use Rattle.std.specs.Int.{IsInRange}
 use Rattle.std.proofs.lemmas.Bool.{and_from, and_parts}
@@ -12,9 +12,11 @@ use Rattle.spec_series.specs.declared.by_part.Freq.TheVariants.{Daily, Weekly, M
 use Rattle.spec_series.specs.declared.by_part.End.{End}
 use Rattle.spec_series.specs.declared.by_part.End.TheVariants.{Never, Count, Until}
 use Rattle.spec_series.specs.declared.by_part.NDay.{NDay}
+use Rattle.spec_series.specs.declared.by_part.Skip.{Skip}
+use Rattle.spec_series.specs.declared.by_part.Skip.TheVariants.{Omit, Backward, Forward}
 use Rattle.spec_series.specs.declared.rule.Rule.{Rule}
-use Rattle.spec_series.specs.RuleLimits.{is_end, is_month, is_nday, is_nth, is_place_to}
-use Rattle.spec_series.specs.RuleObjects.{RuleParts, count_data, each_in, end_in, filled, frequency_named, frequency_text, is_empty, is_settled, month_data, month_in, month_of_number, nday_data, nday_in, nth_data, nth_in, parts_of, parts_read, place_in, present, rule_data, rule_in, thousand_of, until_data, weekday_named, weekday_text}
+use Rattle.spec_series.specs.RuleLimits.{has_years, is_empty, is_end, is_month, is_nday, is_nth, is_place_to}
+use Rattle.spec_series.specs.RuleObjects.{Readings, RuleParts, count_data, each_in, end_in, filled, fits_frequency, frequency_named, frequency_text, is_rule_object, is_settled, month_data, month_in, month_of_number, nday_data, nday_in, nth_data, nth_in, parts_of, parts_read, place_in, present, readings_of, rule_data, rule_in, rule_with, settled_rule, skip_named, thousand_of, until_data, weekday_named, weekday_text}
 use Rattle.rule_read.proofs.ReadingLemmas.{made}
 use Rattle.time_text.proofs.NumberLemmas.{decimal_back}
 use Rattle.time_text.proofs.WrittenLemmas.{read_back as local_back}
@@ -94,47 +96,78 @@ end_back (Until w) h = ap (option_map (λ n. Until n)) (local_back w h).local
 some_left : {X : Type 0} (x : X) (xs : List X) → is_empty (x ∷ xs) ≡ false
 some_left x xs = grind (arith, nat_tests)
 
-module _ (n : ℤ) (i w : ℕ) (s : List ℤ) (e : End) where
-  abbrev given : Freq → List NDay → List ℤ → List ℤ → RuleParts
-  given f ds md m = record { frequency = f; interval = i; week_start = w; by_day = ds; by_month_day = md; by_month = m; by_set = s; end = e }
+module _ (n : ℤ) (i w : ℕ) (e : End) (sk : Skip) (bs : List ℤ) where
+  abbrev given : Freq → List NDay → List ℤ → List ℤ → List ℤ → RuleParts
+  given f ds md m yd = rule_with f i w e sk ds md m yd bs
 
-  again : (f : Freq) (ds : List NDay) (md m : List ℤ) → filled n (filled n (given f ds md m)) ≡ filled n (given f ds md m)
-  again Daily ds md m = refl
-  again Weekly [] md m = refl
-  again Weekly (d ∷ ds) md m = simp (some_left d ds) refl
-  again Monthly [] [] m = refl
-  again Monthly [] (x ∷ xs) m = simp (some_left x xs) refl
-  again Monthly (d ∷ ds) md m = simp (some_left d ds) refl
-  again Yearly [] [] [] = refl
-  again Yearly [] [] (y ∷ ys) = simp (some_left y ys) refl
-  again Yearly [] (x ∷ xs) [] = simp (some_left x xs) refl
-  again Yearly [] (x ∷ xs) (y ∷ ys) = simp (some_left x xs, some_left y ys) refl
-  again Yearly (d ∷ ds) [] [] = simp (some_left d ds) refl
-  again Yearly (d ∷ ds) [] (y ∷ ys) = simp (some_left d ds, some_left y ys) refl
-  again Yearly (d ∷ ds) (x ∷ xs) [] = simp (some_left d ds, some_left x xs) refl
-  again Yearly (d ∷ ds) (x ∷ xs) (y ∷ ys) = simp (some_left d ds, some_left y ys) refl
+  again : (f : Freq) (ds : List NDay) (md m yd : List ℤ) → filled n (filled n (given f ds md m yd)) ≡ filled n (given f ds md m yd)
+  again Daily ds md m yd = refl
+  again Weekly [] md m yd = refl
+  again Weekly (d ∷ ds) md m yd = simp (some_left d ds) refl
+  again Monthly [] [] m yd = refl
+  again Monthly [] (x ∷ xs) m yd = simp (some_left x xs) refl
+  again Monthly (d ∷ ds) md m yd = simp (some_left d ds) refl
+  again Yearly ds md [] (z ∷ zs) = simp (some_left z zs) refl
+  again Yearly ds md (y ∷ ys) (z ∷ zs) = simp (some_left y ys, some_left z zs) refl
+  again Yearly [] [] [] [] = refl
+  again Yearly [] [] (y ∷ ys) [] = simp (some_left y ys) refl
+  again Yearly [] (x ∷ xs) [] [] = simp (some_left x xs) refl
+  again Yearly [] (x ∷ xs) (y ∷ ys) [] = simp (some_left x xs, some_left y ys) refl
+  again Yearly (d ∷ ds) [] [] [] = simp (some_left d ds) refl
+  again Yearly (d ∷ ds) [] (y ∷ ys) [] = simp (some_left d ds, some_left y ys) refl
+  again Yearly (d ∷ ds) (x ∷ xs) [] [] = simp (some_left d ds, some_left x xs) refl
+  again Yearly (d ∷ ds) (x ∷ xs) (y ∷ ys) [] = simp (some_left d ds, some_left y ys) refl
 
-  settled : (f : Freq) (ds : List NDay) (md m : List ℤ) → is_settled (filled n (given f ds md m)) ≡ true
-  settled Daily ds md m = refl
-  settled Weekly ds md m = refl
-  settled Monthly ds md m = refl
-  settled Yearly [] [] [] = refl
-  settled Yearly [] [] (y ∷ ys) = simp (some_left y ys) refl
-  settled Yearly [] (x ∷ xs) [] = simp (some_left x xs) refl
-  settled Yearly [] (x ∷ xs) (y ∷ ys) = simp (some_left y ys) refl
-  settled Yearly (d ∷ ds) [] [] = simp (some_left d ds) refl
-  settled Yearly (d ∷ ds) [] (y ∷ ys) = simp (some_left y ys) refl
-  settled Yearly (d ∷ ds) (x ∷ xs) [] = simp (some_left x xs) refl
-  settled Yearly (d ∷ ds) (x ∷ xs) (y ∷ ys) = simp (some_left y ys) refl
+  settled : (f : Freq) (ds : List NDay) (md m yd : List ℤ) → is_settled (filled n (given f ds md m yd)) ≡ true
+  settled Daily ds md m yd = refl
+  settled Weekly ds md m yd = refl
+  settled Monthly ds md m yd = refl
+  settled Yearly ds md [] (z ∷ zs) = simp (some_left z zs) refl
+  settled Yearly ds md (y ∷ ys) (z ∷ zs) = simp (some_left y ys) refl
+  settled Yearly [] [] [] [] = refl
+  settled Yearly [] [] (y ∷ ys) [] = simp (some_left y ys) refl
+  settled Yearly [] (x ∷ xs) [] [] = simp (some_left x xs) refl
+  settled Yearly [] (x ∷ xs) (y ∷ ys) [] = simp (some_left y ys) refl
+  settled Yearly (d ∷ ds) [] [] [] = simp (some_left d ds) refl
+  settled Yearly (d ∷ ds) [] (y ∷ ys) [] = simp (some_left y ys) refl
+  settled Yearly (d ∷ ds) (x ∷ xs) [] [] = simp (some_left x xs) refl
+  settled Yearly (d ∷ ds) (x ∷ xs) (y ∷ ys) [] = simp (some_left y ys) refl
 
--- a rule whose implied parts are filled in is read back
-filled_back : (r : Rule) (n : ℤ) → is_settled (parts_of r) ≡ true → filled n (parts_of r) ≡ parts_of r → rule_in n (rule_data (parts_of r)) ≡ Some (parts_of r)
-unfolding rule_in rule_data parts_read
-filled_back r n still same =
+-- What an object that was written says: each member as it stands there.
+
+abbrev said : Freq → ℕ → ℕ → End → Skip → List NDay → List ℤ → List ℤ → List ℤ → List ℤ → Readings
+said f i w e sk ds md m yd bs = record {
+  frequency = frequency_named (frequency_text f);
+  interval = thousand_of (pos i);
+  week_start = weekday_named (weekday_text w);
+  end = end_in (present (count_data e)) (present (until_data e));
+  by_day = option_and_then (λ g. each_in (nday_in g) (present (list (items_of (map nday_data ds))))) (frequency_named (frequency_text f));
+  by_month_day = each_in (place_in 31) (present (list (items_of (map whole md))));
+  by_month = each_in month_in (present (list (items_of (map month_data m))));
+  by_year_day = each_in (place_in 366) (present (list (items_of (map whole yd))));
+  by_set = each_in (place_in 366) (present (list (items_of (map whole bs))));
+  skip = Some sk;
+}
+
+module _ (f : Freq) (i w : ℕ) (e : End) (ds : List NDay) (md m bs : List ℤ) where
+  -- the two members that may be left out
+  saying : (sk : Skip) (yd : List ℤ) → let d = rule_data (rule_with f i w e sk ds md m yd bs) in (is_rule_object d ≡ true) × (readings_of d ≡ said f i w e sk ds md m yd bs)
+  unfolding rule_data skip_named
+  saying Omit [] = (refl, refl)
+  saying Backward [] = (refl, refl)
+  saying Forward [] = (refl, refl)
+  saying Omit (z ∷ zs) = (refl, refl)
+  saying Backward (z ∷ zs) = (refl, refl)
+  saying Forward (z ∷ zs) = (refl, refl)
+
+parts_back : (r : Rule) → parts_read (said r.frequency r.interval r.week_start r.end r.skip r.by_day r.by_month_day r.by_month r.by_year_day r.by_set) ≡ Some (parts_of r)
+unfolding parts_read
+parts_back r =
     let f = r.frequency in
     let a = and_parts (list_all (is_nday f) r.by_day) _ r.by_parts_in in
     let b = and_parts (list_all (is_place_to 31) r.by_month_day) _ a.1 in
     let c = and_parts (list_all is_month r.by_month) (list_all (is_place_to 366) r.by_set) b.1 in
+    let y = and_parts (is_empty r.by_year_day || has_years f) (list_all (is_place_to 366) r.by_year_day) r.year_days_in in
     rw (
       frequency_back f,
       thousand_back r.interval r.interval_in,
@@ -143,14 +176,35 @@ filled_back r n still same =
       list_back (nday_in f) nday_data (is_nday f) (nday_back f) r.by_day a.0,
       list_back (place_in 31) whole (is_place_to 31) (place_back 31) r.by_month_day b.0,
       list_back month_in month_data is_month month_back r.by_month c.0,
+      list_back (place_in 366) whole (is_place_to 366) (place_back 366) r.by_year_day y.1,
       list_back (place_in 366) whole (is_place_to 366) (place_back 366) r.by_set c.1,
-      still,
-    ) (ap Some same)
+    ) refl
+
+both_chosen : {X : Type 0} (b c : Bool) (x y : X) → b ≡ true → c ≡ true → x ≡ y → (if b && c then Some x else None) ≡ Some y
+both_chosen true true x y h k e = ap Some e
+both_chosen true false x y h k e = cc
+both_chosen false c x y h k e = cc
+
+settles : (n : ℤ) (p : RuleParts) → is_settled p ≡ true → fits_frequency p ≡ true → filled n p ≡ p → settled_rule n p ≡ Some p
+settles n p still fits same =
+    both_chosen (is_settled p) (fits_frequency (filled n p)) (filled n p) p still (subst (λ x. fits_frequency x ≡ true) (sym same) fits) same
+
+-- a rule whose implied parts are filled in is read back
+filled_back : (r : Rule) (n : ℤ) → is_settled (parts_of r) ≡ true → fits_frequency (parts_of r) ≡ true → filled n (parts_of r) ≡ parts_of r
+    → rule_in n (rule_data (parts_of r)) ≡ Some (parts_of r)
+unfolding rule_in
+filled_back r n still fits same =
+    let d = rule_data (parts_of r) in
+    let here = saying r.frequency r.interval r.week_start r.end r.by_day r.by_month_day r.by_month r.by_set r.skip r.by_year_day in
+    ap (λ b. if b then option_and_then (settled_rule n) (parts_read (readings_of d)) else None) here.0
+    ∙ ap (λ x. option_and_then (settled_rule n) (parts_read x)) here.1
+    ∙ ap (option_and_then (settled_rule n)) (parts_back r)
+    ∙ settles n (parts_of r) still fits same
 
 pub read_back : (r : Rule) (n : ℤ) (d : Data) → rule_in n d ≡ Some (parts_of r) → rule_in n (rule_data (parts_of r)) ≡ Some (parts_of r)
 read_back r n d h =
     let q = made n d (parts_of r) h in
     let p = q.0 in
-    let same = again n p.interval p.week_start p.by_set p.end p.frequency p.by_day p.by_month_day p.by_month in
-    let still = settled n p.interval p.week_start p.by_set p.end p.frequency p.by_day p.by_month_day p.by_month in
-    filled_back r n (subst (λ x. is_settled x ≡ true) q.1.filled still) (subst (λ x. filled n x ≡ x) q.1.filled same)
+    let same = again n p.interval p.week_start p.end p.skip p.by_set p.frequency p.by_day p.by_month_day p.by_month p.by_year_day in
+    let still = settled n p.interval p.week_start p.end p.skip p.by_set p.frequency p.by_day p.by_month_day p.by_month p.by_year_day in
+    filled_back r n (subst (λ x. is_settled x ≡ true) q.1.filled still) q.1.fits (subst (λ x. filled n x ≡ x) q.1.filled same)

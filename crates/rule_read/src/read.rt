@@ -1,17 +1,20 @@
 //! Reads recurrence rules.
-ghost use Rattle.std.specs.Prelude.{◌≡◌, ◌≤◌, ◌<◌, ◌^◌, Some, None, length, map, option_and_then, option_map, true, unsigned_abs, IfErr, IfOk, IfSome};
+ghost use Rattle.std.specs.Prelude.{◌≡◌, ◌≤◌, ◌<◌, ◌^◌, Some, None, length, map, option_and_then, option_map, true, unsigned_abs, if◌then◌else◌, IfErr, IfOk, IfSome};
+ghost use Rattle.std.specs.List.{list_all};
 ghost use Rattle.spec_json.specs.Parts.{all_some};
 ghost use Rattle.spec_json.specs.TreeData.{data_of};
-ghost use Rattle.spec_series.specs.RuleLimits.{are_by_parts};
-ghost use Rattle.spec_series.specs.RuleObjects.{filled, frequency_of, frequency_in, parts_of, parts_read, readings_of, rule_in, rules_in, rules_of, settled_rule};
+ghost use Rattle.spec_series.specs.RuleLimits.{are_by_parts, is_place_to};
+ghost use Rattle.spec_series.specs.RuleObjects.{filled, fits_frequency, frequency_of, frequency_in, parts_of, parts_read, readings_of, rule_in, rule_with, rules_in, rules_of, settled_rule};
 ghost use Rattle.spec_time.specs.Walls.{day_of_wall, is_in_years};
 ghost use Rattle.rule_read.specs.declared.error.RulesError.TheVariants.{BadRules};
 
 use crate::error::RulesError;
 use crate::frame::Frame;
-use crate::implied::{is_settled, with_days, with_month_days, with_months};
+use crate::implied::{
+    are_year_days, is_settled, may_skip, with_days, with_month_days, with_months,
+};
 use crate::lists::{items_of, months, ndays, places};
-use crate::values::{end, frequency, interval, week_start};
+use crate::values::{end, frequency, interval, skip, week_start};
 use crate::words::{is_rule_object, present_at};
 use spec_json::tree::Tree;
 use spec_series::by_part::{Freq, NDays, Small};
@@ -125,11 +128,15 @@ fn with_members(alloc: Global, tree: &Tree, day: i64) -> Result<Option<Rule>, Al
     let Some(end) = end(present_at(tree, "count"), present_at(tree, "until")) else {
         return Ok(None);
     };
+    let Some(skip) = skip(present_at(tree, "skip")) else {
+        return Ok(None);
+    };
     let frame = Frame {
         frequency,
         interval,
         week_start,
         end,
+        skip,
     };
     with_lists(alloc, tree, day, frame)
 }
@@ -146,6 +153,7 @@ fn with_lists(
     requires interval { (readings_of (data_of tree.now)).interval ≡ Some frame.interval }
     requires week_start { (readings_of (data_of tree.now)).week_start ≡ Some frame.week_start }
     requires end { (readings_of (data_of tree.now)).end ≡ Some frame.end }
+    requires skip { (readings_of (data_of tree.now)).skip ≡ Some frame.skip }
     ensures { IfOk result (λ o. option_map parts_of o ≡ option_and_then (settled_rule day) (parts_read (readings_of (data_of tree.now)))) }
 {
     let Some(by_day) = ndays(alloc, frame.frequency, present_at(tree, "byDay"))? else {
@@ -157,10 +165,47 @@ fn with_lists(
     let Some(by_month) = months(alloc, present_at(tree, "byMonth"))? else {
         return Ok(None);
     };
+    with_places(alloc, tree, day, frame, by_day, by_month_day, by_month)
+}
+
+// The lists of places in a period.
+#[tactic(auto, unfolding(spec_series::specs::RuleObjects::parts_read))]
+fn with_places(
+    alloc: Global,
+    tree: &Tree,
+    day: i64,
+    frame: Frame,
+    by_day: NDays,
+    by_month_day: Small,
+    by_month: Small,
+) -> Result<Option<Rule>, AllocError>
+    requires day { unsigned_abs day < 2 ^ 42 }
+    requires frequency { (readings_of (data_of tree.now)).frequency ≡ Some frame.frequency }
+    requires interval { (readings_of (data_of tree.now)).interval ≡ Some frame.interval }
+    requires week_start { (readings_of (data_of tree.now)).week_start ≡ Some frame.week_start }
+    requires end { (readings_of (data_of tree.now)).end ≡ Some frame.end }
+    requires skip { (readings_of (data_of tree.now)).skip ≡ Some frame.skip }
+    requires by_day { (readings_of (data_of tree.now)).by_day ≡ Some by_day }
+    requires by_month_day { (readings_of (data_of tree.now)).by_month_day ≡ Some by_month_day }
+    requires by_month { (readings_of (data_of tree.now)).by_month ≡ Some by_month }
+    ensures { IfOk result (λ o. option_map parts_of o ≡ option_and_then (settled_rule day) (parts_read (readings_of (data_of tree.now)))) }
+{
+    let Some(by_year_day) = places(alloc, 366, present_at(tree, "byYearDay"))? else {
+        return Ok(None);
+    };
     let Some(by_set) = places(alloc, 366, present_at(tree, "bySetPosition"))? else {
         return Ok(None);
     };
-    settled(alloc, day, frame, by_day, by_month_day, by_month, by_set)
+    settled(
+        alloc,
+        day,
+        frame,
+        by_day,
+        by_month_day,
+        by_month,
+        by_year_day,
+        by_set,
+    )
 }
 
 // The rule with its implied parts, where it leaves nothing open.
@@ -171,19 +216,37 @@ fn settled(
     by_day: NDays,
     by_month_day: Small,
     by_month: Small,
+    by_year_day: Small,
     by_set: Small,
 ) -> Result<Option<Rule>, AllocError>
     requires day { unsigned_abs day < 2 ^ 42 }
     requires parts { are_by_parts frame.frequency by_day by_month_day by_month by_set ≡ true }
-    ensures { IfOk result (λ o. option_map parts_of o ≡ settled_rule day (record { frequency = frame.frequency; interval = frame.interval; week_start = frame.week_start; by_day = by_day; by_month_day = by_month_day; by_month = by_month; by_set = by_set; end = frame.end })) }
+    requires year_days { list_all (is_place_to 366) by_year_day ≡ true }
+    ensures { IfOk result (λ o. option_map parts_of o ≡ settled_rule day (rule_with frame.frequency frame.interval frame.week_start frame.end frame.skip by_day by_month_day by_month by_year_day by_set)) }
 {
-    if is_settled(frame.frequency, &by_day, &by_month_day, &by_month) {
-        Ok(Some(filled(alloc, day, frame, by_day, by_month_day, by_month, by_set)?))
+    if is_settled(
+        frame.frequency,
+        &by_day,
+        &by_month_day,
+        &by_month,
+        &by_year_day,
+    ) {
+        filled(
+            alloc,
+            day,
+            frame,
+            by_day,
+            by_month_day,
+            by_month,
+            by_year_day,
+            by_set,
+        )
     } else {
         Ok(None)
     }
 }
 
+// The rule with its implied parts, where these go together.
 fn filled(
     alloc: Global,
     day: i64,
@@ -191,11 +254,13 @@ fn filled(
     by_day: NDays,
     by_month_day: Small,
     by_month: Small,
+    by_year_day: Small,
     by_set: Small,
-) -> Result<Rule, AllocError>
+) -> Result<Option<Rule>, AllocError>
     requires day { unsigned_abs day < 2 ^ 42 }
     requires parts { are_by_parts frame.frequency by_day by_month_day by_month by_set ≡ true }
-    ensures { IfOk result (λ r. parts_of r ≡ filled day (record { frequency = frame.frequency; interval = frame.interval; week_start = frame.week_start; by_day = by_day; by_month_day = by_month_day; by_month = by_month; by_set = by_set; end = frame.end })) }
+    requires year_days { list_all (is_place_to 366) by_year_day ≡ true }
+    ensures { IfOk result (λ o. option_map parts_of o ≡ (if fits_frequency (filled day (rule_with frame.frequency frame.interval frame.week_start frame.end frame.skip by_day by_month_day by_month by_year_day by_set)) then Some (filled day (rule_with frame.frequency frame.interval frame.week_start frame.end frame.skip by_day by_month_day by_month by_year_day by_set)) else None)) }
 {
     let by_month = with_months(
         alloc,
@@ -204,17 +269,40 @@ fn filled(
         &by_day,
         &by_month_day,
         by_month,
+        &by_year_day,
     )?;
-    let by_month_day = with_month_days(alloc, frame.frequency, day, &by_day, by_month_day)?;
+    let by_month_day = with_month_days(
+        alloc,
+        frame.frequency,
+        day,
+        &by_day,
+        by_month_day,
+        &by_year_day,
+    )?;
     let by_day = with_days(alloc, frame.frequency, day, by_day)?;
-    Ok(Rule {
+    if !are_year_days(frame.frequency, &by_year_day) {
+        return Ok(None);
+    }
+    if !may_skip(
+        frame.skip,
+        frame.frequency,
+        &by_day,
+        &by_month_day,
+        &by_year_day,
+        &by_set,
+    ) {
+        return Ok(None);
+    }
+    Ok(Some(Rule {
         frequency: frame.frequency,
         interval: frame.interval,
         week_start: frame.week_start,
         by_day,
         by_month_day,
         by_month,
+        by_year_day,
         by_set,
+        skip: frame.skip,
         end: frame.end,
-    })
+    }))
 }

@@ -5,12 +5,12 @@ ghost use Rattle.std.specs.Int.{IsInRange};
 ghost use Rattle.spec_json.specs.Parts.{as_text, as_whole};
 ghost use Rattle.spec_json.specs.TreeData.{data_of};
 ghost use Rattle.spec_series.specs.RuleLimits.{is_end, is_month, is_place_to};
-ghost use Rattle.spec_series.specs.RuleObjects.{end_in, frequency_in, frequency_named, interval_in, local_at, month_in, month_of_number, nday_in, nday_of, nth_in, place_in, place_of, thousand_in, thousand_of, week_start_in, weekday_in, weekday_named};
+ghost use Rattle.spec_series.specs.RuleObjects.{end_in, frequency_in, frequency_named, interval_in, local_at, month_in, month_of_number, nday_in, nday_of, nth_in, place_in, place_of, skip_in, skip_named, thousand_in, thousand_of, week_start_in, weekday_in, weekday_named};
 ghost use Rattle.spec_time.specs.Walls.{is_in_years};
 
 use crate::words::{is_nday_object, present_at};
 use spec_json::tree::Tree;
-use spec_series::by_part::{End, Freq, NDay};
+use spec_series::by_part::{End, Freq, NDay, Skip};
 use spec_time::wall::Wall;
 use time_text::{read_local, read_number};
 
@@ -53,6 +53,31 @@ pub(crate) fn frequency(value: &Tree) -> Option<Freq>
 {
     match text_of(value) {
         Some(word) => frequency_named(word),
+        None => None,
+    }
+}
+
+#[tactic(auto, unfolding(spec_series::specs::RuleObjects::skip_named))]
+fn skip_named(word: &str) -> Option<Skip>
+    ensures { result ≡ skip_named word.now }
+{
+    match word {
+        "omit" => Some(Skip::Omit),
+        "backward" => Some(Skip::Backward),
+        "forward" => Some(Skip::Forward),
+        _ => None,
+    }
+}
+
+/// What is done with dates that a month lacks: they are left out where no word is given.
+pub(crate) fn skip(value: Option<&Tree>) -> Option<Skip>
+    ensures { result ≡ skip_in (option_map (λ t. data_of t.now) value.entry) }
+{
+    let Some(value) = value else {
+        return Some(Skip::Omit);
+    };
+    match text_of(value) {
+        Some(word) => skip_named(word),
         None => None,
     }
 }

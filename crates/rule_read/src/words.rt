@@ -55,8 +55,7 @@ fn is_word_or_absent(tree: &Tree, key: &str, word: &str) -> bool
     }
 }
 
-/// Whether a value is an object with no other members than those of a rule, and with the one type, calendar and way of
-/// leaving out that there are.
+/// Whether a value is an object with no other members than those of a rule, and with the one type and calendar that there are.
 pub(crate) fn is_rule_object(tree: &Tree) -> bool
     ensures { result ≡ is_rule_object (data_of tree.now) }
 {
@@ -71,7 +70,6 @@ fn has_right_words(tree: &Tree) -> bool
 {
     is_word_or_absent(tree, "@type", "RecurrenceRule")
         && is_word_or_absent(tree, "rscale", "gregorian")
-        && is_word_or_absent(tree, "skip", "omit")
 }
 
 #[tactic(auto, using(spec_json::specs::Data::pairs_back))]
@@ -109,6 +107,7 @@ fn is_rule_name(name: &str) -> bool
             | "byDay"
             | "byMonthDay"
             | "byMonth"
+            | "byYearDay"
             | "bySetPosition"
             | "count"
             | "until"

@@ -1,14 +1,15 @@
 //! Writes recurrence rules.
-ghost use Rattle.std.specs.Prelude.{◌≡◌, ◌<◌, map, true, unsigned_abs, IfOk};
+ghost use Rattle.std.specs.Prelude.{◌≡◌, ◌<◌, ◌∷◌, [], codes, map, true, unsigned_abs, IfOk};
+ghost use Rattle.std.specs.Option.{option_map_or};
 ghost use Rattle.spec_json.specs.Data.{items_of, list, text, whole};
 ghost use Rattle.spec_json.specs.TreeData.{data_of};
 ghost use Rattle.spec_series.specs.RuleLimits.{is_end};
-ghost use Rattle.spec_series.specs.RuleObjects.{count_data, frequency_text, month_data, nday_data, nth_data, parts_of, rule_data, until_data, weekday_text};
+ghost use Rattle.spec_series.specs.RuleObjects.{count_data, frequency_text, month_data, nday_data, nth_data, parts_of, rule_data, skip_members, until_data, weekday_text, year_day_members};
 
 use spec_json::num::Num;
 use spec_json::text::Text;
 use spec_json::tree::{Tree, TreeList};
-use spec_series::by_part::{End, Freq, NDay};
+use spec_series::by_part::{End, Freq, NDay, Skip};
 use spec_series::rule::Rule;
 use std::alloc::{AllocError, Global};
 use time_text::local_text;
@@ -21,17 +22,19 @@ pub fn rule_tree(alloc: Global, rule: &Rule) -> Result<Tree, AllocError>
         by_day: nday_list(alloc, rule.by_day.items())?,
         by_month: month_list(alloc, rule.by_month.items())?,
         by_month_day: number_list(alloc, rule.by_month_day.items())?,
+        by_year_day: year_day_list(alloc, rule.by_year_day.items())?,
         by_set: number_list(alloc, rule.by_set.items())?,
     };
     with_lists(alloc, rule, lists)
 }
 
-// The lists of a rule as trees.
+// The lists of a rule as trees, that of the days of the year where there are some.
 #[derive(Drop)]
 struct Lists {
     by_day: Tree,
     by_month: Tree,
     by_month_day: Tree,
+    by_year_day: Option<Tree>,
     by_set: Tree,
 }
 
@@ -40,25 +43,33 @@ fn with_lists(alloc: Global, rule: &Rule, lists: Lists) -> Result<Tree, AllocErr
     requires days { data_of lists.by_day ≡ list (items_of (map nday_data rule.now.by_day)) }
     requires months { data_of lists.by_month ≡ list (items_of (map month_data rule.now.by_month)) }
     requires month_days { data_of lists.by_month_day ≡ list (items_of (map whole rule.now.by_month_day)) }
+    requires year_days { option_map_or (λ t. (codes "byYearDay", data_of t) ∷ []) lists.by_year_day [] ≡ year_day_members rule.now.by_year_day }
     requires places { data_of lists.by_set ≡ list (items_of (map whole rule.now.by_set)) }
     ensures { IfOk result (λ t. data_of t ≡ rule_data (parts_of rule.now)) }
 {
     let kind = text_tree(alloc, "RecurrenceRule")?;
     let week_start = text_tree(alloc, weekday_name(rule.week_start))?;
     let frequency = text_tree(alloc, frequency_name(rule.frequency))?;
+    let skip = skip_tree(alloc, rule.skip)?;
     let until = until_tree(alloc, rule.end)?;
-    let members = vec![in alloc;
+    let mut members = vec![in alloc;
         ("@type", kind),
         ("byDay", lists.by_day),
         ("byMonth", lists.by_month),
         ("byMonthDay", lists.by_month_day),
         ("bySetPosition", lists.by_set),
-        ("count", count_tree(rule.end)),
-        ("firstDayOfWeek", week_start),
-        ("frequency", frequency),
-        ("interval", Tree::Whole(Num::new(i128::from(rule.interval)))),
-        ("until", until),
     ]?;
+    if let Some(by_year_day) = lists.by_year_day {
+        members.push(("byYearDay", by_year_day))?;
+    }
+    members.push(("count", count_tree(rule.end)))?;
+    members.push(("firstDayOfWeek", week_start))?;
+    members.push(("frequency", frequency))?;
+    members.push(("interval", Tree::Whole(Num::new(i128::from(rule.interval)))))?;
+    if let Some(skip) = skip {
+        members.push(("skip", skip))?;
+    }
+    members.push(("until", until))?;
     Tree::object(alloc, members)
 }
 
@@ -92,6 +103,17 @@ fn frequency_name(frequency: Freq) -> &'static str
         Freq::Weekly => "weekly",
         Freq::Monthly => "monthly",
         Freq::Yearly => "yearly",
+    }
+}
+
+// What is done with dates that there aren't, where they aren't left out.
+fn skip_tree(alloc: Global, skip: Skip) -> Result<Option<Tree>, AllocError>
+    ensures { IfOk result (λ o. option_map_or (λ t. (codes "skip", data_of t) ∷ []) o [] ≡ skip_members skip) }
+{
+    match skip {
+        Skip::Omit => Ok(None),
+        Skip::Backward => Ok(Some(text_tree(alloc, "backward")?)),
+        Skip::Forward => Ok(Some(text_tree(alloc, "forward")?)),
     }
 }
 
@@ -172,4 +194,14 @@ fn number_list(alloc: Global, numbers: &[i32]) -> Result<Tree, AllocError>
         items.push(Tree::Whole(Num::new(i128::from(*number))))?;
     }
     Ok(Tree::List(TreeList::new(items)))
+}
+
+// The days of the year, where there are some.
+fn year_day_list(alloc: Global, numbers: &[i32]) -> Result<Option<Tree>, AllocError>
+    ensures { IfOk result (λ o. option_map_or (λ t. (codes "byYearDay", data_of t) ∷ []) o [] ≡ year_day_members numbers.now) }
+{
+    if numbers.is_empty() {
+        return Ok(None);
+    }
+    Ok(Some(number_list(alloc, numbers)?))
 }

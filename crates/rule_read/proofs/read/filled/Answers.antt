@@ -10,4 +10,4 @@ invariant_of-result-clause-by_parts_in c =
     let days = simp to_z-of_z at c.in_ok-by_day.ensures in
     let month_days = simp to_z-of_z at c.in_ok-by_month_day.ensures in
     let months = simp to_z-of_z at c.in_ok-by_month.ensures in
-    rw (days, month_days, months) (filled_parts c.args.frame.frequency c.args.day c.args.by_day c.args.by_month_day c.args.by_month c.args.by_set c.requires.parts)
+    rw (days, month_days, months) (filled_parts c.args.frame.frequency c.args.day c.args.by_day c.args.by_month_day c.args.by_month c.args.by_year_day c.args.by_set c.requires.parts)
