@@ -1,6 +1,8 @@
--- What a rule keeps comes again.
-use Rattle.std.proofs.Common.{◌≡◌, inl, inr, ℕ, zero, suc, ◌==◌, ℤ, pos, ◌+ℤ◌, ◌-ℤ◌, Bool, true, ◌&&◌, List, [], ◌∷◌, Option, Some, None, nat_lt, refl, ap, ◌∙◌, arith}
+-- What a rule keeps and moves to comes again.
+use Rattle.std.proofs.Common.{◌≡◌, inl, inr, ℕ, zero, suc, ◌==◌, ℤ, pos, ◌+ℤ◌, ◌-ℤ◌, Bool, true, false, ◌&&◌, List, [], ◌∷◌, Option, Some, None, nat_lt, refl, sym, ap, ◌∙◌, arith}
 use Rattle.std.specs.List.{list_any, list_all}
+use Rattle.std.specs.Ordering.{int_eq}
+use Rattle.std.proofs.lemmas.Bool.{false_from_ne_true}
 use Rattle.jiff_core.proofs.SignedLemmas.{signed_arith}
 use Rattle.std.proofs.lemmas.Bool.Decides.{nat_tests}
 use borrow.Author.Tests.{eqb-true}
@@ -9,14 +11,13 @@ use Rattle.spec_series.specs.declared.by_part.Freq.{Freq}
 use Rattle.spec_series.specs.declared.by_part.Freq.TheVariants.{Daily, Weekly, Monthly, Yearly}
 use Rattle.spec_series.specs.declared.by_part.NDay.{NDay}
 use Rattle.spec_series.specs.declared.rule.Rule.{Rule}
-use Rattle.spec_series.specs.Periods.{period_first, period_last}
+use Rattle.spec_series.specs.Periods.{month_last, period_first, period_last}
 use Rattle.spec_series.specs.Places.{count_days, count_from, at_least_zero, empty_or_any}
-use Rattle.spec_series.specs.RuleLimits.{is_nday, is_nth}
-use Rattle.spec_series.specs.RuleSets.{nth_matches, nday_matches, month_day_matches, month_matches, counts_in_month, day_matches, is_kept}
-use Rattle.rule_expand.proofs.Cycle.{is_kept-cycle}
+use Rattle.spec_series.specs.RuleLimits.{is_empty, is_nday, is_nth}
+use Rattle.spec_series.specs.RuleSets.{nth_matches, nday_matches, month_day_matches, month_matches, year_day_matches, counts_in_month, day_matches, is_beyond_month, is_kept, is_moved, is_overflow, moved_from, moves}
+use Rattle.rule_expand.proofs.Cycle.{is_kept-cycle, is_moved-cycle}
 use Rattle.rule_expand.proofs.Places.{and_both, false_true}
 use Rattle.rule_expand.proofs.Sets.{or_cases}
-use Rattle.spec_series.specs.RuleObjects.{is_empty}
 use Rattle.rule_expand.specs.Repeats.{is_up_to_a_week, is_of_weekdays, repeats_after}
 
 -- the day a week later
@@ -86,22 +87,25 @@ empty-any p (x ∷ xs) h = grind (arith, nat_tests)
 matches-week : (r : Rule) → is_of_weekdays r ≡ true → (n : ℤ) → day_matches r (week_later n) ≡ day_matches r n
 unfolding day_matches
 matches-week r h n =
-    let p = and_both (is_up_to_a_week r.frequency) (is_empty r.by_month_day && is_empty r.by_month) h in
-    let q = and_both (is_empty r.by_month_day) (is_empty r.by_month) p.1 in
+    let p = and_both (is_up_to_a_week r.frequency) (is_empty r.by_month_day && (is_empty r.by_month && is_empty r.by_year_day)) h in
+    let q = and_both (is_empty r.by_month_day) (is_empty r.by_month && is_empty r.by_year_day) p.1 in
+    let u = and_both (is_empty r.by_month) (is_empty r.by_year_day) q.1 in
     let limits = and_both (list_all (is_nday r.frequency) r.by_day) _ r.by_parts_in in
     let b = counts_in_month r.frequency r.by_month in
     rw (
       empty-same (is_nday r.frequency) (nday_matches b (week_later n)) (nday_matches b n) (λ d g. nday-week r.frequency b n d p.0 g) r.by_day limits.0,
       empty-any (month_day_matches (week_later n)) r.by_month_day q.0,
-      empty-any (month_matches (week_later n)) r.by_month q.1,
+      empty-any (month_matches (week_later n)) r.by_month u.0,
+      empty-any (year_day_matches (week_later n)) r.by_year_day u.1,
       empty-any (month_day_matches n) r.by_month_day q.0,
-      empty-any (month_matches n) r.by_month q.1,
+      empty-any (month_matches n) r.by_month u.0,
+      empty-any (year_day_matches n) r.by_year_day u.1,
     ) refl
 
 kept-week : (r : Rule) → is_of_weekdays r ≡ true → (n : ℤ) → is_kept r (week_later n) ≡ is_kept r n
 unfolding is_kept
 kept-week r h n =
-    let p = and_both (is_up_to_a_week r.frequency) (is_empty r.by_month_day && is_empty r.by_month) h in
+    let p = and_both (is_up_to_a_week r.frequency) (is_empty r.by_month_day && (is_empty r.by_month && is_empty r.by_year_day)) h in
     rw (
       matches-week r h n,
       first-week r.frequency r.week_start n p.0,
@@ -121,4 +125,33 @@ kept_again r c h n =
           let p = and_both (c == 7) (is_of_weekdays r) week in
           let is : c ≡ 7 = eqb-true c 7 p.0 in
           ap (λ x. is_kept r (n +ℤ pos x)) is ∙ kept-week r p.1 n
+    ]
+
+none_among : (p : ℤ → Bool) (xs : List ℤ) → is_empty xs ≡ true → list_any p xs ≡ true → ⊥
+none_among p [] h g = false_true g
+none_among p (x ∷ xs) h g = grind (arith, nat_tests)
+
+-- without days of the month nothing is moved
+unmoved : (r : Rule) → is_empty r.by_month_day ≡ true → (n : ℤ) → is_moved r n ≡ false
+unfolding is_moved is_overflow
+unmoved r h n =
+    false_from_ne_true (is_moved r n) (λ m.
+    let x = moved_from r.skip n in
+    let a = and_both (moves r.skip) (is_overflow r x) m in
+    let b = and_both (int_eq x (month_last x)) (empty_or_any (month_matches x) r.by_month && list_any (is_beyond_month x) r.by_month_day) a.1 in
+    let c = and_both (empty_or_any (month_matches x) r.by_month) (list_any (is_beyond_month x) r.by_month_day) b.1 in
+    none_among (is_beyond_month x) r.by_month_day h c.1)
+
+pub moved_again : (r : Rule) (c : ℕ) → repeats_after r c ≡ true → (n : ℤ) → is_moved r (n +ℤ pos c) ≡ is_moved r n
+moved_again r c h n =
+    elim (or_cases (c == 146097) ((c == 7) && is_of_weekdays r) h) [
+      | inl whole ↦
+          let is : c ≡ 146097 = eqb-true c 146097 whole in
+          let e : n +ℤ pos c ≡ cycles_later n (pos 1) = omega (arith, signed_arith, is) in
+          ap (is_moved r) e ∙ is_moved-cycle r n (pos 1)
+      | inr week ↦
+          let p = and_both (c == 7) (is_of_weekdays r) week in
+          let q = and_both (is_up_to_a_week r.frequency) (is_empty r.by_month_day && (is_empty r.by_month && is_empty r.by_year_day)) p.1 in
+          let none = unmoved r (and_both (is_empty r.by_month_day) (is_empty r.by_month && is_empty r.by_year_day) q.1).0 in
+          none (n +ℤ pos c) ∙ sym (none n)
     ]

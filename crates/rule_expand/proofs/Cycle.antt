@@ -1,15 +1,20 @@
 -- Matching, being kept and the ends of periods move with whole cycles of 146097 days.
 use Rattle.std.proofs.Common.{◌≡◌, ℕ, zero, suc, ◌+◌, Bool, true, false, cond, refl, arith, ℤ, pos, ◌+ℤ◌, ◌-ℤ◌, ◌*ℤ◌, Option, Some, None, List, [], ◌∷◌, length}
 use Rattle.std.specs.List.{list_any}
+use Rattle.std.specs.Ordering.{int_eq}
+use Rattle.std.proofs.lemmas.Bool.Decides.{Decides-int_eq}
+use Rattle.spec_series.specs.declared.by_part.Skip.{Skip}
+use Rattle.spec_series.specs.declared.by_part.Skip.TheVariants.{Omit, Backward, Forward}
 use Rattle.jiff_core.proofs.SignedLemmas.{signed_arith}
 use Rattle.spec_series.specs.Periods.{month_first, month_last, year_first, year_last, period_by, period_first, period_last}
 use Rattle.spec_series.specs.Places.{count_days, at_least_zero, count_from, is_place, empty_or_any}
-use Rattle.spec_series.specs.RuleSets.{counts_in_month, scope_first, scope_last, is_weekday, nth_matches, nday_matches, month_day_matches, month_matches, day_matches, is_kept}
+use Rattle.spec_series.specs.RuleSets.{counts_in_month, scope_first, scope_last, is_weekday, nth_matches, nday_matches, month_day_matches, month_matches, year_day_matches, day_matches, is_kept, is_beyond_month, is_overflow, is_moved, moved_from}
 use Rattle.spec_time.specs.CivilDay.{month_length, weekday_of, year_of, month_of}
 use Rattle.spec_series.specs.declared.rule.Rule.{Rule}
 use Rattle.spec_series.specs.declared.by_part.NDay.{NDay}
 use Rattle.spec_series.specs.declared.by_part.Freq.{Freq}
 use Rattle.spec_series.specs.declared.by_part.Freq.TheVariants.{Daily, Weekly, Monthly, Yearly}
+use Rattle.spec_json.proofs.Booleans.{same_truth}
 use Rattle.civil_days.proofs.CycleLemmas.{month_length-cycle, day_number-cycle}
 use Rattle.rule_expand.proofs.Dates.{at_cycle}
 
@@ -118,7 +123,14 @@ month-cycle : (n q k : ℤ) → month_matches (later n q) k ≡ month_matches n 
 unfolding month_matches
 month-cycle n q k = rw (at_cycle n q).1
 
--- the first half of the law
+year_day-cycle : (n q k : ℤ) → year_day_matches (later n q) k ≡ year_day_matches n k
+unfolding year_day_matches
+year_day-cycle n q k =
+    let a : later n q -ℤ year_first (later n q) +ℤ pos 1 ≡ n -ℤ year_first n +ℤ pos 1 = omega (arith, signed_arith, year_first-cycle n q) in
+    let b : year_last (later n q) -ℤ later n q +ℤ pos 1 ≡ year_last n -ℤ n +ℤ pos 1 = omega (arith, signed_arith, year_last-cycle n q) in
+    rw (a, b)
+
+-- the first part of the law
 pub day_matches-cycle : (r : Rule) → IsPeriodic (day_matches r)
 unfolding day_matches
 day_matches-cycle r n q =
@@ -127,6 +139,7 @@ day_matches-cycle r n q =
       empty_or_any-same (nday_matches b (later n q)) (nday_matches b n) (nday-cycle b n q) r.by_day,
       empty_or_any-same (month_day_matches (later n q)) (month_day_matches n) (month_day-cycle n q) r.by_month_day,
       empty_or_any-same (month_matches (later n q)) (month_matches n) (month-cycle n q) r.by_month,
+      empty_or_any-same (year_day_matches (later n q)) (year_day_matches n) (year_day-cycle n q) r.by_year_day,
     )
 
 -- and the second
@@ -140,6 +153,36 @@ is_kept-cycle r n q =
       count_from-cycle (day_matches r) (day_matches-cycle r) (period_first r.frequency r.week_start n) n q,
       count_from-cycle (day_matches r) (day_matches-cycle r) n (period_last r.frequency r.week_start n) q,
     )
+
+int_eq-cycle : (n m q : ℤ) → int_eq (later n q) (later m q) ≡ int_eq n m
+int_eq-cycle n m q =
+    same_truth (int_eq (later n q) (later m q)) (int_eq n m)
+    (λ h. let e = (Decides-int_eq (later n q) (later m q)).0 h in (Decides-int_eq n m).1 (omega (arith, signed_arith, e)))
+    (λ h. let e = (Decides-int_eq n m).0 h in (Decides-int_eq (later n q) (later m q)).1 (omega (arith, signed_arith, e)))
+
+beyond-cycle : (n q k : ℤ) → is_beyond_month (later n q) k ≡ is_beyond_month n k
+beyond-cycle n q k = let a = at_cycle n q in rw (a.0, a.1, month_length-cycle (year_of n) q (month_of n))
+
+pub is_overflow-cycle : (r : Rule) → IsPeriodic (is_overflow r)
+unfolding is_overflow
+is_overflow-cycle r n q =
+    rw (
+      month_last-cycle n q,
+      int_eq-cycle n (month_last n) q,
+      empty_or_any-same (month_matches (later n q)) (month_matches n) (month-cycle n q) r.by_month,
+      list_any-same (is_beyond_month (later n q)) (is_beyond_month n) (beyond-cycle n q) r.by_month_day,
+    )
+
+pub moved_from-cycle : (s : Skip) (n q : ℤ) → moved_from s (later n q) ≡ later (moved_from s n) q
+unfolding moved_from
+moved_from-cycle Omit n q = refl
+moved_from-cycle Backward n q = refl
+moved_from-cycle Forward n q = omega (arith, signed_arith)
+
+-- and the third
+pub is_moved-cycle : (r : Rule) → IsPeriodic (is_moved r)
+unfolding is_moved
+is_moved-cycle r n q = rw (moved_from-cycle r.skip n q, is_overflow-cycle r (moved_from r.skip n) q)
 
 pub count_days-none : (p : ℤ → Bool) (first : ℤ) → count_days p first 0 ≡ 0
 unfolding count_days
@@ -172,7 +215,7 @@ unfolding is_kept
 is_kept-by r n first before after front back in_set m f l e a b s =
     rw (m, s, a, b, f, l, count_from-before (day_matches r) (n -ℤ pos before) n before refl, count_from-after (day_matches r) n (n +ℤ pos after) after refl, e)
 
-empty_any : {A : Type 0} (p : A → Bool) (xs : List A) → length xs ≡ 0 → true ≡ empty_or_any p xs
+pub empty_any : {A : Type 0} (p : A → Bool) (xs : List A) → length xs ≡ 0 → true ≡ empty_or_any p xs
 empty_any p [] e = refl
 empty_any p (x ∷ xs) e = absurd (omega (arith, e))
 

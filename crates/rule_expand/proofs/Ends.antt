@@ -1,39 +1,6 @@
 -- Lemmas for the end of a rule's set.
-use Rattle.std.proofs.Common.{eq-eqb, ◌≡◌, ℕ, zero, suc, ◌+◌, ◌-◌, ◌*◌, ◌<◌, ◌≤◌, Bool, true, false, ap, ◌∙◌, arith, ℤ, pos, ◌+ℤ◌, ◌<ℤ◌}
-use Rattle.std.proofs.Math.Nat.{mul_comm}
-use Rattle.jiff_core.proofs.SignedLemmas.{signed_arith}
-use Rattle.spec_series.specs.Periods.{period_number, is_in_phase}
+use Rattle.std.proofs.Common.{◌≡◌, ℕ, zero, suc, ◌+◌, ◌-◌, ◌<◌, ◌≤◌, Bool, true, false, ap, ◌∙◌, arith, ℤ, pos, ◌+ℤ◌}
 use Rattle.spec_series.specs.Places.{count_days}
-use Rattle.spec_time.specs.Floor.{modulo}
-use Rattle.rule_expand.specs.Walk.{periods, IsPhaseDay}
-use Rattle.spec_series.specs.declared.rule.Rule.{Rule}
-use Rattle.rule_expand.proofs.Cycle.{later, is_kept-cycle}
-use Rattle.rule_expand.proofs.Next.{period-later}
-use Rattle.rule_expand.proofs.Remainder.{modulo-steps}
-use borrow.Author.Tests.{eqb-true}
-
--- a with one day after its start has no last one
-pub endless : (r : Rule) (s a n : ℤ) → IsPhaseDay r s a n → (m : ℤ) × ((n <ℤ m) × IsPhaseDay r s a m)
-unfolding is_in_phase
-endless r s a n day =
-    let i = r.interval in
-    let P = periods r.frequency in
-    let m = later n (pos i) in
-    let e : period_number r m ≡ period_number r n +ℤ pos (P * i) =
-    period-later r.frequency r.week_start n (pos i) ∙ ap (λ x. period_number r n +ℤ pos x) (mul_comm i P) in
-    let past : n <ℤ m = omega (arith, signed_arith, r.interval_in.0) in
-    let same = modulo-steps i P (period_number r n) (period_number r m) r.interval_in.0 e in
-    let old = eqb-true (modulo (period_number r n) i) (modulo (period_number r s) i) day.phase in (
-      m,
-      (
-        past,
-        record {
-          past = omega (arith, signed_arith, day.past);
-          kept = is_kept-cycle r n (pos i) ∙ day.kept;
-          phase = eq-eqb (modulo (period_number r m) i) (modulo (period_number r s) i) (same ∙ old);
-        },
-      ),
-    )
 
 -- days that don't pass the test add nothing
 count_gap : (p : ℤ → Bool) (first : ℤ) (k m : ℕ) → ((j : ℕ) → k ≤ j → j < k + m → p (first +ℤ pos j) ≡ false) → count_days p first (m + k) ≡ count_days p first k

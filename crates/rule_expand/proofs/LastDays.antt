@@ -7,11 +7,11 @@ use Rattle.spec_series.specs.Places.{count_days, count_from}
 use Rattle.spec_series.specs.RuleSets.{is_in_set, is_due, is_counted, is_day_of_set}
 use Rattle.spec_time.specs.Walls.{day_of_wall, second_of_wall}
 use Rattle.spec_time.specs.Floor.{floor_div}
-use Rattle.rule_expand.specs.Sets.{IsNext, IsBound, IsGreatest, IsLastDue, IsCountAt}
+use Rattle.rule_expand.specs.Sets.{is_up_to, IsNext, IsBound, IsGreatest, IsLastDue, IsCountAt}
 use Rattle.spec_series.specs.declared.rule.Rule.{Rule}
 use Rattle.spec_series.specs.declared.by_part.End.{End}
 use Rattle.spec_series.specs.declared.by_part.End.TheVariants.{Never, Count, Until}
-use Rattle.rule_expand.specs.declared.bound.Bound.TheVariants.{Endless}
+use Rattle.rule_expand.specs.declared.bound.Bound.TheVariants.{Endless, Last}
 use Rattle.rule_expand.proofs.Cycle.{count_from-after, count_days-more, count_days-none}
 use Rattle.rule_expand.proofs.Ends.{count_next}
 use Rattle.rule_expand.specs.Near.{IsNear}
@@ -25,8 +25,8 @@ use Rattle.std.proofs.Common.{add-one}
 
 -- one due day after another: the loop of `last_due`
 module _ (due : ℤ → Bool) (d high : ℤ) where
-  pub last_done : (here : ℤ) → ((here ≡ d) ⊎ ((d <ℤ here) × ((here ≤ℤ high) × (due here ≡ true)))) → ((m : ℤ) → here <ℤ m → due m ≡ true → ⊥) → IsLastDue due d high here
-  last_done here is none = record { is = is; none = λ m lt le g. none m lt g }
+  pub last_done : (here : ℤ) → ((here ≡ d) ⊎ ((d <ℤ here) × ((here ≤ℤ high) × (due here ≡ true)))) → ((m : ℤ) → here <ℤ m → is_up_to (Last high) m ≡ true → due m ≡ true → ⊥) → IsLastDue due d high here
+  last_done here is none = record { is = is; none = λ m lt le g. none m lt (is_int_le m high le) g }
 
   pub last_past : (here n : ℤ) → ((here ≡ d) ⊎ ((d <ℤ here) × ((here ≤ℤ high) × (due here ≡ true)))) → IsNext due here n → high <ℤ n → IsLastDue due d high here
   last_past here n is next past = record { is = is; none = λ m lt le g. absurd (omega (arith, signed_arith, next.least m lt g)) }
@@ -101,6 +101,16 @@ module _ (due : ℤ → Bool) (c t : ℕ) (d : ℤ) where
         absurd (omega (arith, mono, one, total, mine, at.count, most)))
         (λ ge. ge),
   )
+
+-- the loop of `is_among`: a due day that is next, and one behind the last of so many
+module _ (due : ℤ → Bool) (c t : ℕ) (d here day : ℤ) (k : ℕ) (at : IsCountAt due c t d here k) (before : here <ℤ day) where
+  pub among_next : (n : ℤ) → k < c → due day ≡ true → IsNext due here n → day ≤ℤ n → true ≡ is_day_of_set due (Count c) t d day
+  among_next n less g next le =
+      let same : n ≡ day = omega (arith, signed_arith, next.least day before g, le) in
+      sym (rw (← same) (counted_in due c t d n (k + 1) (count_step due c t d here n k at next) (omega (arith, less))))
+
+  pub among_not : k ≡ c → false ≡ is_day_of_set due (Count c) t d day
+  among_not e = sym (false_from_ne_true (is_day_of_set due (Count c) t d day) (λ h. let le = (count_full due c t d here (rw e at at)).1 day h in omega (arith, signed_arith, le, before)))
 
 -- the days up to the last whose second isn't past u
 pub by_until : (u n : ℤ) (t : ℕ) → int_le (n *ℤ pos 86400 +ℤ pos t) u ≡ true → n ≤ℤ floor_div (u -ℤ pos t) 86400

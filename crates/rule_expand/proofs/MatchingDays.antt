@@ -10,8 +10,8 @@ use Rattle.spec_time.specs.CivilDay.{day_of_month, month_length, month_of, year_
 use Rattle.spec_series.specs.declared.by_part.Freq.TheVariants.{Monthly}
 use Rattle.spec_series.specs.declared.rule.Rule.{Rule}
 use Rattle.spec_series.specs.Periods.{month_last, period_by, period_last}
-use Rattle.spec_series.specs.Places.{empty_or_any}
-use Rattle.spec_series.specs.RuleSets.{counts_in_month, day_matches, is_kept, month_day_matches, month_matches, nday_matches}
+use Rattle.spec_series.specs.Places.{at_least_zero, empty_or_any}
+use Rattle.spec_series.specs.RuleSets.{counts_in_month, day_matches, is_kept, month_day_matches, month_matches, nday_matches, year_day_matches}
 use Rattle.rule_expand.specs.Walk.{IsFirstIn, IsFirstMatch, IsFirstPlain, NoneIn, NonePlain, first_of}
 use Rattle.rule_expand.proofs.Dates.{at_law, month_first-is, month_last-is}
 use Rattle.rule_expand.proofs.Cycle.{empty_or_any-same}
@@ -21,39 +21,51 @@ use Rattle.spec_series.specs.declared.by_part.NDay.{NDay}
 use Rattle.std.specs.Int.{int_gap}
 use Rattle.std.proofs.Common.{◌/◌}
 use Rattle.spec_time.specs.CivilDay.{weekday_of}
-use Rattle.spec_series.specs.Periods.{month_first}
+use Rattle.spec_series.specs.Periods.{month_first, year_first, year_last}
 use Rattle.spec_series.specs.Places.{is_place}
 use Rattle.spec_series.specs.RuleSets.{scope_first, scope_last}
 use Rattle.rule_expand.specs.Walk.{nday_at}
 use Rattle.rule_expand.proofs.Next.{period-mono}
 use Rattle.rule_expand.proofs.Periods.{in_period_from, le_last, period_between, period-last}
 
-last_false : (a b : Bool) → (a && (b && false)) ≡ false
-last_false true true = refl
-last_false true false = refl
-last_false false b = refl
+last_false : (a b c : Bool) → (a && (b && (false && c))) ≡ false
+last_false true true c = refl
+last_false true false c = refl
+last_false false b c = refl
+
+end_false : (a b c : Bool) → (a && (b && (c && false))) ≡ false
+end_false true true true = refl
+end_false true true false = refl
+end_false true false c = refl
+end_false false b c = refl
 
 middle_false : (a c : Bool) → (a && (false && c)) ≡ false
 middle_false true c = refl
 middle_false false c = refl
 
-first_alone : (a : Bool) → (a && (true && true)) ≡ a
+first_alone : (a : Bool) → (a && (true && (true && true))) ≡ a
 first_alone true = refl
 first_alone false = refl
 
 pub no_month : (r : Rule) (n : ℤ) → empty_or_any (month_matches n) r.by_month ≡ false → false ≡ day_matches r n
 unfolding day_matches
-no_month r n e = rw e (sym (last_false _ _))
+no_month r n e =
+    rw e (sym (last_false (empty_or_any (nday_matches (counts_in_month r.frequency r.by_month) n) r.by_day) (empty_or_any (month_day_matches n) r.by_month_day) (empty_or_any (year_day_matches n) r.by_year_day)))
 
 pub no_month_day : (r : Rule) (n : ℤ) → empty_or_any (month_day_matches n) r.by_month_day ≡ false → false ≡ day_matches r n
 unfolding day_matches
 no_month_day r n e =
-    rw e (sym (middle_false (empty_or_any (nday_matches (counts_in_month r.frequency r.by_month) n) r.by_day) (empty_or_any (month_matches n) r.by_month)))
+    rw e (sym (middle_false (empty_or_any (nday_matches (counts_in_month r.frequency r.by_month) n) r.by_day) (empty_or_any (month_matches n) r.by_month && empty_or_any (year_day_matches n) r.by_year_day)))
+
+pub no_year_day : (r : Rule) (n : ℤ) → empty_or_any (year_day_matches n) r.by_year_day ≡ false → false ≡ day_matches r n
+unfolding day_matches
+no_year_day r n e =
+    rw e (sym (end_false (empty_or_any (nday_matches (counts_in_month r.frequency r.by_month) n) r.by_day) (empty_or_any (month_day_matches n) r.by_month_day) (empty_or_any (month_matches n) r.by_month)))
 
 pub by_weekday : (r : Rule) (n : ℤ) (a : Bool) → a ≡ empty_or_any (nday_matches (counts_in_month r.frequency r.by_month) n) r.by_day
-    → empty_or_any (month_day_matches n) r.by_month_day ≡ true → empty_or_any (month_matches n) r.by_month ≡ true → a ≡ day_matches r n
+    → empty_or_any (month_day_matches n) r.by_month_day ≡ true → empty_or_any (month_matches n) r.by_month ≡ true → empty_or_any (year_day_matches n) r.by_year_day ≡ true → a ≡ day_matches r n
 unfolding day_matches
-by_weekday r n a h e f = rw (e, f) (h ∙ sym (first_alone _))
+by_weekday r n a h e f g = rw (e, f, g) (h ∙ sym (first_alone _))
 
 month_same : (d n : ℤ) → d ≤ℤ n → n ≤ℤ month_last d → month_of n ≡ month_of d
 unfolding period_by period_last
@@ -86,21 +98,25 @@ plain_kept r n e h =
     (count_from (day_matches r) (period_first r.frequency r.week_start n) n)
     (count_from (day_matches r) n (period_last r.frequency r.week_start n)))) e)
 
-pub plain_none : (r : Rule) (after p d : ℤ) (more : ℕ) → r.by_set ≡ [] → d ≡ first_of r.frequency r.week_start p → period_last r.frequency r.week_start d ≡ d +ℤ pos more
-    → NonePlain r after d more → NoneIn r after p
-plain_none r after p d more e first last none m own past kept =
-    let b = in_period_from r.frequency r.week_start p m d first own in
-    none m b.0 (rw last at b.1) past (kept_plain r m e kept)
+-- a test that passes the same days as another
+abbrev pub Passes : (ℤ → Bool) → (ℤ → Bool) → Type 0
+Passes t u = (n : ℤ) → t n ≡ true → u n ≡ true
 
-pub plain_first : (r : Rule) (after p d n : ℤ) (more : ℕ) → r.by_set ≡ [] → d ≡ first_of r.frequency r.week_start p → period_last r.frequency r.week_start d ≡ d +ℤ pos more
-    → IsFirstPlain r after d more n → IsFirstIn r after p n
-plain_first r after p d n more e first last h = record {
+pub plain_none : (r : Rule) (t u : ℤ → Bool) → Passes u t → (after p d : ℤ) (more : ℕ) → d ≡ first_of r.frequency r.week_start p → period_last r.frequency r.week_start d ≡ d +ℤ pos more
+    → NonePlain t after d more → NoneIn r u after p
+plain_none r t u to after p d more first last none m own past kept =
+    let b = in_period_from r.frequency r.week_start p m d first own in
+    none m b.0 (rw last at b.1) past (to m kept)
+
+pub plain_first : (r : Rule) (t u : ℤ → Bool) → Passes u t → Passes t u → (after p d n : ℤ) (more : ℕ) → d ≡ first_of r.frequency r.week_start p → period_last r.frequency r.week_start d ≡ d +ℤ pos more
+    → IsFirstPlain t after d more n → IsFirstIn r u after p n
+plain_first r t u to from after p d n more first last h = record {
   own = period_between r.frequency r.week_start p n d first h.low (rw last h.high);
   past = h.past;
-  kept = plain_kept r n e h.matches;
+  passes = from n h.matches;
   least = λ m own past kept.
       let b = in_period_from r.frequency r.week_start p m d first own in
-      by_lt_z m n (λ lt. absurd (h.before m b.0 lt past (kept_plain r m e kept))) (λ ge. ge);
+      by_lt_z m n (λ lt. absurd (h.before m b.0 lt past (to m kept))) (λ ge. ge);
 }
 
 -- the later of a period's first day and the day after another
@@ -109,13 +125,13 @@ pub record IsLow (first after from : ℤ) : Type 0 where
   pub past : after <ℤ from
   pub least : (n : ℤ) → first ≤ℤ n → after <ℤ n → from ≤ℤ n
 
-pub match_none : (r : Rule) (after first from : ℤ) (more : ℕ) → IsLow first after from
-    → ((n : ℤ) → from ≤ℤ n → n ≤ℤ (first +ℤ pos more) → day_matches r n ≡ true → ⊥) → NonePlain r after first more
-match_none r after first from more e none n low high past m = none n (e.least n low past) high m
+pub match_none : (t : ℤ → Bool) (after first from : ℤ) (more : ℕ) → IsLow first after from
+    → ((n : ℤ) → from ≤ℤ n → n ≤ℤ (first +ℤ pos more) → t n ≡ true → ⊥) → NonePlain t after first more
+match_none t after first from more e none n low high past m = none n (e.least n low past) high m
 
-pub match_first : (r : Rule) (after first from n : ℤ) (more : ℕ) → IsLow first after from
-    → IsFirstMatch r from (first +ℤ pos more) n → IsFirstPlain r after first more n
-match_first r after first from n more e h = record {
+pub match_first : (t : ℤ → Bool) (after first from n : ℤ) (more : ℕ) → IsLow first after from
+    → IsFirstMatch t from (first +ℤ pos more) n → IsFirstPlain t after first more n
+match_first t after first from n more e h = record {
   low = omega (arith, signed_arith, e.low, h.low);
   high = h.high;
   past = omega (arith, signed_arith, e.past, h.low);
@@ -123,13 +139,13 @@ match_first r after first from n more e h = record {
   before = λ m low lt past k. h.before m (e.least m low past) lt k;
 }
 
-pub some_match : (r : Rule) (after first from : ℤ) (more : ℕ) → IsLow first after from
-    → (o : Option ℤ) → IfSome o (IsFirstMatch r from (first +ℤ pos more)) → IfSome o (IsFirstPlain r after first more)
-some_match r after first from more e None h = tt
-some_match r after first from more e (Some n) h = match_first r after first from n more e h
+pub some_match : (t : ℤ → Bool) (after first from : ℤ) (more : ℕ) → IsLow first after from
+    → (o : Option ℤ) → IfSome o (IsFirstMatch t from (first +ℤ pos more)) → IfSome o (IsFirstPlain t after first more)
+some_match t after first from more e None h = tt
+some_match t after first from more e (Some n) h = match_first t after first from n more e h
 
-pub never_match : (r : Rule) (after first from : ℤ) (more : ℕ) → IsLow first after from → (first +ℤ pos more) <ℤ from → NonePlain r after first more
-never_match r after first from more e lt n low high past m = omega (arith, signed_arith, e.least n low past, lt, high)
+pub never_match : (t : ℤ → Bool) (after first from : ℤ) (more : ℕ) → IsLow first after from → (first +ℤ pos more) <ℤ from → NonePlain t after first more
+never_match t after first from more e lt n low high past m = omega (arith, signed_arith, e.least n low past, lt, high)
 
 pub month_days_are : (n : ℤ) (before after : ℕ) (xs : List ℤ) → month_first n ≡ n -ℤ pos before → month_last n ≡ n +ℤ pos after
     → empty_or_any (is_place (before + 1) (after + 1)) xs ≡ empty_or_any (month_day_matches n) xs
@@ -137,6 +153,17 @@ unfolding month_day_matches
 month_days_are n before after xs f l =
     let a : before + 1 ≡ day_of_month n = omega (arith, signed_arith, f, month_first-is n, (at_law n).0) in
     let b : after + 1 ≡ month_length (year_of n) (month_of n) + 1 - day_of_month n = omega (arith, signed_arith, l, month_last-is n, (at_law n).0) in
+    rw (a, b) refl
+
+-- the place of a day in its year, by the days before and after it
+pub year_days_are : (n : ℤ) (before after : ℕ) (xs : List ℤ) → year_first n ≡ n -ℤ pos before → year_last n ≡ n +ℤ pos after
+    → empty_or_any (is_place (before + 1) (after + 1)) xs ≡ empty_or_any (year_day_matches n) xs
+unfolding year_day_matches
+year_days_are n before after xs f l =
+    let x : pos (before + 1) ≡ n -ℤ year_first n +ℤ pos 1 = omega (arith, signed_arith, f) in
+    let y : pos (after + 1) ≡ year_last n -ℤ n +ℤ pos 1 = omega (arith, signed_arith, l) in
+    let a : before + 1 ≡ at_least_zero (n -ℤ year_first n +ℤ pos 1) = ap at_least_zero x in
+    let b : after + 1 ≡ at_least_zero (year_last n -ℤ n +ℤ pos 1) = ap at_least_zero y in
     rw (a, b) refl
 
 pub weekdays_are : (month : Bool) (n : ℤ) (before after : ℕ) (xs : List NDay) → scope_first month n ≡ n -ℤ pos before → scope_last month n ≡ n +ℤ pos after
@@ -147,7 +174,7 @@ weekdays_are month n before after xs f l =
 pub gap_falls : (a b c : ℤ) → a <ℤ b → a <ℤ c → int_gap b c < int_gap a c
 gap_falls a b c lt h = omega (arith, signed_arith, int_gap_is a c, int_gap_is b c)
 
-pub some_plain : (r : Rule) (after p d : ℤ) (more : ℕ) → r.by_set ≡ [] → d ≡ first_of r.frequency r.week_start p → period_last r.frequency r.week_start d ≡ d +ℤ pos more
-    → (o : Option ℤ) → IfSome o (IsFirstPlain r after d more) → IfSome o (IsFirstIn r after p)
-some_plain r after p d more e first last None h = tt
-some_plain r after p d more e first last (Some n) h = plain_first r after p d n more e first last h
+pub some_plain : (r : Rule) (t u : ℤ → Bool) → Passes u t → Passes t u → (after p d : ℤ) (more : ℕ) → d ≡ first_of r.frequency r.week_start p → period_last r.frequency r.week_start d ≡ d +ℤ pos more
+    → (o : Option ℤ) → IfSome o (IsFirstPlain t after d more) → IfSome o (IsFirstIn r u after p)
+some_plain r t u to from after p d more first last None h = tt
+some_plain r t u to from after p d more first last (Some n) h = plain_first r t u to from after p d n more first last h

@@ -1,5 +1,5 @@
 -- A walk over the periods in phase of one cycle finds a day, if there is one on all days.
-use Rattle.std.proofs.Common.{mul-le-mul, ◌≡◌, ℕ, zero, suc, ◌+◌, ◌-◌, ◌*◌, ◌/◌, ◌%◌, ◌<◌, ◌≤◌, inl, inr, Bool, true, refl, sym, ap, ◌∙◌, arith, ℤ, pos, neg_ℤ, ◌+ℤ◌, ◌*ℤ◌, ◌<ℤ◌, ◌≤ℤ◌}
+use Rattle.std.proofs.Common.{mul-le-mul, ◌≡◌, ℕ, zero, suc, ◌+◌, ◌-◌, ◌*◌, ◌/◌, ◌%◌, ◌<◌, ◌≤◌, inl, inr, refl, sym, ap, subst, ◌∙◌, arith, ℤ, pos, neg_ℤ, ◌+ℤ◌, ◌*ℤ◌, ◌<ℤ◌, ◌≤ℤ◌}
 use Rattle.std.specs.Int.{int_div_euclid, int_rem_euclid}
 use Rattle.std.proofs.lemmas.Bool.{cases_order}
 use Rattle.std.proofs.lemmas.Int.{by_lt_z}
@@ -11,7 +11,7 @@ use Rattle.rule_expand.specs.Walk.{periods}
 use Rattle.spec_series.specs.declared.by_part.Freq.{Freq}
 use Rattle.spec_series.specs.declared.by_part.Freq.TheVariants.{Daily, Weekly, Monthly, Yearly}
 use Rattle.rule_expand.proofs.Dates.{at_law, day_number-year, day_number-month}
-use Rattle.rule_expand.proofs.Cycle.{later, IsPeriodic, period-cycle}
+use Rattle.rule_expand.proofs.Cycle.{later, period-cycle}
 use Rattle.std.proofs.lemmas.Nat.{div-add-mod'}
 use Rattle.std.proofs.Math.Nat.{add-mul, mul_assoc, mul_comm}
 use borrow.Author.Differences.{up, down}
@@ -85,22 +85,23 @@ one_le j i h k = mul-le-mul h k
 pub period-lt : (f : Freq) (w : ℕ) (n m : ℤ) → period_by f w n <ℤ period_by f w m → n <ℤ m
 period-lt f w n m h = by_lt_z n m (λ lt. lt) (λ ge. absurd (omega (arith, signed_arith, period-mono f w m n ge)))
 
--- of the periods p, p + i, p + 2 * i and so on, the first P + 1 tell whether any has such a day
-pub none_in_walk : (f : Freq) (w i : ℕ) (test : ℤ → Bool) → IsPeriodic test → (after p : ℤ) → 1 ≤ i → period_by f w after ≤ℤ p
-    → ((j : ℕ) → j ≤ periods f → (n : ℤ) → period_by f w n ≡ p +ℤ pos (j * i) → after <ℤ n → test n ≡ true → ⊥)
-    → (t : ℕ) (n : ℤ) → period_by f w n ≡ p +ℤ pos (t * i) → after <ℤ n → test n ≡ true → ⊥
-none_in_walk f w i test h after p one low walk zero n e lt is = walk 0 (omega arith) n e lt is
-none_in_walk f w i test h after p one low walk (suc t) n e lt is =
+-- of the periods p, p + i, p + 2 * i and so on, the first P + 1 tell whether any gives such a day
+pub none_in_walk : (f : Freq) (w i : ℕ) (gives : ℤ → ℤ → Type 0) → ((p n q : ℤ) → gives p n → gives (p +ℤ q *ℤ pos (periods f)) (later n q))
+    → ((p n x : ℤ) → gives p n → period_by f w x <ℤ p → x <ℤ n) → (after p : ℤ) → 1 ≤ i → period_by f w after ≤ℤ p
+    → ((j : ℕ) → j ≤ periods f → (n : ℤ) → gives (p +ℤ pos (j * i)) n → after <ℤ n → ⊥)
+    → (t : ℕ) (n : ℤ) → gives (p +ℤ pos (t * i)) n → after <ℤ n → ⊥
+none_in_walk f w i gives cycle late after p one low walk zero n g lt = walk 0 (omega arith) n g lt
+none_in_walk f w i gives cycle late after p one low walk (suc t) n g lt =
     let P = periods f in
     let j = t % P + 1 in
     let m = t / P * i in
     let n₂ = later n (neg_ℤ (pos m)) in
-    let steps = turns P i t in
-    let same : period_by f w n₂ ≡ p +ℤ pos (j * i) =
-    period-later f w n (neg_ℤ (pos m)) ∙ moved_back (period_by f w n) p (suc t * i) (j * i) m P e steps in
+    let same : (p +ℤ pos (suc t * i)) +ℤ neg_ℤ (pos m) *ℤ pos P ≡ p +ℤ pos (j * i) =
+    moved_back (p +ℤ pos (suc t * i)) p (suc t * i) (j * i) m P refl (turns P i t) in
     let small : j ≤ P = omega (arith, periods-positive f) in
-    let past : period_by f w after <ℤ period_by f w n₂ = rw same (omega (arith, signed_arith, one_le j i (omega arith) one)) in
-    walk j small n₂ same (period-lt f w after n₂ past) (h n (neg_ℤ (pos m)) ∙ is)
+    let back : gives (p +ℤ pos (j * i)) n₂ = subst (λ (x : ℤ). gives x n₂) same (cycle (p +ℤ pos (suc t * i)) n (neg_ℤ (pos m)) g) in
+    let far : period_by f w after <ℤ (p +ℤ pos (j * i)) = omega (arith, signed_arith, one_le j i (omega arith) one, low) in
+    walk j small n₂ back (late (p +ℤ pos (j * i)) n₂ after back far)
 
 add_mul : (a b e f i : ℕ) → a + b ≡ e + f → a * i + b * i ≡ e * i + f * i
 add_mul a b e f i h = sym (add-mul a b i) ∙ ap (λ x. x * i) h ∙ add-mul e f i

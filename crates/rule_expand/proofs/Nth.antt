@@ -2,13 +2,12 @@
 use Rattle.std.proofs.Common.{◌≡◌, ℕ, zero, suc, ◌+◌, ◌-◌, ◌/◌, ◌%◌, ◌<◌, Bool, true, false, ◌&&◌, cond, nat_eq, refl, ◌∙◌, arith, ℤ, pos, ◌+ℤ◌, ◌-ℤ◌, Option, Some, None}
 use Rattle.std.proofs.lemmas.Bool.Decides.{nat_tests}
 use Rattle.jiff_core.proofs.SignedLemmas.{signed_arith}
-use Rattle.spec_series.specs.Places.{count_days, count_from, is_place, empty_or_any}
-use Rattle.spec_series.specs.RuleSets.{scope_first, scope_last, counts_in_month, is_weekday, nth_matches, nday_matches, month_day_matches, month_matches, day_matches}
-use Rattle.spec_time.specs.CivilDay.{weekday_of, month_length, year_of, month_of, day_of_month}
+use Rattle.spec_series.specs.Places.{count_days, count_from}
+use Rattle.spec_series.specs.RuleSets.{scope_first, scope_last, is_weekday, nth_matches, nday_matches}
+use Rattle.spec_time.specs.CivilDay.{weekday_of}
 use Rattle.rule_expand.specs.Walk.{nth_at, nday_at}
-use Rattle.spec_series.specs.declared.rule.Rule.{Rule}
 use Rattle.spec_series.specs.declared.by_part.NDay.{NDay}
-use Rattle.rule_expand.proofs.Cycle.{count_from-before, count_from-after, empty_or_any-same}
+use Rattle.rule_expand.proofs.Cycle.{count_from-before, count_from-after}
 
 weekday-later : (n m : ℤ) (k : ℕ) → m ≡ n +ℤ pos k → weekday_of m ≡ (weekday_of n + k) % 7
 unfolding weekday_of
@@ -57,17 +56,3 @@ nday-by false month n before after d e f l = refl
 pub nday-is : (month : Bool) (n : ℤ) (before after : ℕ) (d : NDay) → scope_first month n ≡ n -ℤ pos before → scope_last month n ≡ n +ℤ pos after → nday_at (weekday_of n) (before / 7 + 1) (after / 7 + 1) d ≡ nday_matches month n d
 unfolding nday_matches
 nday-is month n before after d f l = nday-by (nat_eq (weekday_of n) d.day) month n before after d refl f l
-
--- the three parts of a's test
-pub day_matches-is : (r : Rule) (n : ℤ) (before after rest : ℕ) (a b c : Bool)
-    → scope_first (counts_in_month r.frequency r.by_month) n ≡ n -ℤ pos before
-    → scope_last (counts_in_month r.frequency r.by_month) n ≡ n +ℤ pos after
-    → rest ≡ month_length (year_of n) (month_of n) + 1 - day_of_month n
-    → a ≡ empty_or_any (nday_at (weekday_of n) (before / 7 + 1) (after / 7 + 1)) r.by_day
-    → b ≡ empty_or_any (is_place (day_of_month n) rest) r.by_month_day
-    → c ≡ empty_or_any (month_matches n) r.by_month
-    → (a && (b && c)) ≡ day_matches r n
-unfolding day_matches month_day_matches
-day_matches-is r n before after rest a b c f l e p q s =
-    let same = empty_or_any-same (nday_at (weekday_of n) (before / 7 + 1) (after / 7 + 1)) (nday_matches (counts_in_month r.frequency r.by_month) n) (λ d. nday-is (counts_in_month r.frequency r.by_month) n before after d f l) r.by_day in
-    rw (p, q, s, e, same)

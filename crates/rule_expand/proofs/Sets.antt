@@ -12,7 +12,7 @@ use Rattle.spec_series.specs.Places.{count_from}
 use Rattle.spec_series.specs.RuleSets.{is_in_set, is_due, is_counted, is_day_of_set, is_by_end, is_within_count}
 use Rattle.spec_time.specs.Walls.{day_of_wall, second_of_wall}
 use Rattle.spec_time.specs.Floor.{floor_div}
-use Rattle.rule_expand.specs.Sets.{is_by_last, IsNext, IsBound, IsGreatest, IsFirstFrom}
+use Rattle.rule_expand.specs.Sets.{is_by_last, is_up_to, IsNext, IsBound, IsFirstFrom}
 use Rattle.spec_series.specs.declared.rule.Rule.{Rule}
 use Rattle.spec_series.specs.declared.by_part.End.{End}
 use Rattle.spec_series.specs.declared.by_part.End.TheVariants.{Never, Count, Until}
@@ -108,11 +108,6 @@ module _ (due : ℤ → Bool) (t : ℕ) (d : ℤ) where
       ])
 
   -- whether a due day is in the set
-  pub within_count : (c : ℕ) (n last : ℤ) → d <ℤ n → due n ≡ true → IsGreatest (is_day_of_set due (Count c) t d) last → int_le n last ≡ is_day_of_set due (Count c) t d n
-  within_count c n last lt g h = same_truth (int_le n last) (is_day_of_set due (Count c) t d n)
-      (λ le. in_between (Count c) n last lt g (int_le_is n last le) h.0)
-      (λ x. is_int_le n last (h.1 n x))
-
   pub within_until : (u n high : ℤ) → d <ℤ n → due n ≡ true → high ≡ floor_div (u -ℤ pos t) 86400 → int_le n high ≡ is_day_of_set due (Until u) t d n
   within_until u n high lt g e = same_truth (int_le n high) (is_day_of_set due (Until u) t d n)
       (λ le. in_by due (Until u) t d n (counted_later due (Until u) t d n lt g (until_by u n t (rw e at (int_le_is n high le)))) refl)
@@ -152,8 +147,8 @@ module _ (r : Rule) (start d : ℤ) (hd : d ≡ day_of_wall start) where
   pub first_start : (from : ℤ) → from ≤ℤ d → IsFirstFrom (is_in_set r start) from d
   first_start from le = record { late = le; is = set_start; least = λ m low h. set_from m h }
 
-  pub none_from : (from : ℤ) → d <ℤ from → ((m : ℤ) → (from -ℤ pos 1) <ℤ m → is_due r d m ≡ true → ⊥) → (n : ℤ) → from ≤ℤ n → is_in_set r start n ≡ true → ⊥
-  none_from from lt none n le h = none n (omega (arith, signed_arith, le)) (set_good n (omega (arith, signed_arith, lt, le)) h)
+  pub none_from : (from : ℤ) (b : Bound) → d <ℤ from → ((m : ℤ) → (from -ℤ pos 1) <ℤ m → is_up_to b m ≡ true → is_due r d m ≡ true → ⊥) → (n : ℤ) → from ≤ℤ n → is_up_to b n ≡ true → is_in_set r start n ≡ true → ⊥
+  none_from from b lt none n le by h = none n (omega (arith, signed_arith, le)) by (set_good n (omega (arith, signed_arith, lt, le)) h)
 
   pub first_found : (from n : ℤ) → d <ℤ from → IsNext (is_due r d) (from -ℤ pos 1) n → is_in_set r start n ≡ true → IsFirstFrom (is_in_set r start) from n
   first_found from n lt next h = record {
@@ -171,9 +166,8 @@ module _ (r : Rule) (start d : ℤ) (hd : d ≡ day_of_wall start) where
   pub is_within_never : (n : ℤ) → r.end ≡ Never → d <ℤ n → is_due r d n ≡ true → true ≡ is_in_set r start n
   is_within_never n e lt g = within_never (is_due r d) (second_of_wall start) d n lt g ∙ sym (set_is r start d Never (second_of_wall start) hd e refl n)
 
-  pub is_within_count_of : (c : ℕ) (n last : ℤ) (b : Bool) → r.end ≡ Count c → d <ℤ n → is_due r d n ≡ true → ((t : ℕ) → IsGreatest (is_day_of_set (is_due r d) (Count c) t d) last) → b ≡ int_le n last → b ≡ is_in_set r start n
-  is_within_count_of c n last b e lt g h hb =
-      hb ∙ within_count (is_due r d) (second_of_wall start) d c n last lt g (h (second_of_wall start)) ∙ sym (set_is r start d (Count c) (second_of_wall start) hd e refl n)
+  pub is_within_count_of : (c : ℕ) (n : ℤ) (b : Bool) → r.end ≡ Count c → ((t : ℕ) → b ≡ is_day_of_set (is_due r d) (Count c) t d n) → b ≡ is_in_set r start n
+  is_within_count_of c n b e h = h (second_of_wall start) ∙ sym (set_is r start d (Count c) (second_of_wall start) hd e refl n)
 
   pub is_within_until : (u n high : ℤ) (t : ℕ) (b : Bool) → r.end ≡ Until u → d <ℤ n → is_due r d n ≡ true → t ≡ second_of_wall start → high ≡ floor_div (u -ℤ pos t) 86400 → b ≡ int_le n high → b ≡ is_in_set r start n
   is_within_until u n high t b e lt g ht hh hb =

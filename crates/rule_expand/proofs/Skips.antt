@@ -33,7 +33,7 @@ between r n m l a b e =
     omega (arith, signed_arith, low, high, e)
 
 -- up to the next that is kept
-pub unkept_before : (r : Rule) (n next : ℤ) → IsFirstIn r (n -ℤ pos 1) (period_number r n) next → (k : ℕ) → pos k ≤ℤ (next -ℤ n) → (i : ℕ) → i < k → is_kept r (n +ℤ pos i) ≡ false
+pub unkept_before : (r : Rule) (n next : ℤ) → IsFirstIn r (is_kept r) (n -ℤ pos 1) (period_number r n) next → (k : ℕ) → pos k ≤ℤ (next -ℤ n) → (i : ℕ) → i < k → is_kept r (n +ℤ pos i) ≡ false
 unkept_before r n next first k small i lt =
     let m = n +ℤ pos i in
     let own = between r n m next (omega (arith, signed_arith)) (omega (arith, signed_arith, small, lt)) first.own in
@@ -42,7 +42,7 @@ unkept_before r n next first k small i lt =
     omega (arith, signed_arith, le, small, lt))
 
 -- up to the end of the period
-pub unkept_rest : (r : Rule) (n : ℤ) (after : ℕ) → NoneIn r (n -ℤ pos 1) (period_number r n) → period_last r.frequency r.week_start n ≡ n +ℤ pos after → (i : ℕ) → i < after + 1 → is_kept r (n +ℤ pos i) ≡ false
+pub unkept_rest : (r : Rule) (n : ℤ) (after : ℕ) → NoneIn r (is_kept r) (n -ℤ pos 1) (period_number r n) → period_last r.frequency r.week_start n ≡ n +ℤ pos after → (i : ℕ) → i < after + 1 → is_kept r (n +ℤ pos i) ≡ false
 unkept_rest r n after none last i lt =
     let m = n +ℤ pos i in
     let same = ap (period_number r) (sym last) ∙ period-last r.frequency r.week_start n in

@@ -1,14 +1,16 @@
 -- The walk over the periods of a rule that are in phase.
-use Rattle.std.specs.Prelude.{◌≡◌, ◌<◌, ℕ, ◌+◌, ◌*◌, ◌==◌, ◌&&◌, Bool, true, ℤ, pos, ◌+ℤ◌, ◌-ℤ◌, ◌*ℤ◌, ◌<ℤ◌, ◌≤ℤ◌, Option, Some, None}
+use Rattle.std.specs.Prelude.{◌≡◌, ◌⊎◌, ◌<◌, ℕ, ◌+◌, ◌*◌, ◌==◌, ◌&&◌, Bool, true, ℤ, pos, ◌+ℤ◌, ◌-ℤ◌, ◌*ℤ◌, ◌<ℤ◌, ◌≤ℤ◌, Option, Some, None}
 use Rattle.spec_time.specs.Floor.{floor_div, modulo}
 use Rattle.spec_time.specs.CivilDay.{day_number}
 use Rattle.spec_series.specs.declared.by_part.Freq.{Freq}
 use Rattle.spec_series.specs.declared.by_part.Freq.TheVariants.{Daily, Weekly, Monthly, Yearly}
 use Rattle.spec_series.specs.declared.by_part.NDay.{NDay}
 use Rattle.spec_series.specs.declared.rule.Rule.{Rule}
+use Rattle.rule_expand.specs.declared.bound.Bound.{Bound}
+use Rattle.rule_expand.specs.declared.bound.Bound.TheVariants.{Endless, Last}
 use Rattle.spec_series.specs.Places.{is_place}
-use Rattle.spec_series.specs.Periods.{period_first, period_last, period_number, is_in_phase}
-use Rattle.spec_series.specs.RuleSets.{day_matches, is_kept}
+use Rattle.spec_series.specs.Periods.{period_first, period_last, period_number}
+use Rattle.spec_series.specs.RuleSets.{is_kept, is_moved, moved_from}
 
 -- the place, if one is named, from the front or from the end
 abbrev pub nth_at : ℕ → ℕ → Option ℤ → Bool
@@ -44,11 +46,18 @@ periods Weekly = 20871
 periods Monthly = 4800
 periods Yearly = 400
 
--- a day after `after` that is kept and in phase
+-- the day is one that the period with a number gives: one of its own that is kept, or one to which it moves
+abbrev pub GivenBy : Rule → ℤ → ℤ → Type 0
+GivenBy r p n =
+    ((period_number r n ≡ p) × (is_kept r n ≡ true))
+    ⊎ ((period_number r (moved_from r.skip n) ≡ p) × (is_moved r n ≡ true))
+
+-- a day after `after` that a period in phase gives
 pub record IsPhaseDay (r : Rule) (start_day after n : ℤ) : Type 0 where
   pub past : after <ℤ n
-  pub kept : is_kept r n ≡ true
-  pub phase : is_in_phase r start_day n ≡ true
+  pub number : ℤ
+  pub given : GivenBy r number n
+  pub phase : modulo number r.interval ≡ modulo (period_number r start_day) r.interval
 
 -- the first such day
 pub record IsNextDay (r : Rule) (start_day after n : ℤ) : Type 0 where
@@ -61,20 +70,42 @@ pub record IsFirstPeriod (r : Rule) (start_day after p : ℤ) : Type 0 where
   pub from : period_number r after ≤ℤ p
   pub near : p <ℤ (period_number r after +ℤ pos r.interval)
 
--- none of the first j periods p, p + i, .. has a kept day after `after`
-abbrev pub NoneThrough : Rule → ℤ → ℤ → ℕ → Type 0
-NoneThrough r after p j = (t : ℕ) (m : ℤ) → t < j → period_number r m ≡ p +ℤ pos (t * r.interval) → after <ℤ m → is_kept r m ≡ true → ⊥
+-- the number of the last period that begins on a day up to the bound, or the greatest that there is
+abbrev pub period_to : Rule → Bound → ℤ
+period_to r Endless = pos 9223372036854775807
+period_to r (Last last) = period_number r last
 
--- no day of the period lies after `after` and is kept
-abbrev pub NoneIn : Rule → ℤ → ℤ → Type 0
-NoneIn r after p = (m : ℤ) → period_number r m ≡ p → after <ℤ m → is_kept r m ≡ true → ⊥
+-- none of the first j periods p, p + i, .. gives a day after `after`
+abbrev pub NoneThrough : Rule → ℤ → ℤ → ℕ → Type 0
+NoneThrough r after p j = (t : ℕ) (m : ℤ) → t < j → GivenBy r (p +ℤ pos (t * r.interval)) m → after <ℤ m → ⊥
+
+-- the first day after `after` to which the period moves
+pub record IsFirstMoved (r : Rule) (after p n : ℤ) : Type 0 where
+  pub own : period_number r (moved_from r.skip n) ≡ p
+  pub past : after <ℤ n
+  pub moved : is_moved r n ≡ true
+  pub least : (m : ℤ) → period_number r (moved_from r.skip m) ≡ p → after <ℤ m → is_moved r m ≡ true → n ≤ℤ m
+
+-- the period gives no day after `after`
+abbrev pub NoneGiven : Rule → ℤ → ℤ → Type 0
+NoneGiven r after p = (m : ℤ) → GivenBy r p m → after <ℤ m → ⊥
+
+-- the first such day
+pub record IsFirstGiven (r : Rule) (after p n : ℤ) : Type 0 where
+  pub given : GivenBy r p n
+  pub past : after <ℤ n
+  pub least : (m : ℤ) → GivenBy r p m → after <ℤ m → n ≤ℤ m
+
+-- no day of the period lies after `after` and passes the test
+abbrev pub NoneIn : Rule → (ℤ → Bool) → ℤ → ℤ → Type 0
+NoneIn r test after p = (m : ℤ) → period_number r m ≡ p → after <ℤ m → test m ≡ true → ⊥
 
 -- the first such day of the period
-pub record IsFirstIn (r : Rule) (after p n : ℤ) : Type 0 where
+pub record IsFirstIn (r : Rule) (test : ℤ → Bool) (after p n : ℤ) : Type 0 where
   pub own : period_number r n ≡ p
   pub past : after <ℤ n
-  pub kept : is_kept r n ≡ true
-  pub least : (m : ℤ) → period_number r m ≡ p → after <ℤ m → is_kept r m ≡ true → n ≤ℤ m
+  pub passes : test n ≡ true
+  pub least : (m : ℤ) → period_number r m ≡ p → after <ℤ m → test m ≡ true → n ≤ℤ m
 
 -- the days in a row from `first` are one whole period
 abbrev pub IsWholePeriod : Rule → ℤ → ℕ → Type 0
@@ -82,21 +113,21 @@ IsWholePeriod r first count = (k : ℕ) → k < count
     → (period_first r.frequency r.week_start (first +ℤ pos k) ≡ first)
     × (period_last r.frequency r.week_start (first +ℤ pos k) +ℤ pos 1 ≡ first +ℤ pos count)
 
--- the first matching day from one to another
-pub record IsFirstMatch (r : Rule) (from last n : ℤ) : Type 0 where
+-- the first day from one to another that passes the test
+pub record IsFirstMatch (test : ℤ → Bool) (from last n : ℤ) : Type 0 where
   pub low : from ≤ℤ n
   pub high : n ≤ℤ last
-  pub matches : day_matches r n ≡ true
-  pub before : (m : ℤ) → from ≤ℤ m → m <ℤ n → day_matches r m ≡ true → ⊥
+  pub matches : test n ≡ true
+  pub before : (m : ℤ) → from ≤ℤ m → m <ℤ n → test m ≡ true → ⊥
 
--- of a period that begins with `first` and has so many days more, no day after `after` matches
-abbrev pub NonePlain : Rule → ℤ → ℤ → ℕ → Type 0
-NonePlain r after first more = (n : ℤ) → first ≤ℤ n → n ≤ℤ (first +ℤ pos more) → after <ℤ n → day_matches r n ≡ true → ⊥
+-- of a period that begins with `first` and has so many days more, no day after `after` passes
+abbrev pub NonePlain : (ℤ → Bool) → ℤ → ℤ → ℕ → Type 0
+NonePlain test after first more = (n : ℤ) → first ≤ℤ n → n ≤ℤ (first +ℤ pos more) → after <ℤ n → test n ≡ true → ⊥
 
 -- the first such day
-pub record IsFirstPlain (r : Rule) (after first : ℤ) (more : ℕ) (n : ℤ) : Type 0 where
+pub record IsFirstPlain (test : ℤ → Bool) (after first : ℤ) (more : ℕ) (n : ℤ) : Type 0 where
   pub low : first ≤ℤ n
   pub high : n ≤ℤ (first +ℤ pos more)
   pub past : after <ℤ n
-  pub matches : day_matches r n ≡ true
-  pub before : (m : ℤ) → first ≤ℤ m → m <ℤ n → after <ℤ m → day_matches r m ≡ true → ⊥
+  pub matches : test n ≡ true
+  pub before : (m : ℤ) → first ≤ℤ m → m <ℤ n → after <ℤ m → test m ≡ true → ⊥

@@ -141,6 +141,22 @@ fn days_left(at: Dated) -> u8
     at.length - at.month_day + 1
 }
 
+/// The days of the month after the day.
+pub(crate) fn days_to_end(at: Dated) -> u8
+    ensures value { month_last at.day ≡ at.day +ℤ pos result }
+    ensures bound { result ≤ 31 }
+{
+    at.length - at.month_day
+}
+
+/// The last day of the month.
+pub(crate) fn month_end(at: Dated) -> i64
+    requires { IsNear 2199023262000 at.day }
+    ensures { result ≡ month_last at.day }
+{
+    later(at.day, days_to_end(at))
+}
+
 fn later(day: i64, days: u8) -> i64
     requires near { IsNear 2199023262000 day }
     requires days { days ≤ 31 }

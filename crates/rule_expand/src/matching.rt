@@ -1,13 +1,14 @@
 //! The days that match a rule, one after another.
-ghost use Rattle.std.specs.Prelude.{◌≡◌, ◌≤◌, ◌<◌, ℤ, pos, true, false, ◌+ℤ◌, ◌-ℤ◌, ◌<ℤ◌, ◌≤ℤ◌, IfSome, IsNone};
-ghost use Rattle.spec_series.specs.Periods.{month_first, month_last};
+ghost use Rattle.std.specs.Prelude.{◌≡◌, ◌≤◌, ◌<◌, length, ℤ, pos, true, false, ◌+ℤ◌, ◌-ℤ◌, ◌<ℤ◌, ◌≤ℤ◌, IfSome, IsNone};
+ghost use Rattle.spec_series.specs.Periods.{month_first, month_last, year_first, year_last};
 ghost use Rattle.spec_series.specs.Places.{empty_or_any};
-ghost use Rattle.spec_series.specs.RuleSets.{counts_in_month, day_matches, month_day_matches, nday_matches, scope_first, scope_last};
+ghost use Rattle.spec_series.specs.RuleSets.{counts_in_month, day_matches, month_day_matches, nday_matches, scope_first, scope_last, year_day_matches};
 ghost use Rattle.rule_expand.specs.Near.{IsNear};
 ghost use Rattle.rule_expand.specs.Walk.{IsFirstMatch, IsFirstPlain, NonePlain};
 
 use crate::dated::{Dated, next, next_month, with_date};
-use crate::occurs::{Around, in_month_days, in_months, in_weekdays, in_year};
+use crate::next_item::days_to_item;
+use crate::occurs::{Around, ahead, in_month_days, in_months, in_weekdays, in_year};
 use spec_series::by_part::Freq;
 use spec_series::rule::Rule;
 
@@ -22,6 +23,9 @@ pub(crate) fn matches(rule: &Rule, at: Dated) -> bool
     if !is_month_day(rule, at) {
         return false;
     }
+    if !is_year_day(rule, at) {
+        return false;
+    }
     is_weekday(rule, at)
 }
 
@@ -31,6 +35,18 @@ fn is_month_day(rule: &Rule, at: Dated) -> bool
 {
     let around = around_in_month(at);
     in_month_days(&rule.by_month_day, around.before + 1, around.after + 1)
+}
+
+// Whether `byYearDay` matches the day.
+fn is_year_day(rule: &Rule, at: Dated) -> bool
+    requires { IsNear 2199023260000 at.day }
+    ensures { result ≡ empty_or_any (year_day_matches at.day) rule.now.by_year_day }
+{
+    if rule.by_year_day.items().is_empty() {
+        return true;
+    }
+    let around = around_in_year(at);
+    in_month_days(&rule.by_year_day, around.before + 1, around.after + 1)
 }
 
 // Whether `byDay` matches the day.
@@ -63,6 +79,17 @@ fn around_in_month(at: Dated) -> Around
     }
 }
 
+// The days of the year before and after a day.
+fn around_in_year(at: Dated) -> Around
+    requires { IsNear 2199023260000 at.day }
+    ensures first { year_first at.day ≡ at.day -ℤ pos result.before }
+    ensures last { year_last at.day ≡ at.day +ℤ pos result.after }
+    ensures before { result.before ≤ 366 }
+    ensures after { result.after ≤ 366 }
+{
+    in_year(at.day)
+}
+
 // The days before and after a day among which days of the week are counted.
 fn scope_of(rule: &Rule, at: Dated) -> Around
     requires { IsNear 2199023260000 at.day }
@@ -83,18 +110,48 @@ fn scope_of(rule: &Rule, at: Dated) -> Around
     }
 }
 
-// The next day that may match, where a day doesn't: a month that `byMonth` leaves out is passed over.
-fn step(rule: &Rule, at: Dated) -> Dated
+// The next day of the year that `byYearDay` may match, or the first of the next year.
+fn next_year_day(rule: &Rule, at: Dated) -> Dated
+    requires near { IsNear 2199023260000 at.day }
+    requires unmatched { day_matches rule.now at.day ≡ false }
+    requires parts { 0 < length rule.now.by_year_day }
+    ensures later { at.day <ℤ result.day }
+    ensures near { result.day ≤ℤ (at.day +ℤ pos 400) }
+    ensures none { (n : ℤ) → at.day ≤ℤ n → n <ℤ result.day → day_matches rule.now n ≡ false }
+{
+    let days = days_to_item(&rule.by_year_day, around_in_year(at));
+    with_date(ahead(at.day, days))
+}
+
+// The next day of the month that `byMonthDay` may match, or the first of the next month.
+fn next_month_day(rule: &Rule, at: Dated) -> Dated
+    requires near { IsNear 2199023260000 at.day }
+    requires unmatched { day_matches rule.now at.day ≡ false }
+    requires parts { 0 < length rule.now.by_month_day }
+    ensures later { at.day <ℤ result.day }
+    ensures near { result.day ≤ℤ (at.day +ℤ pos 400) }
+    ensures none { (n : ℤ) → at.day ≤ℤ n → n <ℤ result.day → day_matches rule.now n ≡ false }
+{
+    let days = days_to_item(&rule.by_month_day, around_in_month(at));
+    with_date(ahead(at.day, days))
+}
+
+/// The next day that may match, where a day doesn't: a month that `byMonth` leaves out is passed over, and days that `byYearDay` or `byMonthDay` does.
+pub(crate) fn step(rule: &Rule, at: Dated) -> Dated
     requires near { IsNear 2199023260000 at.day }
     requires unmatched { day_matches rule.now at.day ≡ false }
     ensures later { at.day <ℤ result.day }
-    ensures near { result.day ≤ℤ (at.day +ℤ pos 31) }
+    ensures near { result.day ≤ℤ (at.day +ℤ pos 400) }
     ensures none { (n : ℤ) → at.day ≤ℤ n → n <ℤ result.day → day_matches rule.now n ≡ false }
 {
-    if in_months(&rule.by_month, at.month) {
+    if !in_months(&rule.by_month, at.month) {
+        next_month(at)
+    } else if !rule.by_year_day.items().is_empty() {
+        next_year_day(rule, at)
+    } else if rule.by_month_day.items().is_empty() {
         next(at)
     } else {
-        next_month(at)
+        next_month_day(rule, at)
     }
 }
 
@@ -103,7 +160,7 @@ fn first_matching(rule: &Rule, from: i64, last: i64) -> Option<i64>
     requires from { IsNear 2199023250000 from }
     requires last { last ≤ℤ (from +ℤ pos 400) }
     ensures none { IsNone result → (n : ℤ) → from ≤ℤ n → n ≤ℤ last → day_matches rule.now n ≡ true → ⊥ }
-    ensures some { IfSome result (IsFirstMatch rule.now from last) }
+    ensures some { IfSome result (IsFirstMatch (day_matches rule.now) from last) }
 {
     let mut at = with_date(from);
     while at.day <= last {
@@ -115,8 +172,8 @@ fn first_matching(rule: &Rule, from: i64, last: i64) -> Option<i64>
     None
 }
 
-// The later of a period's first day and the day after another.
-fn low_of(first: i64, after: i64) -> i64
+/// The later of a period's first day and the day after another.
+pub(crate) fn low_of(first: i64, after: i64) -> i64
     requires { IsNear 2199023248000 after }
     ensures low { first ≤ℤ result }
     ensures past { after <ℤ result }
@@ -131,8 +188,8 @@ pub(crate) fn first_plain(rule: &Rule, first: i64, more: u32, after: i64) -> Opt
     requires near { IsNear 2199023248000 first }
     requires after { IsNear 2199023248000 after }
     requires more { more ≤ 366 }
-    ensures none { IsNone result → NonePlain rule.now after first more }
-    ensures some { IfSome result (IsFirstPlain rule.now after first more) }
+    ensures none { IsNone result → NonePlain (day_matches rule.now) after first more }
+    ensures some { IfSome result (IsFirstPlain (day_matches rule.now) after first more) }
 {
     let from = low_of(first, after);
     let last = last_of(first, more);
@@ -142,7 +199,8 @@ pub(crate) fn first_plain(rule: &Rule, first: i64, more: u32, after: i64) -> Opt
     first_matching(rule, from, last)
 }
 
-fn last_of(first: i64, more: u32) -> i64
+/// The last day of a period that has so many days more than its first.
+pub(crate) fn last_of(first: i64, more: u32) -> i64
     requires near { IsNear 2199023248000 first }
     requires more { more ≤ 366 }
     ensures { result ≡ first +ℤ pos more }

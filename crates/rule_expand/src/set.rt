@@ -1,29 +1,31 @@
 //! The set of a rule.
 ghost use Rattle.std.specs.Prelude.{◌^◌, unsigned_abs, ◌&&◌, int_le, ℕ, ◌≡◌, ◌+◌, ◌-◌, ◌+ℤ◌, ◌-ℤ◌, ◌<◌, ◌≤◌, ◌≤ℤ◌, ◌<ℤ◌, ℤ, pos, true, IfSome, IsNone};
 ghost use Rattle.spec_series.specs.Periods.{is_in_phase};
-ghost use Rattle.spec_series.specs.RuleSets.{is_due, is_day_of_set, is_in_set};
+ghost use Rattle.spec_series.specs.RuleSets.{is_due, is_day_of_set, is_in_set, is_moved, is_native, moved_from};
 ghost use Rattle.spec_time.specs.Walls.{day_of_wall, is_in_years, second_of_wall};
 ghost use Rattle.spec_time.specs.Floor.{floor_div, modulo};
 ghost use Rattle.rule_expand.specs.Near.{IsNear};
-ghost use Rattle.rule_expand.specs.Sets.{IsGreatest, IsLastDue, IsNearBound, IsFirstFrom, IsNext, IsBound};
+ghost use Rattle.rule_expand.specs.Sets.{IsGreatest, IsLastDue, IsNearBound, IsFirstFrom, IsNext, IsBound, is_in_bound, is_up_to};
 ghost use Rattle.spec_series.specs.declared.by_part.End.TheVariants.{Count};
 
 use crate::bound::Bound;
+use crate::moved::is_moved_day;
 use crate::occurs::is_kept_day;
 use crate::walk::{next_day, number_of};
-use spec_series::by_part::End;
+use spec_series::by_part::{End, Skip};
 use spec_series::rule::Rule;
 use spec_time::wall::Wall;
 
-// The first day after another that is kept and in phase.
-fn next_due(rule: &Rule, start_day: i64, after: i64) -> Option<i64>
+// The first day after another that is due. Days past the bound needn't be found.
+fn next_due(rule: &Rule, start_day: i64, after: i64, bound: Bound) -> Option<i64>
     requires start { IsNear 10000000 start_day }
     requires after { IsNear 2198000000000 after }
-    ensures none { IsNone result → (m : ℤ) → after <ℤ m → is_due rule.now start_day m ≡ true → ⊥ }
+    requires bound { IsNearBound 2199023260000 bound }
+    ensures none { IsNone result → (m : ℤ) → after <ℤ m → is_up_to bound m ≡ true → is_due rule.now start_day m ≡ true → ⊥ }
     ensures some { IfSome result (IsNext (is_due rule.now start_day) after) }
     ensures near { IfSome result (λ n. n ≤ℤ (after +ℤ pos 146097000)) }
 {
-    next_day(rule, start_day, after)
+    next_day(rule, start_day, after, bound)
 }
 
 // The day of a wall second.
@@ -61,7 +63,7 @@ fn last_due(rule: &Rule, start_day: i64, high: i64) -> i64
 {
     let mut here = start_day;
     loop {
-        let Some(n) = next_due(rule, start_day, here) else {
+        let Some(n) = next_due(rule, start_day, here, Bound::Last(high)) else {
             return here;
         };
         if n > high {
@@ -80,7 +82,7 @@ fn last_counted(rule: &Rule, start_day: i64, count: u32) -> i64
 {
     let mut here = start_day;
     for k in 1..count {
-        let Some(n) = next_due(rule, start_day, here) else {
+        let Some(n) = next_due(rule, start_day, here, Bound::Endless) else {
             return here;
         };
         here = n;
@@ -92,11 +94,11 @@ fn last_counted(rule: &Rule, start_day: i64, count: u32) -> i64
 pub(crate) fn end_of(rule: &Rule, start: i64) -> Bound
     requires start { IsNear 400000000000 start }
     ensures bound { IsBound (is_in_set rule.now start) result }
-    ensures near { IsNearBound result }
+    ensures near { IsNearBound 147000000000 result }
 {
     let day = day_of_second(start);
     match rule.end {
-        End::Never => match next_due(rule, day, day) {
+        End::Never => match next_due(rule, day, day, Bound::Endless) {
             Some(_) => Bound::Endless,
             None => Bound::Last(day),
         },
@@ -127,7 +129,7 @@ fn remainder(number: i64, interval: u32) -> u32
 // Whether a day is in phase with the start's day.
 fn is_phase_day(rule: &Rule, start_day: i64, day: i64) -> bool
     requires start { IsNear 10000000 start_day }
-    requires day { IsNear 2199023255552 day }
+    requires day { IsNear 2199023255553 day }
     ensures { result ≡ is_in_phase rule.now start_day day }
 {
     let here = remainder(number_of(rule, day), rule.interval);
@@ -136,26 +138,80 @@ fn is_phase_day(rule: &Rule, start_day: i64, day: i64) -> bool
 }
 
 // Whether a day is kept and in phase.
+fn is_native_day(rule: &Rule, start_day: i64, day: i64) -> bool
+    requires start { IsNear 10000000 start_day }
+    requires day { IsNear 2199023255552 day }
+    ensures { result ≡ is_native rule.now start_day day }
+{
+    is_kept_day(rule, day) && is_phase_day(rule, start_day, day)
+}
+
+// The day that tells whether a day is moved.
+#[tactic(auto, unfolding(spec_series::specs::RuleSets::moved_from))]
+pub(crate) fn origin(skip: Skip, day: i64) -> i64
+    requires { IsNear 2199023255552 day }
+    ensures value { result ≡ moved_from skip day }
+    ensures near { IsNear 2199023255553 result }
+{
+    match skip {
+        Skip::Omit | Skip::Backward => day,
+        Skip::Forward => day - 1,
+    }
+}
+
+// Whether a day is one that the rule moves to, in phase.
+fn is_moved_in_phase(rule: &Rule, start_day: i64, day: i64) -> bool
+    requires start { IsNear 10000000 start_day }
+    requires day { IsNear 2199023255552 day }
+    ensures { result ≡ (is_moved rule.now day && is_in_phase rule.now start_day (moved_from rule.now.skip day)) }
+{
+    is_moved_day(rule, day) && is_phase_day(rule, start_day, origin(rule.skip, day))
+}
+
+// Whether a day is due.
 #[tactic(auto, unfolding(spec_series::specs::RuleSets::is_due))]
 fn is_due_day(rule: &Rule, start_day: i64, day: i64) -> bool
     requires start { IsNear 10000000 start_day }
     requires day { IsNear 2199023255552 day }
     ensures { result ≡ is_due rule.now start_day day }
 {
-    is_kept_day(rule, day) && is_phase_day(rule, start_day, day)
+    is_native_day(rule, start_day, day) || is_moved_in_phase(rule, start_day, day)
+}
+
+// Whether a due day is one of so many: of the start's day and the due days after it the first.
+fn is_among(rule: &Rule, start_day: i64, count: u32, day: i64) -> bool
+    requires start { IsNear 10000000 start_day }
+    requires count { (1 ≤ count) × (count ≤ 1000) }
+    requires near { IsNear 2199023260000 day }
+    requires day { start_day <ℤ day }
+    requires due { is_due rule.now start_day day ≡ true }
+    ensures { (t : ℕ) → result ≡ is_day_of_set (is_due rule.now start_day) (Count count) t start_day day }
+{
+    let mut here = start_day;
+    for place in 1..count {
+        let Some(n) = next_due(rule, start_day, here, Bound::Last(day)) else {
+            return false;
+        };
+        if n >= day {
+            return true;
+        }
+        here = n;
+    }
+    false
 }
 
 // Whether a due day after the start's is in the set.
 fn is_within(rule: &Rule, start: i64, start_day: i64, day: i64) -> bool
     requires start { IsNear 400000000000 start }
     requires start_day { start_day ≡ day_of_wall start }
+    requires near { IsNear 2199023260000 day }
     requires day { start_day <ℤ day }
     requires due { is_due rule.now start_day day ≡ true }
     ensures { result ≡ is_in_set rule.now start day }
 {
     match rule.end {
         End::Never => true,
-        End::Count(count) => is_at_most(day, last_counted(rule, day_of_second(start), count)),
+        End::Count(count) => is_among(rule, start_day, count, day),
         End::Until(until) => is_at_most(day, last_by(until.seconds(), second_of_day(start))),
     }
 }
@@ -187,11 +243,12 @@ fn day_before(day: i64) -> i64
     day - 1
 }
 
-// The first day of a rule's set at or after a day.
-pub(crate) fn next_in_set(rule: &Rule, start: i64, from: i64) -> Option<i64>
+// The first day of a rule's set at or after a day. Days past the bound needn't be found.
+fn next_of_set(rule: &Rule, start: i64, from: i64, bound: Bound) -> Option<i64>
     requires start { IsNear 400000000000 start }
     requires from { IsNear 2197000000000 from }
-    ensures none { IsNone result → (n : ℤ) → from ≤ℤ n → is_in_set rule.now start n ≡ true → ⊥ }
+    requires bound { IsNearBound 2199023260000 bound }
+    ensures none { IsNone result → (n : ℤ) → from ≤ℤ n → is_up_to bound n ≡ true → is_in_set rule.now start n ≡ true → ⊥ }
     ensures some { IfSome result (IsFirstFrom (is_in_set rule.now start) from) }
     ensures near { IfSome result (IsNear 2198000000000) }
 {
@@ -199,10 +256,38 @@ pub(crate) fn next_in_set(rule: &Rule, start: i64, from: i64) -> Option<i64>
     if from <= first {
         return Some(first);
     }
-    let Some(n) = next_due(rule, first, day_before(from)) else {
+    let Some(n) = next_due(rule, first, day_before(from), bound) else {
         return None;
     };
     if is_within(rule, start, first, n) {
+        return Some(n);
+    }
+    None
+}
+
+// Whether a day isn't past a bound.
+fn is_up_to(bound: Bound, day: i64) -> bool
+    ensures { result ≡ is_up_to bound day }
+{
+    match bound {
+        Bound::Endless => true,
+        Bound::Last(last) => day <= last,
+    }
+}
+
+// The first day of a rule's set at or after a day, and not past a bound.
+pub(crate) fn next_in_set(rule: &Rule, start: i64, from: i64, bound: Bound) -> Option<i64>
+    requires start { IsNear 400000000000 start }
+    requires from { IsNear 2197000000000 from }
+    requires bound { IsNearBound 2199023260000 bound }
+    ensures none { IsNone result → (n : ℤ) → from ≤ℤ n → is_in_bound (is_in_set rule.now start) bound n ≡ true → ⊥ }
+    ensures some { IfSome result (IsFirstFrom (is_in_bound (is_in_set rule.now start) bound) from) }
+    ensures near { IfSome result (IsNear 2198000000000) }
+{
+    let Some(n) = next_of_set(rule, start, from, bound) else {
+        return None;
+    };
+    if is_up_to(bound, n) {
         return Some(n);
     }
     None

@@ -1,17 +1,23 @@
-//! The next day that is kept and in phase.
-ghost use Rattle.std.specs.Prelude.{[], ◌^◌, unsigned_abs, ◌&&◌, ℕ, ◌≡◌, ◌+◌, ◌-◌, ◌+ℤ◌, ◌*◌, ◌-ℤ◌, ◌*ℤ◌, ◌<◌, ◌≤◌, ℤ, pos, IfSome, IsNone};
+//! The next day that is due: one that a period in phase gives.
+ghost use Rattle.std.specs.Prelude.{[], ◌^◌, unsigned_abs, ◌&&◌, ℕ, ◌≡◌, ◌+◌, ◌-◌, ◌+ℤ◌, ◌*◌, ◌-ℤ◌, ◌*ℤ◌, ◌<◌, ◌≤◌, ◌<ℤ◌, ℤ, pos, true, IfSome, IsNone};
 ghost use Rattle.std.specs.Int.{IsInRange};
 ghost use Rattle.spec_series.specs.Periods.{period_number};
 ghost use Rattle.spec_series.specs.Places.{empty_or_any, is_place};
+ghost use Rattle.spec_series.specs.RuleSets.{is_kept, is_moved, is_overflow, moved_from};
 ghost use Rattle.spec_time.specs.CivilDay.{day_number};
 ghost use Rattle.spec_time.specs.Floor.{floor_div, modulo};
 ghost use Rattle.rule_expand.specs.Near.{IsNear, most};
-ghost use Rattle.rule_expand.specs.Walk.{IsWholePeriod, first_of, IsFirstPeriod, IsPhaseDay, IsNextDay, NoneIn, IsFirstIn, periods, NoneKept, IsFirstKept};
+ghost use Rattle.rule_expand.specs.Walk.{IsWholePeriod, first_of, IsFirstPeriod, IsPhaseDay, IsNextDay, NoneIn, IsFirstIn, IsFirstMoved, NoneGiven, IsFirstGiven, period_to, periods, NoneKept, IsFirstKept};
+ghost use Rattle.rule_expand.specs.Sets.{is_up_to, IsNearBound};
 
-use crate::matching::first_plain;
-use crate::occurs::{ahead, count_matching, date_at, in_month_days, in_period, matches_day};
+use crate::bound::Bound;
+use crate::dated::{next, with_date};
+use crate::matching::{first_plain, matches};
+use crate::moved::first_overflow_in;
+use crate::occurs::{ahead, count_matching, date_at, in_month_days, in_period};
+use crate::series::lower_of;
 use civil_days::day_of;
-use spec_series::by_part::Freq;
+use spec_series::by_part::{Freq, Skip};
 use spec_series::rule::Rule;
 
 // The week's number.
@@ -144,8 +150,8 @@ pub(crate) fn first_in_period(rule: &Rule, number: i64, after: i64) -> Option<i6
     requires near { IsNear (most rule.now.frequency) number }
     requires days { IsNear 2199023248000 (first_of rule.now.frequency rule.now.week_start number) }
     requires after { IsNear 2198000000000 after }
-    ensures none { IsNone result → NoneIn rule.now after number }
-    ensures some { IfSome result (IsFirstIn rule.now after number) }
+    ensures none { IsNone result → NoneIn rule.now (is_kept rule.now) after number }
+    ensures some { IfSome result (IsFirstIn rule.now (is_kept rule.now) after number) }
 {
     if rule.by_set.items().is_empty() {
         first_matching_in(rule, number, after)
@@ -160,8 +166,8 @@ fn first_matching_in(rule: &Rule, number: i64, after: i64) -> Option<i64>
     requires days { IsNear 2199023248000 (first_of rule.now.frequency rule.now.week_start number) }
     requires after { IsNear 2198000000000 after }
     requires plain { rule.now.by_set ≡ [] }
-    ensures none { IsNone result → NoneIn rule.now after number }
-    ensures some { IfSome result (IsFirstIn rule.now after number) }
+    ensures none { IsNone result → NoneIn rule.now (is_kept rule.now) after number }
+    ensures some { IfSome result (IsFirstIn rule.now (is_kept rule.now) after number) }
 {
     let day = first_day(rule, number);
     let length = in_period(rule, day).after;
@@ -172,8 +178,8 @@ fn first_matching_in(rule: &Rule, number: i64, after: i64) -> Option<i64>
 fn first_placed_in(rule: &Rule, number: i64, after: i64) -> Option<i64>
     requires near { IsNear (most rule.now.frequency) number }
     requires days { IsNear 2199023248000 (first_of rule.now.frequency rule.now.week_start number) }
-    ensures none { IsNone result → NoneIn rule.now after number }
-    ensures some { IfSome result (IsFirstIn rule.now after number) }
+    ensures none { IsNone result → NoneIn rule.now (is_kept rule.now) after number }
+    ensures some { IfSome result (IsFirstIn rule.now (is_kept rule.now) after number) }
 {
     let day = first_day(rule, number);
     let length = in_period(rule, day).after;
@@ -183,21 +189,82 @@ fn first_placed_in(rule: &Rule, number: i64, after: i64) -> Option<i64>
     }
 }
 
-// The first day after another that is kept and in phase with the start's day.
-pub(crate) fn next_day(rule: &Rule, start_day: i64, after: i64) -> Option<i64>
+// The first day of a period after another, which is the last of a month that overflows.
+fn overflow_in(rule: &Rule, number: i64, after: i64) -> Option<i64>
+    requires near { IsNear (most rule.now.frequency) number }
+    requires days { IsNear 2199023248000 (first_of rule.now.frequency rule.now.week_start number) }
+    requires after { IsNear 2198000000001 after }
+    ensures none { IsNone result → NoneIn rule.now (is_overflow rule.now) after number }
+    ensures some { IfSome result (IsFirstIn rule.now (is_overflow rule.now) after number) }
+    ensures near { IfSome result (IsNear 2199023260000) }
+{
+    let day = first_day(rule, number);
+    let length = in_period(rule, day).after;
+    first_overflow_in(rule, day, length, after)
+}
+
+// The first day after another that a period moves to.
+fn moved_in(rule: &Rule, number: i64, after: i64) -> Option<i64>
+    requires near { IsNear (most rule.now.frequency) number }
+    requires days { IsNear 2199023248000 (first_of rule.now.frequency rule.now.week_start number) }
+    requires after { IsNear 2198000000000 after }
+    ensures none { IsNone result → (m : ℤ) → period_number rule.now (moved_from rule.now.skip m) ≡ number → after <ℤ m → is_moved rule.now m ≡ true → ⊥ }
+    ensures some { IfSome result (IsFirstMoved rule.now after number) }
+{
+    match rule.skip {
+        Skip::Omit => None,
+        Skip::Backward => overflow_in(rule, number, after),
+        Skip::Forward => match overflow_in(rule, number, after - 1) {
+            Some(last) => Some(ahead(last, 1)),
+            None => None,
+        },
+    }
+}
+
+// The first day after another that a period gives.
+fn first_given(rule: &Rule, number: i64, after: i64) -> Option<i64>
+    requires near { IsNear (most rule.now.frequency) number }
+    requires days { IsNear 2199023248000 (first_of rule.now.frequency rule.now.week_start number) }
+    requires after { IsNear 2198000000000 after }
+    ensures none { IsNone result → NoneGiven rule.now after number }
+    ensures some { IfSome result (IsFirstGiven rule.now after number) }
+{
+    let kept = first_in_period(rule, number, after);
+    let moved = moved_in(rule, number, after);
+    lower_of(kept, moved)
+}
+
+// The number of the last period that begins on a day up to a bound.
+fn last_period(rule: &Rule, bound: Bound) -> i64
+    requires { IsNearBound 2199023260000 bound }
+    ensures { result ≡ period_to rule.now bound }
+{
+    match bound {
+        Bound::Endless => i64::MAX,
+        Bound::Last(last) => number_of(rule, last),
+    }
+}
+
+// The first day after another that is due: that a period in phase with that of the start's day gives. Days past the bound needn't be found.
+pub(crate) fn next_day(rule: &Rule, start_day: i64, after: i64, bound: Bound) -> Option<i64>
     requires start { IsNear 10000000 start_day }
     requires after { IsNear 2198000000000 after }
+    requires bound { IsNearBound 2199023260000 bound }
     requires reach { (p : ℤ) (j : ℕ) → IsFirstPeriod rule.now start_day after p → j ≤ periods rule.now.frequency
         → IsNear (most rule.now.frequency) (p +ℤ pos (j * rule.now.interval)) × IsNear 2199023248000 (first_of rule.now.frequency rule.now.week_start (p +ℤ pos (j * rule.now.interval))) }
-    ensures none { IsNone result → (m : ℤ) → IsPhaseDay rule.now start_day after m → ⊥ }
+    ensures none { IsNone result → (m : ℤ) → IsPhaseDay rule.now start_day after m → is_up_to bound m ≡ true → ⊥ }
     ensures some { IfSome result (IsNextDay rule.now start_day after) }
 {
     let here = number_of(rule, after);
     let start = number_of(rule, start_day);
     let first = first_period(here, start, rule.interval);
+    let high = last_period(rule, bound);
     for j in 0..walk_length(rule.frequency) {
         let number = steps_later(first, j, rule.interval);
-        if let Some(day) = first_in_period(rule, number, after) {
+        if number > high {
+            return None;
+        }
+        if let Some(day) = first_given(rule, number, after) {
             return Some(day);
         }
     }
@@ -223,17 +290,18 @@ fn first_kept_place(rule: &Rule, first: i64, count: u32, after: i64) -> Option<u
 {
     let total = count_matching(rule, first, count);
     let mut place: u32 = 0;
+    let mut at = with_date(first);
     for k in 0..count {
-        let day = ahead(first, k);
-        if matches_day(rule, day) {
+        if matches(rule, at) {
             if place >= total {
                 return None;
             }
             place += 1;
-            if has_kept_place(rule, place, total, after < day) {
+            if has_kept_place(rule, place, total, after < at.day) {
                 return Some(k);
             }
         }
+        at = next(at);
     }
     None
 }

@@ -2,11 +2,11 @@ use Rattle.std.proofs.Common.{refl, ◌≡◌, ◌≤◌, ◌+◌, FitsSigned, w
 use Rattle.std.proofs.lemmas.Int.{to_z-of_z}
 use Rattle.jiff_core.proofs.SignedLemmas.{signed_arith}
 use Rattle.rule_expand.specs.Walk.{periods}
-use Rattle.rule_expand.proofs.PeriodWalk.{first_is, walk_more, walk_found, walk_none}
+use Rattle.rule_expand.proofs.PeriodWalk.{first_is, walk_more, walk_found, walk_none, walk_past}
 use Rattle.rule_expand.proofs.walk.next_day.Goals as goal
 
-pub first_in_period-requires-clause-near : goal.first_in_period-requires-clause-near
-first_in_period-requires-clause-near c =
+pub first_given-requires-clause-near : goal.first_given-requires-clause-near
+first_given-requires-clause-near c =
     let a : FitsSigned w64 c.args.after = c.ranges.after in
     let s : FitsSigned w64 c.args.start_day = c.ranges.start_day in
     let x : FitsSigned w64 c.number_of-here.result = search rules in
@@ -24,8 +24,8 @@ first_in_period-requires-clause-near c =
     let near = rw (← num) at q.0 in
     simp to_z-of_z (omega (arith, signed_arith, near))
 
-pub first_in_period-requires-clause-days : goal.first_in_period-requires-clause-days
-first_in_period-requires-clause-days c =
+pub first_given-requires-clause-days : goal.first_given-requires-clause-days
+first_given-requires-clause-days c =
     let a : FitsSigned w64 c.args.after = c.ranges.after in
     let s : FitsSigned w64 c.args.start_day = c.ranges.start_day in
     let x : FitsSigned w64 c.number_of-here.result = search rules in
@@ -93,4 +93,25 @@ returns-clause-none c =
     let first = first_is c.args.rule.now c.args.start_day c.args.after c.first_period-first.result e in
     let old = simp to_z-of_z at c.loop-j.invariant in
     let end : c.loop-j.j ≡ periods c.args.rule.now.frequency + 1 = omega (arith, c.walk_length-j-end.ensures.value) in
-    λ t. walk_none c.args.rule.now c.args.start_day c.args.after c.first_period-first.result first (rw end at old)
+    λ t m day by. walk_none c.args.rule.now c.args.start_day c.args.after c.first_period-first.result first (rw end at old) m day
+
+pub returns-then-number-high-clause-none : goal.returns-then-number-high-clause-none
+returns-then-number-high-clause-none c =
+    let a : FitsSigned w64 c.args.after = c.ranges.after in
+    let s : FitsSigned w64 c.args.start_day = c.ranges.start_day in
+    let x : FitsSigned w64 c.number_of-here.result = search rules in
+    let y : FitsSigned w64 c.number_of-start.result = search rules in
+    let f : FitsSigned w64 c.first_period-first.result = search rules in
+    let here = simp to_z-of_z at c.number_of-here.ensures.value in
+    let start = simp to_z-of_z at c.number_of-start.ensures.value in
+    let v = simp to_z-of_z at c.first_period-first.ensures.value in
+    let e = rw (here, start) at v in
+    let first = first_is c.args.rule.now c.args.start_day c.args.after c.first_period-first.result e in
+    let n : FitsSigned w64 c.steps_later-number.result = search rules in
+    let num = simp to_z-of_z at c.steps_later-number.ensures.value in
+    let h : FitsSigned w64 c.last_period-high.result = search rules in
+    let high = c.last_period-high.ensures in
+    let old = simp to_z-of_z at c.loop-j.invariant in
+    let over = rw (high, num) at (simp to_z-of_z at c.if-number-high.true) in
+    let near = rw num at c.steps_later-number.ensures.near in
+    λ t m day by. walk_past c.args.rule.now c.args.start_day c.args.after c.first_period-first.result c.loop-j.j c.args.bound first old (omega (arith, signed_arith, near)) (omega (arith, signed_arith, over)) m day by
