@@ -1,7 +1,7 @@
 -- The occurrences by the outline and the tracks are those of the series.
 use Rattle.std.proofs.Common.{◌≡◌, ◌⊎◌, inl, inr, ℕ, zero, suc, ◌<◌, ℤ, Bool, true, false, List, [], ◌∷◌, slice_get, Option, Some, None, refl, sym, ap, ◌∙◌, arith, subst, eq-eqb}
 use Rattle.std.specs.Prelude.{◌==◌}
-use Rattle.std.specs.List.{list_any}
+use Rattle.std.proofs.lemmas.Map.Keys.{any_passes_from_place}
 use Rattle.std.proofs.lemmas.Option.{same_Some, slice_get_within}
 use Rattle.std.proofs.lemmas.Bool.Decides.{Decides-int_eq}
 use Rattle.jiff_core.proofs.SignedLemmas.{signed_arith}
@@ -11,15 +11,17 @@ use Rattle.spec_series.specs.declared.occurrence.Occurrence.{Occurrence}
 use Rattle.spec_series.specs.declared.rule.Rule.{Rule}
 use Rattle.spec_series.specs.declared.series.Series.{Series}
 use Rattle.spec_time.specs.Walls.{day_of_wall, second_of_wall, wall_at}
-use Rattle.spec_series.specs.Periods.{is_in_phase}
-use Rattle.spec_series.specs.RuleSets.{is_kept, is_in_set}
+use Rattle.spec_json.proofs.ListTests.{any_at}
 use Rattle.spec_series.proofs.Occurrences.{kinds, regular_occurs, replaced_occurs}
 use Rattle.spec_series.specs.Occurrences.{is_day, IsOccurrence, Covers, IsOfKinds}
+use Rattle.spec_series.specs.RuleSets.{is_in_set}
+use Rattle.residue_clash.specs.Kinds.{days_of, has_kind, phase_by}
+use Rattle.residue_clash.proofs.SetDays.{kind_of}
 use Rattle.spec_series.specs.Shared.{IsShared, IsSelfShared}
 use Rattle.rule_expand.specs.Least.{IsLeastOf}
 use Rattle.rule_expand.proofs.Least.{same-least}
-use Rattle.rule_expand.proofs.Places.{and_both, false_true}
-use Rattle.rule_expand.proofs.Sets.{both_and, or_cases, or_left, or_right}
+use Rattle.rule_expand.proofs.Places.{and_both}
+use Rattle.rule_expand.proofs.Sets.{both_and}
 use Rattle.residue_clash.specs.declared.outline.Outline.{Outline}
 use Rattle.residue_clash.specs.declared.rule_track.RuleTrack.{RuleTrack}
 use Rattle.residue_clash.specs.Tracks.{IsGiven, Gives}
@@ -27,52 +29,61 @@ use Rattle.residue_clash.specs.Covers.{IsDay, IsOccurrenceAt, Blocks}
 use Rattle.residue_clash.specs.Parts.{IsSharedAs}
 use Rattle.residue_clash.specs.RuleTracks.{IsTrackOf, IsSlotOf, AreTracks}
 
-any_at : {A : Type 0} (p : A → Bool) (xs : List A) → list_any p xs ≡ true → (k : ℕ) × ((x : A) × ((slice_get xs k ≡ Some x) × (p x ≡ true)))
-any_at p [] h = absurd (false_true h)
-any_at p (x ∷ xs) h = elim (or_cases (p x) (list_any p xs) h) [
-  | inl here ↦ (0, (x, (refl, here)))
-  | inr later ↦ let m = any_at p xs later in (suc m.0, (m.1.0, (m.1.1.0, m.1.1.1)))
-]
-
-any_of : {A : Type 0} (p : A → Bool) (xs : List A) (k : ℕ) (x : A) → slice_get xs k ≡ Some x → p x ≡ true → list_any p xs ≡ true
-any_of p [] k x e h = cc
-any_of p (y ∷ ys) zero x e h = or_left (p y) (list_any p ys) (rw (same_Some y x e) h)
-any_of p (y ∷ ys) (suc k) x e h = or_right (p y) (list_any p ys) (any_of p ys k x e h)
-
 -- the track in the slot of a rule
-slot_of : (s : Series) (k : ℕ) (r : Rule) (o : Option RuleTrack) → slice_get s.rules k ≡ Some r → IsSlotOf s k o → (t : RuleTrack) × ((o ≡ Some t) × IsTrackOf r s.start t)
-slot_of s k r None e h = absurd (cc (e, h))
-slot_of s k r (Some t) e h = let same : h.0 ≡ r = cc (e, h.1.0) in (t, (refl, subst (λ (q : Rule). IsTrackOf q s.start t) same h.1.1))
+slot_of : (s : Series) (k : ℕ) (kind : Bool) (r : Rule) (o : Option RuleTrack) → slice_get s.rules k ≡ Some r → has_kind kind r ≡ true → IsSlotOf s k kind o → (t : RuleTrack) × ((o ≡ Some t) × IsTrackOf r s.start kind t)
+slot_of s k kind r None e has h = let no = h r e in absurd (cc (has, no))
+slot_of s k kind r (Some t) e has h = let same : h.0 ≡ r = cc (e, h.1.0) in (t, (refl, subst (λ (q : Rule). IsTrackOf q s.start kind t) same h.1.1))
 
 -- and the rule of the track in a slot
-rule_of : (s : Series) (k : ℕ) (t : RuleTrack) (o : Option RuleTrack) → o ≡ Some t → IsSlotOf s k o → (r : Rule) × ((slice_get s.rules k ≡ Some r) × IsTrackOf r s.start t)
-rule_of s k t None e h = absurd (cc e)
-rule_of s k t (Some u) e h = let same : u ≡ t = same_Some u t e in (h.0, (h.1.0, subst (λ (v : RuleTrack). IsTrackOf h.0 s.start v) same h.1.1))
+rule_of : (s : Series) (k : ℕ) (kind : Bool) (t : RuleTrack) (o : Option RuleTrack) → o ≡ Some t → IsSlotOf s k kind o → (r : Rule) × ((slice_get s.rules k ≡ Some r) × IsTrackOf r s.start kind t)
+rule_of s k kind t None e h = absurd (cc e)
+rule_of s k kind t (Some u) e h = let same : u ≡ t = same_Some u t e in (h.0, (h.1.0, subst (λ (v : RuleTrack). IsTrackOf h.0 s.start kind v) same h.1.1))
 
--- slots are four, as rules are at most
-track_at : (s : Series) (ts : List (Option RuleTrack)) → AreTracks s ts → (k : ℕ) (r : Rule) → k < 4 → slice_get s.rules k ≡ Some r → (t : RuleTrack) × ((slice_get ts k ≡ Some (Some t)) × IsTrackOf r s.start t)
-track_at s (t0 ∷ t1 ∷ t2 ∷ t3 ∷ []) h zero r lt e = let g = slot_of s 0 r t0 e h.0 in (g.0, (ap Some g.1.0, g.1.1))
-track_at s (t0 ∷ t1 ∷ t2 ∷ t3 ∷ []) h (suc zero) r lt e = let g = slot_of s 1 r t1 e h.1.0 in (g.0, (ap Some g.1.0, g.1.1))
-track_at s (t0 ∷ t1 ∷ t2 ∷ t3 ∷ []) h (suc (suc zero)) r lt e = let g = slot_of s 2 r t2 e h.1.1.0 in (g.0, (ap Some g.1.0, g.1.1))
-track_at s (t0 ∷ t1 ∷ t2 ∷ t3 ∷ []) h (suc (suc (suc zero))) r lt e = let g = slot_of s 3 r t3 e h.1.1.1 in (g.0, (ap Some g.1.0, g.1.1))
-track_at s (t0 ∷ t1 ∷ t2 ∷ t3 ∷ []) h (suc (suc (suc (suc k)))) r lt e = absurd (omega (arith, lt))
-track_at s [] h k r lt e = absurd h
-track_at s (t0 ∷ []) h k r lt e = absurd h
-track_at s (t0 ∷ t1 ∷ []) h k r lt e = absurd h
-track_at s (t0 ∷ t1 ∷ t2 ∷ []) h k r lt e = absurd h
-track_at s (t0 ∷ t1 ∷ t2 ∷ t3 ∷ t4 ∷ ts) h k r lt e = absurd h
+abbrev slot_place : Bool → ℕ → ℕ
+slot_place false k = k
+slot_place true k = suc (suc (suc (suc k)))
 
-rule_at : (s : Series) (ts : List (Option RuleTrack)) → AreTracks s ts → (k : ℕ) (t : RuleTrack) → slice_get ts k ≡ Some (Some t) → (j : ℕ) × ((r : Rule) × ((slice_get s.rules j ≡ Some r) × IsTrackOf r s.start t))
-rule_at s (t0 ∷ t1 ∷ t2 ∷ t3 ∷ []) h zero t e = (0, rule_of s 0 t t0 (same_Some t0 (Some t) e) h.0)
-rule_at s (t0 ∷ t1 ∷ t2 ∷ t3 ∷ []) h (suc zero) t e = (1, rule_of s 1 t t1 (same_Some t1 (Some t) e) h.1.0)
-rule_at s (t0 ∷ t1 ∷ t2 ∷ t3 ∷ []) h (suc (suc zero)) t e = (2, rule_of s 2 t t2 (same_Some t2 (Some t) e) h.1.1.0)
-rule_at s (t0 ∷ t1 ∷ t2 ∷ t3 ∷ []) h (suc (suc (suc zero))) t e = (3, rule_of s 3 t t3 (same_Some t3 (Some t) e) h.1.1.1)
-rule_at s (t0 ∷ t1 ∷ t2 ∷ t3 ∷ []) h (suc (suc (suc (suc k)))) t e = absurd (cc e)
+-- slots are eight, as rules are at most four
+track_at : (s : Series) (ts : List (Option RuleTrack)) → AreTracks s ts → (kind : Bool) (k : ℕ) (r : Rule) → k < 4 → slice_get s.rules k ≡ Some r → has_kind kind r ≡ true → (t : RuleTrack) × ((slice_get ts (slot_place kind k) ≡ Some (Some t)) × IsTrackOf r s.start kind t)
+track_at s (t0 ∷ t1 ∷ t2 ∷ t3 ∷ t4 ∷ t5 ∷ t6 ∷ t7 ∷ []) h false zero r lt e has = let g = slot_of s 0 false r t0 e has h.0 in (g.0, (ap Some g.1.0, g.1.1))
+track_at s (t0 ∷ t1 ∷ t2 ∷ t3 ∷ t4 ∷ t5 ∷ t6 ∷ t7 ∷ []) h false (suc zero) r lt e has = let g = slot_of s 1 false r t1 e has h.1.0 in (g.0, (ap Some g.1.0, g.1.1))
+track_at s (t0 ∷ t1 ∷ t2 ∷ t3 ∷ t4 ∷ t5 ∷ t6 ∷ t7 ∷ []) h false (suc (suc zero)) r lt e has = let g = slot_of s 2 false r t2 e has h.1.1.0 in (g.0, (ap Some g.1.0, g.1.1))
+track_at s (t0 ∷ t1 ∷ t2 ∷ t3 ∷ t4 ∷ t5 ∷ t6 ∷ t7 ∷ []) h false (suc (suc (suc zero))) r lt e has = let g = slot_of s 3 false r t3 e has h.1.1.1.0 in (g.0, (ap Some g.1.0, g.1.1))
+track_at s (t0 ∷ t1 ∷ t2 ∷ t3 ∷ t4 ∷ t5 ∷ t6 ∷ t7 ∷ []) h false (suc (suc (suc (suc k)))) r lt e has = absurd (omega (arith, lt))
+track_at s (t0 ∷ t1 ∷ t2 ∷ t3 ∷ t4 ∷ t5 ∷ t6 ∷ t7 ∷ []) h true zero r lt e has = let g = slot_of s 0 true r t4 e has h.1.1.1.1.0 in (g.0, (ap Some g.1.0, g.1.1))
+track_at s (t0 ∷ t1 ∷ t2 ∷ t3 ∷ t4 ∷ t5 ∷ t6 ∷ t7 ∷ []) h true (suc zero) r lt e has = let g = slot_of s 1 true r t5 e has h.1.1.1.1.1.0 in (g.0, (ap Some g.1.0, g.1.1))
+track_at s (t0 ∷ t1 ∷ t2 ∷ t3 ∷ t4 ∷ t5 ∷ t6 ∷ t7 ∷ []) h true (suc (suc zero)) r lt e has = let g = slot_of s 2 true r t6 e has h.1.1.1.1.1.1.0 in (g.0, (ap Some g.1.0, g.1.1))
+track_at s (t0 ∷ t1 ∷ t2 ∷ t3 ∷ t4 ∷ t5 ∷ t6 ∷ t7 ∷ []) h true (suc (suc (suc zero))) r lt e has = let g = slot_of s 3 true r t7 e has h.1.1.1.1.1.1.1 in (g.0, (ap Some g.1.0, g.1.1))
+track_at s (t0 ∷ t1 ∷ t2 ∷ t3 ∷ t4 ∷ t5 ∷ t6 ∷ t7 ∷ []) h true (suc (suc (suc (suc k)))) r lt e has = absurd (omega (arith, lt))
+track_at s [] h kind k r lt e has = absurd h
+track_at s (t0 ∷ []) h kind k r lt e has = absurd h
+track_at s (t0 ∷ t1 ∷ []) h kind k r lt e has = absurd h
+track_at s (t0 ∷ t1 ∷ t2 ∷ []) h kind k r lt e has = absurd h
+track_at s (t0 ∷ t1 ∷ t2 ∷ t3 ∷ []) h kind k r lt e has = absurd h
+track_at s (t0 ∷ t1 ∷ t2 ∷ t3 ∷ t4 ∷ []) h kind k r lt e has = absurd h
+track_at s (t0 ∷ t1 ∷ t2 ∷ t3 ∷ t4 ∷ t5 ∷ []) h kind k r lt e has = absurd h
+track_at s (t0 ∷ t1 ∷ t2 ∷ t3 ∷ t4 ∷ t5 ∷ t6 ∷ []) h kind k r lt e has = absurd h
+track_at s (t0 ∷ t1 ∷ t2 ∷ t3 ∷ t4 ∷ t5 ∷ t6 ∷ t7 ∷ t8 ∷ ts) h kind k r lt e has = absurd h
+
+rule_at : (s : Series) (ts : List (Option RuleTrack)) → AreTracks s ts → (k : ℕ) (t : RuleTrack) → slice_get ts k ≡ Some (Some t) → (kind : Bool) × ((j : ℕ) × ((r : Rule) × ((slice_get s.rules j ≡ Some r) × IsTrackOf r s.start kind t)))
+rule_at s (t0 ∷ t1 ∷ t2 ∷ t3 ∷ t4 ∷ t5 ∷ t6 ∷ t7 ∷ []) h zero t e = (false, (0, rule_of s 0 false t t0 (same_Some t0 (Some t) e) h.0))
+rule_at s (t0 ∷ t1 ∷ t2 ∷ t3 ∷ t4 ∷ t5 ∷ t6 ∷ t7 ∷ []) h (suc zero) t e = (false, (1, rule_of s 1 false t t1 (same_Some t1 (Some t) e) h.1.0))
+rule_at s (t0 ∷ t1 ∷ t2 ∷ t3 ∷ t4 ∷ t5 ∷ t6 ∷ t7 ∷ []) h (suc (suc zero)) t e = (false, (2, rule_of s 2 false t t2 (same_Some t2 (Some t) e) h.1.1.0))
+rule_at s (t0 ∷ t1 ∷ t2 ∷ t3 ∷ t4 ∷ t5 ∷ t6 ∷ t7 ∷ []) h (suc (suc (suc zero))) t e = (false, (3, rule_of s 3 false t t3 (same_Some t3 (Some t) e) h.1.1.1.0))
+rule_at s (t0 ∷ t1 ∷ t2 ∷ t3 ∷ t4 ∷ t5 ∷ t6 ∷ t7 ∷ []) h (suc (suc (suc (suc zero)))) t e = (true, (0, rule_of s 0 true t t4 (same_Some t4 (Some t) e) h.1.1.1.1.0))
+rule_at s (t0 ∷ t1 ∷ t2 ∷ t3 ∷ t4 ∷ t5 ∷ t6 ∷ t7 ∷ []) h (suc (suc (suc (suc (suc zero))))) t e = (true, (1, rule_of s 1 true t t5 (same_Some t5 (Some t) e) h.1.1.1.1.1.0))
+rule_at s (t0 ∷ t1 ∷ t2 ∷ t3 ∷ t4 ∷ t5 ∷ t6 ∷ t7 ∷ []) h (suc (suc (suc (suc (suc (suc zero)))))) t e = (true, (2, rule_of s 2 true t t6 (same_Some t6 (Some t) e) h.1.1.1.1.1.1.0))
+rule_at s (t0 ∷ t1 ∷ t2 ∷ t3 ∷ t4 ∷ t5 ∷ t6 ∷ t7 ∷ []) h (suc (suc (suc (suc (suc (suc (suc zero))))))) t e = (true, (3, rule_of s 3 true t t7 (same_Some t7 (Some t) e) h.1.1.1.1.1.1.1))
+rule_at s (t0 ∷ t1 ∷ t2 ∷ t3 ∷ t4 ∷ t5 ∷ t6 ∷ t7 ∷ []) h (suc (suc (suc (suc (suc (suc (suc (suc k)))))))) t e = absurd (cc e)
 rule_at s [] h k t e = absurd h
 rule_at s (t0 ∷ []) h k t e = absurd h
 rule_at s (t0 ∷ t1 ∷ []) h k t e = absurd h
 rule_at s (t0 ∷ t1 ∷ t2 ∷ []) h k t e = absurd h
-rule_at s (t0 ∷ t1 ∷ t2 ∷ t3 ∷ t4 ∷ ts) h k t e = absurd h
+rule_at s (t0 ∷ t1 ∷ t2 ∷ t3 ∷ []) h k t e = absurd h
+rule_at s (t0 ∷ t1 ∷ t2 ∷ t3 ∷ t4 ∷ []) h k t e = absurd h
+rule_at s (t0 ∷ t1 ∷ t2 ∷ t3 ∷ t4 ∷ t5 ∷ []) h k t e = absurd h
+rule_at s (t0 ∷ t1 ∷ t2 ∷ t3 ∷ t4 ∷ t5 ∷ t6 ∷ []) h k t e = absurd h
+rule_at s (t0 ∷ t1 ∷ t2 ∷ t3 ∷ t4 ∷ t5 ∷ t6 ∷ t7 ∷ t8 ∷ ts) h k t e = absurd h
 
 -- the outline is that of the series
 pub record IsOutlineOf (s : Series) (a : Outline) : Type 0 where
@@ -84,35 +95,35 @@ pub record IsOutlineOf (s : Series) (a : Outline) : Type 0 where
 
 -- the days that the track of a rule gives
 abbrev pub TrackGives : RuleTrack → ℤ → ℤ → Type 0
-TrackGives = Gives (λ t n. is_kept t.rule.now n) (λ t n. is_in_phase t.rule.now t.first n) (λ t. t.last)
+TrackGives = Gives (λ t n. days_of t.pushed t.rule.now n) (λ t n. phase_by t.pushed t.rule.now t.first n) (λ t. t.last)
 
 -- a day of the set of some rule, or the start's
 in_day : (rs : List Rule) (start n : ℤ) (k : ℕ) (r : Rule) → slice_get rs k ≡ Some r → is_in_set r start n ≡ true → is_day rs start n ≡ true
 in_day [] start n k r e h = absurd (cc e)
-in_day (x ∷ xs) start n k r e h = any_of (λ rule. is_in_set rule start n) (x ∷ xs) k r e h
+in_day (x ∷ xs) start n k r e h = any_passes_from_place (λ rule. is_in_set rule start n) (x ∷ xs) k r e h
 
 start_day : (rs : List Rule) (start : ℤ) → ((r : Rule) → slice_get rs 0 ≡ Some r → is_in_set r start (day_of_wall start) ≡ true) → is_day rs start (day_of_wall start) ≡ true
 start_day [] start h = (Decides-int_eq (day_of_wall start) (day_of_wall start)).1 refl
-start_day (x ∷ xs) start h = any_of (λ rule. is_in_set rule start (day_of_wall start)) (x ∷ xs) 0 x refl (h x refl)
+start_day (x ∷ xs) start h = any_passes_from_place (λ rule. is_in_set rule start (day_of_wall start)) (x ∷ xs) 0 x refl (h x refl)
 
 day_cases : (rs : List Rule) (start n : ℤ) → is_day rs start n ≡ true → (n ≡ day_of_wall start) ⊎ ((k : ℕ) × ((r : Rule) × ((slice_get rs k ≡ Some r) × (is_in_set r start n ≡ true))))
 day_cases [] start n h = inl ((Decides-int_eq n (day_of_wall start)).0 h)
 day_cases (x ∷ xs) start n h = inr (any_at (λ rule. is_in_set rule start n) (x ∷ xs) h)
 
-given_by : (t : RuleTrack) (r : Rule) (first d n : ℤ) → t.rule.now ≡ r → t.first ≡ d → first ≡ d → TrackGives t first n → IsGiven (is_kept r) (is_in_phase r d) t.last d n
-given_by t r first d n er et ef g = record {
+given_by : (t : RuleTrack) (r : Rule) (kind : Bool) (first d n : ℤ) → t.rule.now ≡ r → t.pushed ≡ kind → t.first ≡ d → first ≡ d → TrackGives t first n → IsGiven (days_of kind r) (phase_by kind r d) t.last d n
+given_by t r kind first d n er ek et ef g = record {
   later = rw (← ef) g.later;
   up_to = g.up_to;
-  kept = rw (← er) g.kept;
-  in_phase = rw (← er, ← et) g.in_phase;
+  kept = rw (← er, ← ek) g.kept;
+  in_phase = rw (← er, ← ek, ← et) g.in_phase;
 }
 
-by_given : (t : RuleTrack) (r : Rule) (first d n : ℤ) → t.rule.now ≡ r → t.first ≡ d → first ≡ d → IsGiven (is_kept r) (is_in_phase r d) t.last d n → TrackGives t first n
-by_given t r first d n er et ef g = record {
+by_given : (t : RuleTrack) (r : Rule) (kind : Bool) (first d n : ℤ) → t.rule.now ≡ r → t.pushed ≡ kind → t.first ≡ d → first ≡ d → IsGiven (days_of kind r) (phase_by kind r d) t.last d n → TrackGives t first n
+by_given t r kind first d n er ek et ef g = record {
   later = rw ef g.later;
   up_to = g.up_to;
-  kept = rw er g.kept;
-  in_phase = rw (er, et) g.in_phase;
+  kept = rw (er, ek) g.kept;
+  in_phase = rw (er, ek, et) g.in_phase;
 }
 
 parts_at : (w n : ℤ) (t : ℕ) → t < 86400 → w ≡ wall_at n t → (second_of_wall w ≡ t) × (day_of_wall w ≡ n)
@@ -131,13 +142,13 @@ module _ (s : Series) (a : Outline) (ts : List (Option RuleTrack)) (is : IsOutli
   days_to : (n : ℤ) → IsDay TrackGives a ts n → is_day s.rules s.start n ≡ true
   days_to n (inl e) =
       let same : n ≡ day_of_wall s.start = e ∙ is.first in
-      rw same (start_day s.rules s.start (λ r at. (track_at s ts tracks 0 r (omega arith) at).1.1.start_in))
+      rw same (start_day s.rules s.start (λ r at. (track_at s ts tracks false 0 r (omega arith) at refl).1.1.start_in))
   days_to n (inr g) =
       let t = g.1 in
       let m = rule_at s ts tracks g.0 t g.2 in
-      let r = m.1.0 in
-      let of = m.1.1.1 in
-      in_day s.rules s.start n m.0 r m.1.1.0 (of.from n (given_by t r a.first (day_of_wall s.start) n of.rule of.first is.first g.3))
+      let r = m.1.1.0 in
+      let of = m.1.1.1.1 in
+      in_day s.rules s.start n m.1.0 r m.1.1.1.0 (of.from n (given_by t r m.0 a.first (day_of_wall s.start) n of.rule of.pushed of.first is.first g.3))
 
   days_from : (n : ℤ) → is_day s.rules s.start n ≡ true → IsDay TrackGives a ts n
   days_from n h =
@@ -148,10 +159,15 @@ module _ (s : Series) (a : Outline) (ts : List (Option RuleTrack)) (is : IsOutli
             let r = m.1.0 in
             let few = s.few_rules in
             let within = slice_get_within s.rules k r m.1.1.0 in
-            let t = track_at s ts tracks k r (omega (arith, few, within)) m.1.1.0 in
-            elim (t.1.1.to n m.1.1.1) [
+            elim (kind_of r s.start n m.1.1.1) [
               | inl same ↦ inl (same ∙ sym is.first)
-              | inr given ↦ inr (k, t.0, t.1.0, by_given t.0 r a.first (day_of_wall s.start) n t.1.1.rule t.1.1.first is.first given)
+              | inr of ↦
+                  let kind = of.0 in
+                  let t = track_at s ts tracks kind k r (omega (arith, few, within)) m.1.1.0 of.1.0 in
+                  elim (t.1.1.to n of.1.1.0 of.1.1.1 m.1.1.1) [
+                    | inl same ↦ inl (same ∙ sym is.first)
+                    | inr given ↦ inr (slot_place kind k, t.0, t.1.0, by_given t.0 r kind a.first (day_of_wall s.start) n t.1.1.rule t.1.1.pushed t.1.1.first is.first given)
+                  ]
             ]
       ]
 

@@ -15,9 +15,11 @@ use Rattle.residue_solve.proofs.CongruenceLemmas.{Congruent-sym, Congruent-trans
 use Rattle.rule_expand.proofs.Next.{period-later}
 use Rattle.rule_expand.proofs.Places.{and_both, false_true}
 use Rattle.rule_expand.proofs.Sets.{or_cases}
-use Rattle.spec_series.specs.RuleObjects.{is_empty}
+use Rattle.spec_series.specs.RuleLimits.{is_empty}
 use Rattle.rule_expand.specs.Repeats.{is_up_to_a_week, is_of_weekdays, repeats_after}
 use Rattle.residue_clash.specs.Repeats.{periods_of_week, periods_after}
+use Rattle.std.specs.Prelude.{Bool, false}
+use Rattle.residue_clash.specs.Kinds.{phase_day}
 
 rem_is : (x : ℤ) (i : ℕ) → int_rem_euclid x (pos i) ≡ pos (modulo x i)
 rem_is (pos a) i = refl
@@ -53,7 +55,7 @@ number_later r c h n t =
       | inr week ↦
           let p = and_both (c == 7) (is_of_weekdays r) week in
           let is : c ≡ 7 = eqb-true c 7 p.0 in
-          let short = and_both (is_up_to_a_week r.frequency) (is_empty r.by_month_day && is_empty r.by_month) p.1 in
+          let short = and_both (is_up_to_a_week r.frequency) (is_empty r.by_month_day && (is_empty r.by_month && is_empty r.by_year_day)) p.1 in
           ap (λ x. period_number r (n +ℤ pos (t * x))) is ∙ weeks_later r.frequency r.week_start n t short.0
           ∙ ap (λ x. period_number r n +ℤ x) (sym (pos-*ℤ-pos t (periods_of_week r.frequency)))
           ∙ ap (λ x. period_number r n +ℤ pos t *ℤ pos (periods_after r.frequency x)) (sym is)
@@ -76,3 +78,8 @@ solves_phase r c h s n start here a b es eh ea eb t =
           let k : Congruent i (a *ℤ pos t) (start -ℤ here) = (g.0, omega (arith, sums, g.1, later, turns, es, eh)) in
           rw eb (Congruent-trans i (a *ℤ pos t) (start -ℤ here) (int_rem_euclid (start -ℤ here) i) k rest)),
     )
+
+-- the day that is to be in phase so many days later
+pub phase_later : (kind : Bool) (n : ℤ) (k : ℕ) → phase_day kind (n +ℤ pos k) ≡ phase_day kind n +ℤ pos k
+phase_later false n k = refl
+phase_later true n k = omega (arith, signed_arith)

@@ -5,4 +5,6 @@ pub mod Covers
 pub mod Parts
 pub mod Hidden
 pub mod Repeats
+pub mod Kinds
+pub mod Again
 pub mod RuleTracks

@@ -1,12 +1,13 @@
 //! Whether a rule keeps a day, looked at by its month and its weekday first.
-ghost use Rattle.std.specs.Prelude.{◌≡◌, ◌<◌, ◌^◌, ◌==◌, pos, unsigned_abs};
+ghost use Rattle.std.specs.Prelude.{◌≡◌, ◌<◌, ◌^◌, ◌==◌, ◌&&◌, true, false, pos, unsigned_abs};
+ghost use Rattle.residue_clash.specs.Kinds.{days_of, is_backward, is_forward};
 ghost use Rattle.std.specs.Ordering.{int_eq};
 ghost use Rattle.spec_series.specs.Places.{empty_or_any};
-ghost use Rattle.spec_series.specs.RuleSets.{is_kept};
+ghost use Rattle.spec_series.specs.RuleSets.{is_kept, is_moved};
 
 use civil_days::{civil, weekday};
-use rule_expand::kept_on;
-use spec_series::by_part::{NDays, Small};
+use rule_expand::{kept_on, moved_on};
+use spec_series::by_part::{NDays, Skip, Small};
 use spec_series::rule::Rule;
 
 // Whether an item of a part that isn't empty is the month.
@@ -36,4 +37,50 @@ pub(crate) fn is_kept_on(rule: &Rule, day: i64) -> bool
         return false;
     }
     kept_on(rule, day)
+}
+
+/// Whether the rule moves backward.
+pub(crate) fn moves_backward(rule: &Rule) -> bool
+    ensures { result ≡ is_backward rule.now.skip }
+{
+    match rule.skip {
+        Skip::Omit | Skip::Forward => false,
+        Skip::Backward => true,
+    }
+}
+
+/// Whether the rule moves forward.
+pub(crate) fn moves_forward(rule: &Rule) -> bool
+    ensures { result ≡ is_forward rule.now.skip }
+{
+    match rule.skip {
+        Skip::Omit | Skip::Backward => false,
+        Skip::Forward => true,
+    }
+}
+
+// Whether the rule moves backward to the day.
+fn is_moved_back(rule: &Rule, day: i64) -> bool
+    requires { unsigned_abs day < 2 ^ 38 }
+    ensures { result ≡ (is_backward rule.now.skip && is_moved rule.now day) }
+{
+    moves_backward(rule) && moved_on(rule, day)
+}
+
+/// Whether the rule keeps the day, or moves backward to it, whatever its phase.
+#[tactic(auto, unfolding(crate::specs::Kinds::days_of))]
+pub(crate) fn is_steady_on(rule: &Rule, day: i64) -> bool
+    requires { unsigned_abs day < 2 ^ 38 }
+    ensures { result ≡ days_of false rule.now day }
+{
+    is_kept_on(rule, day) || is_moved_back(rule, day)
+}
+
+/// Whether the rule moves forward to the day, whatever its phase.
+#[tactic(auto, unfolding(crate::specs::Kinds::days_of))]
+pub(crate) fn is_pushed_on(rule: &Rule, day: i64) -> bool
+    requires { unsigned_abs day < 2 ^ 38 }
+    ensures { result ≡ days_of true rule.now day }
+{
+    moves_forward(rule) && moved_on(rule, day)
 }

@@ -1,10 +1,11 @@
 //! The tracks of a series' rules.
-ghost use Rattle.std.specs.Prelude.{◌≡◌, ◌<◌, true, unsigned_abs, Option, Some};
+ghost use Rattle.std.specs.Prelude.{◌≡◌, ◌<◌, true, false, unsigned_abs, Option, Some};
 ghost use Rattle.spec_time.specs.Walls.{day_of_wall, second_of_wall, is_in_years};
 ghost use Rattle.spec_series.specs.Lengths.{IsWeekLong};
 ghost use Rattle.residue_clash.specs.RuleTracks.{IsTrackOf, IsSlotOf, AreTracks};
 ghost use Rattle.residue_clash.specs.Repeats.{limit_of};
 
+use crate::kept::moves_forward;
 use crate::outline::Outline;
 use crate::rule_track::RuleTrack;
 use rule_expand::{Bound, last_day};
@@ -40,32 +41,47 @@ fn limit(bound: Bound) -> Option<i64>
 }
 
 // The track of a rule.
-fn track_of<'a>(rule: &'a Rule, start: Wall) -> RuleTrack<'a>
+fn track_of<'a>(rule: &'a Rule, start: Wall, pushed: bool) -> RuleTrack<'a>
     requires { is_in_years start ≡ true }
-    ensures { IsTrackOf rule.now start result }
+    ensures { IsTrackOf rule.now start pushed result }
 {
     let bound = last_day(rule, start);
     RuleTrack {
         rule,
         first: day_of(start),
+        pushed,
         last: limit(bound),
     }
 }
 
 // The track of one of the rules, if there are so many.
 fn slot<'a>(series: &'a Series, k: usize) -> Option<RuleTrack<'a>>
-    ensures { IsSlotOf series.now k result }
+    ensures { IsSlotOf series.now k false result }
 {
     let rules = series.rules.items();
     if k < rules.len() {
-        Some(track_of(&rules[k], series.start))
+        Some(track_of(&rules[k], series.start, false))
     } else {
         None
     }
 }
 
+// The track of the days that one of the rules moves forward to, if there are any.
+fn pushed_slot<'a>(series: &'a Series, k: usize) -> Option<RuleTrack<'a>>
+    ensures { IsSlotOf series.now k true result }
+{
+    let rules = series.rules.items();
+    if k >= rules.len() {
+        return None;
+    }
+    if !moves_forward(&rules[k]) {
+        return None;
+    }
+    Some(track_of(&rules[k], series.start, true))
+}
+
 /// The tracks of the rules, in order.
-pub(crate) fn tracks<'a>(series: &'a Series) -> [Option<RuleTrack<'a>>; 4]
+pub(crate) fn tracks<'a>(series: &'a Series) -> [Option<RuleTrack<'a>>; 8]
     ensures { AreTracks series.now result }
 {
     [
@@ -73,6 +89,10 @@ pub(crate) fn tracks<'a>(series: &'a Series) -> [Option<RuleTrack<'a>>; 4]
         slot(series, 1),
         slot(series, 2),
         slot(series, 3),
+        pushed_slot(series, 0),
+        pushed_slot(series, 1),
+        pushed_slot(series, 2),
+        pushed_slot(series, 3),
     ]
 }
 

@@ -10,7 +10,8 @@ pub returns : goal.returns
 returns c = let f : FitsSigned w64 c.day_of.result = search rules in record {
   rule = refl;
   first = to_z-of_z w64 c.day_of.result f ∙ c.day_of.ensures.value;
-  to = λ n h. rw c.limit.ensures (to_given c.args.rule.now c.args.start c.last_day-bound.result c.last_day-bound.ensures n h);
-  from = λ n g. from_given c.args.rule.now c.args.start c.last_day-bound.result c.last_day-bound.ensures n (rw c.limit.ensures at g);
+  pushed = refl;
+  to = λ n k p h. rw c.limit.ensures (to_given c.args.rule.now c.args.start c.last_day-bound.result c.last_day-bound.ensures c.args.pushed n k p h);
+  from = λ n g. from_given c.args.rule.now c.args.start c.last_day-bound.result c.last_day-bound.ensures c.args.pushed n (rw c.limit.ensures at g);
   start_in = set_start c.args.rule.now c.args.start (day_of_wall c.args.start) refl;
 }
