@@ -1,40 +1,28 @@
 -- Spans that are put in order and joined.
-use Rattle.std.proofs.Common.{Bor, ◌&&◌, ◌||◌, ◌≡◌, ◌∙◌, suc, ◌+◌, Bool, true, false, refl, sym, ap, subst, arith, ℤ, pos, ◌≤ℤ◌, ◌<ℤ◌, ◌-ℤ◌, int_lt, int_le, List, [], ◌∷◌, slice_index_or}
-use Rattle.std.specs.Fn.{Called, ComputesKey, Mut}
+use Rattle.std.proofs.Common.{◌&&◌, ◌||◌, ◌≡◌, ◌∙◌, Bool, true, false, refl, sym, ap, arith, ℤ, pos, ◌≤ℤ◌, ◌<ℤ◌, ◌-ℤ◌, int_lt, int_le, List, [], ◌∷◌}
 use Rattle.std.specs.List.Sorted.{IsPermutation, IsSortedByKey}
-use Rattle.std.specs.Ordering.{int_cmp, is_lt}
+use Rattle.std.specs.Ordering.{int_cmp}
 use Rattle.std.proofs.lemmas.Bool.{and_from, and_parts}
-use Rattle.std.proofs.lemmas.Fn.{always_returns_same}
 use Rattle.std.proofs.lemmas.Int.{by_lt_z, ints, clamps}
 use Rattle.std.proofs.lemmas.List.Sorted.{All-permutation, list_any-IsPermutation}
 use Rattle.std.proofs.lemmas.List.Sums.{AllPass-from_list_all, list_all-from_AllPass}
 use Rattle.std.proofs.Math.Bool.{or_assoc}
 use Rattle.jiff_core.proofs.SignedLemmas.{signed_arith}
-use Rattle.availability.specs.Merging.{are_inside, hull, is_inside, joined, joined_from}
+use Rattle.availability.specs.Merging.{are_inside, hull, is_inside, joined_from, joined_periods}
 use Rattle.availability.proofs.Runs.{lies_in_hull, no_runs, not_int_lt, of_run, run_of}
 use Rattle.civil_days.proofs.Orders.{int_le_is, is_int_le}
+use Rattle.occurrence_windows.proofs.SortedKeys.{first_in_order, rest_in_order}
 use Rattle.rule_expand.proofs.Places.{is_late, late_is}
 use Rattle.spec_windows.specs.BusyPeriods.{are_runs, is_busy, lies_in}
 use Rattle.spec_windows.specs.declared.period.Period.{Period}
 
 -- The order of the starts.
 
+abbrev pub by_start : Period → ℤ
+by_start p = p.from
+
 abbrev pub ByStart : List Period → Type 0
-ByStart ps = IsSortedByKey (λ (p : Period). p.from) int_cmp ps
-
--- from what a sort by them ensures
-pub put_in_order : {F : Type 0} {g : Mut F (Bor Period × Unit {0}) ℤ} {f : F} (xs : List Period)
-    → ((key : Period → ℤ) → ComputesKey g key f → IsSortedByKey key int_cmp xs)
-    → ((a : Bor Period × Unit {0}) (r : ℤ) (f' : F) → Called g f a r f' → (r ≡ a.0.now.from) × (f' ≡ f)) → ByStart xs
-put_in_order {g = g} {f = f} xs sorted h = sorted (λ p. p.from) (always_returns_same g (λ a r. r ≡ a.0.now.from) f h)
-
-not_less : (a b : ℤ) → is_lt (int_cmp a b) ≡ false → b ≤ℤ a
-not_less a b h = by_lt_z a b (λ lt. let less = rw (is_late a b lt) at h in cc) (λ ge. ge)
-
-later_order : (p : Period) (ps : List Period) → ByStart (p ∷ ps) → ByStart ps
-later_order p ps h k d low high =
-    let next : suc k + 1 ≡ suc (k + 1) = omega arith in
-    subst (λ n. is_lt (int_cmp (slice_index_or (p ∷ ps) n d).from (slice_index_or ps k d).from) ≡ false) next (h (suc k) d (omega arith) (omega (arith, high)))
+ByStart ps = IsSortedByKey by_start int_cmp ps
 
 -- none starts before this instant, nor before the one before it
 abbrev rising : ℤ → List Period → Bool
@@ -44,8 +32,8 @@ rising low (p ∷ ps) = int_le low p.from && rising p.from ps
 risen : (p : Period) (ps : List Period) → ByStart (p ∷ ps) → rising p.from ps ≡ true
 risen p [] order = refl
 risen p (q ∷ ps) order =
-    let next : p.from ≤ℤ q.from = not_less q.from p.from (order 0 p (omega arith) (omega arith)) in
-    and_from (int_le p.from q.from) _ (is_int_le p.from q.from next) (risen q ps (later_order p (q ∷ ps) order))
+    let next : p.from ≤ℤ q.from = first_in_order by_start p q ps order in
+    and_from (int_le p.from q.from) _ (is_int_le p.from q.from next) (risen q ps (rest_in_order by_start p (q ∷ ps) order))
 
 rising_early : (low early : ℤ) (ps : List Period) → early ≤ℤ low → rising low ps ≡ true → rising early ps ≡ true
 rising_early low early [] le h = refl
@@ -69,7 +57,7 @@ busy_from s (p ∷ ps) u h =
     ∙ ap (λ b. b || is_busy ps u) (lies_in_hull u s p next touch)
     ∙ or_assoc (lies_in u s) (lies_in u p) (is_busy ps u)))
 
-pub joined_busy : (ps : List Period) → ByStart ps → (u : ℤ) → is_busy (joined ps) u ≡ is_busy ps u
+pub joined_busy : (ps : List Period) → ByStart ps → (u : ℤ) → is_busy (joined_periods ps) u ≡ is_busy ps u
 joined_busy [] order u = refl
 joined_busy (p ∷ ps) order u = busy_from p ps u (risen p ps order)
 
@@ -100,7 +88,7 @@ runs_from w low s (p ∷ ps) a b d h i =
     (omega (arith, ints, clamps, a, next)) (omega (arith, ints, clamps, b)) (omega (arith, ints, clamps, d, y.within))
     (rising_early p.from (hull s p).from ps (omega (arith, ints, clamps)) x.1) y.rest))
 
-pub joined_runs : (w : Period) (ps : List Period) → ByStart ps → are_inside w ps ≡ true → are_runs (w.from -ℤ pos 1) w.to (joined ps) ≡ true
+pub joined_runs : (w : Period) (ps : List Period) → ByStart ps → are_inside w ps ≡ true → are_runs (w.from -ℤ pos 1) w.to (joined_periods ps) ≡ true
 joined_runs w [] order i = no_runs (w.from -ℤ pos 1) w.to
 joined_runs w (p ∷ ps) order i =
     let y = inside_of w p ps i in
@@ -108,10 +96,10 @@ joined_runs w (p ∷ ps) order i =
 
 -- The runs of spans that were put in order.
 
-pub runs_busy : (xs ys : List Period) → IsPermutation xs ys → ByStart ys → (u : ℤ) → is_busy (joined ys) u ≡ is_busy xs u
+pub runs_busy : (xs ys : List Period) → IsPermutation xs ys → ByStart ys → (u : ℤ) → is_busy (joined_periods ys) u ≡ is_busy xs u
 runs_busy xs ys moved order u = joined_busy ys order u ∙ sym (list_any-IsPermutation (lies_in u) xs ys moved)
 
-pub runs_within : (w : Period) (xs ys : List Period) → IsPermutation xs ys → ByStart ys → are_inside w xs ≡ true → are_runs (w.from -ℤ pos 1) w.to (joined ys) ≡ true
+pub runs_within : (w : Period) (xs ys : List Period) → IsPermutation xs ys → ByStart ys → are_inside w xs ≡ true → are_runs (w.from -ℤ pos 1) w.to (joined_periods ys) ≡ true
 runs_within w xs ys moved order i =
     joined_runs w ys order (list_all-from_AllPass (is_inside w) ys (All-permutation (λ p. is_inside w p ≡ true) xs ys moved (AllPass-from_list_all (is_inside w) xs i)))
 

@@ -18,9 +18,9 @@ unfoldable pub joined_from : Period → List Period → List Period
 joined_from s [] = s ∷ []
 joined_from s (p ∷ ps) = if int_lt s.to p.from then s ∷ joined_from p ps else joined_from (hull s p) ps
 
-abbrev pub joined : List Period → List Period
-joined [] = []
-joined (p ∷ ps) = joined_from p ps
+abbrev pub joined_periods : List Period → List Period
+joined_periods [] = []
+joined_periods (p ∷ ps) = joined_from p ps
 
 -- the period has an instant, and none outside the window
 abbrev pub is_inside : Period → Period → Bool

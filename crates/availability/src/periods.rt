@@ -1,6 +1,6 @@
 //! Periods, and their runs.
 ghost use Rattle.std.specs.Prelude.{◌≡◌, ◌++◌, ◌∷◌, ◌-ℤ◌, ℤ, int_le, int_lt, pos, true, IfOk, List};
-ghost use Rattle.availability.specs.Merging.{are_inside, common, hull, joined, joined_from};
+ghost use Rattle.availability.specs.Merging.{are_inside, common, hull, joined_from, joined_periods};
 ghost use Rattle.spec_windows.specs.BusyPeriods.{are_runs, is_busy};
 ghost use Rattle.spec_windows.specs.declared.period.Period.{Period};
 
@@ -39,7 +39,7 @@ fn join_next(runs: &mut Vec<Period>, last: Period, span: Period) -> Result<Perio
 // Joins periods in the order of their starts.
 #[tactic(auto, unfolding(crate::specs::Merging::joined_from))]
 fn joined(alloc: Global, spans: &[Period]) -> Result<Vec<Period>, AllocError>
-    ensures { IfOk result (λ ps. ps.items ≡ joined spans.now) }
+    ensures { IfOk result (λ ps. ps.items ≡ joined_periods spans.now) }
 {
     let mut runs = Vec::new(alloc);
     let Some((first, others)) = spans.split_first() else {

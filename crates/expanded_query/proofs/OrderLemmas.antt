@@ -16,7 +16,7 @@ use Rattle.spec_queries.specs.Comparing.{by_all}
 use Rattle.spec_queries.specs.Expanded.{ids_in_order, ids_in_places}
 use Rattle.spec_queries.specs.declared.comparator.Comparator.{Comparator}
 use Rattle.spec_queries.specs.declared.item.Item.{Item}
-use Rattle.expanded_query.specs.Founds.{id_at, item_of, result_at}
+use Rattle.expanded_query.specs.Founds.{found_item, id_at, ranked_result}
 use Rattle.expanded_query.specs.declared.ranked.Ranked.{Ranked}
 
 abbrev ids : List (List ℕ × Item) → List (List ℕ)
@@ -57,9 +57,9 @@ module _ (cs : List Comparator) where
   -- what a stable sort by the comparators leaves
   pub sorted_ids : {F : Type 0} {g : Mut F (Bor Ranked × (Bor Ranked × Unit {0})) Ordering} {f : F} (xs ys : List Ranked)
       → IsSortedByClosure g f ys → IsStableByClosure g f xs ys
-      → ((a : Bor Ranked × (Bor Ranked × Unit {0})) (r : Ordering) (f' : F) → Called g f a r f' → (r ≡ by_all cs (item_of a.0.now.found.now) (item_of a.1.0.now.found.now)) × (f' ≡ f))
-      → map id_at ys ≡ ids_in_order cs (map result_at xs)
+      → ((a : Bor Ranked × (Bor Ranked × Unit {0})) (r : Ordering) (f' : F) → Called g f a r f' → (r ≡ by_all cs (found_item a.0.now.found.now) (found_item a.1.0.now.found.now)) × (f' ≡ f))
+      → map id_at ys ≡ ids_in_order cs (map ranked_result xs)
   sorted_ids xs ys sorted stable h =
-      sym (map-map (λ p. p.0) result_at ys)
-      ∙ ap ids (sorted_in_order result_at below (by_all_ranks cs (λ r. item_of r.found.now)) xs ys sorted stable (λ a r f' k. (ap is_lt (h a r f' k).0, (h a r f' k).1)))
-      ∙ sym (ids_by_places (map result_at xs))
+      sym (map-map (λ p. p.0) ranked_result ys)
+      ∙ ap ids (sorted_in_order ranked_result below (by_all_ranks cs (λ r. found_item r.found.now)) xs ys sorted stable (λ a r f' k. (ap is_lt (h a r f' k).0, (h a r f' k).1)))
+      ∙ sym (ids_by_places (map ranked_result xs))

@@ -1,21 +1,20 @@
 -- Occurrences that were put in the order of their recurrence ids.
-use Rattle.std.proofs.Common.{◌≡◌, ◌∙◌, Bor, ℕ, zero, suc, ◌+◌, ◌≤◌, ◌<◌, ℤ, pos, negsuc, ◌+ℤ◌, ◌-ℤ◌, ◌^◌, ◌≤ℤ◌, inl, inr, Bool, true, false, cond, List, [], ◌∷◌, Some, length, slice_get, slice_index_or, refl, sym, ap, subst, arith}
+use Rattle.std.proofs.Common.{◌≡◌, ◌∙◌, ℕ, zero, suc, ◌+◌, ◌≤◌, ◌<◌, ℤ, pos, negsuc, ◌+ℤ◌, ◌-ℤ◌, ◌^◌, ◌≤ℤ◌, inl, inr, Bool, true, false, cond, List, [], ◌∷◌, Some, length, slice_get, slice_index_or, refl, sym, ap, subst, arith}
 use Rattle.std.specs.Prelude.{All, ◌&&◌}
-use Rattle.std.specs.Fn.{Called, ComputesKey, Mut}
-use Rattle.std.specs.List.{AllByRecursion, list_all, sum_by}
+use Rattle.std.specs.List.{AllByRecursion, sum_by}
 use Rattle.std.specs.List.Sorted.{IsPermutation, IsSortedByKey}
-use Rattle.std.specs.Ordering.{int_cmp, int_eq, is_lt}
+use Rattle.std.specs.Ordering.{int_cmp, int_eq}
 use Rattle.std.proofs.lemmas.Bool.Decides.{Decides-int_eq}
-use Rattle.std.proofs.lemmas.Fn.{always_returns_same}
 use Rattle.std.proofs.lemmas.Int.{by_lt_z}
 use Rattle.std.proofs.lemmas.List.Elements.{recursion_from_All}
 use Rattle.std.proofs.lemmas.List.Sums.{sum_by-cons}
 use Rattle.std.proofs.lemmas.List.Sorted.{All-permutation, Contains-permutation, sum_by-IsPermutation}
-use Rattle.std.proofs.lemmas.Option.{slice_get_within}
+use Rattle.std.proofs.lemmas.Option.{same_Some, slice_get_within}
 use Rattle.expanded_query.proofs.Searched.{is_one, listed, rises}
 use Rattle.jiff_core.proofs.SignedLemmas.{signed_arith}
 use Rattle.jiff_core.specs.Calendar.{IsWithin}
 use Rattle.jiff_tz.specs.PosixText.{TzText}
+use Rattle.spec_json.proofs.ListTests.{all_at}
 use Rattle.spec_queries.specs.Expanded.{occurrences_overlapping, passing_seconds}
 use Rattle.spec_events.specs.Values.{is_showing}
 use Rattle.spec_series.proofs.Occurrences.{kinds}
@@ -33,8 +32,9 @@ use Rattle.occurrence_windows.proofs.Listing.{by_bool}
 use Rattle.occurrence_windows.proofs.Overlapping.{has_overlap}
 use Rattle.occurrence_windows.proofs.Passing.{rid_near}
 use Rattle.occurrence_windows.proofs.Series.{rid_of, showing_is}
+use Rattle.occurrence_windows.proofs.SortedKeys.{first_in_order, rest_in_order}
 use Rattle.occurrence_windows.specs.Listing.{IsListOf}
-use Rattle.rule_expand.proofs.Places.{and_both, is_late}
+use Rattle.rule_expand.proofs.Places.{and_both}
 use Rattle.rule_expand.proofs.Sets.{is_int_le}
 use Rattle.rule_expand.proofs.Sooner.{sooner_cases}
 use Rattle.rule_expand.specs.Later.{is_sooner}
@@ -78,38 +78,27 @@ fewer r o os h = let sum = sum_by-cons (one_at r) o os in omega (arith, sum, h)
 
 -- In order, and no recurrence id twice: then they rise.
 
+abbrev pub by_rid : Occurrence → ℤ
+by_rid o = o.rid
+
 abbrev pub InOrder : List Occurrence → Type 0
-InOrder os = IsSortedByKey (λ (o : Occurrence). o.rid) int_cmp os
-
-not_less : (a b : ℤ) → is_lt (int_cmp a b) ≡ false → b ≤ℤ a
-not_less a b h = by_lt_z a b (λ lt. let less = rw (is_late a b lt) at h in cc) (λ ge. ge)
-
-later_order : (o : Occurrence) (os : List Occurrence) → InOrder (o ∷ os) → InOrder os
-later_order o os h k d low high =
-    let next : suc k + 1 ≡ suc (k + 1) = omega arith in
-    subst (λ n. is_lt (int_cmp (slice_index_or (o ∷ os) n d).rid (slice_index_or os k d).rid) ≡ false) next (h (suc k) d (omega arith) (omega (arith, high)))
+InOrder os = IsSortedByKey by_rid int_cmp os
 
 risen : (low : ℤ) (o : Occurrence) (os : List Occurrence) → low ≤ℤ o.rid → InOrder (o ∷ os) → ((r : ℤ) → count_at r (o ∷ os) ≤ 1) → rises low (o ∷ os)
 unfolding rises
 risen low o [] first order once = (first, tt)
 risen low o (p ∷ ps) first order once =
-    let next : o.rid ≤ℤ p.rid = not_less p.rid o.rid (order 0 o (omega arith) (omega arith)) in
+    let next : o.rid ≤ℤ p.rid = first_in_order by_rid o p ps order in
     let unlike : (p.rid ≡ o.rid) → ⊥ = λ e. let two = here o.rid o (p ∷ ps) refl in let one = here o.rid p ps e in let most = once o.rid in absurd (omega (arith, two, one, most)) in (
       first,
       risen (o.rid +ℤ pos 1) p ps (by_lt_z o.rid p.rid (λ lt. omega (arith, signed_arith, lt)) (λ ge. absurd (unlike (omega (arith, signed_arith, ge, next)))))
-          (later_order o (p ∷ ps) order) (λ r. fewer r o (p ∷ ps) (once r)),
+          (rest_in_order by_rid o (p ∷ ps) order) (λ r. fewer r o (p ∷ ps) (once r)),
     )
 
 all_risen : (low : ℤ) (os : List Occurrence) → AllByRecursion (λ o. low ≤ℤ o.rid) os → InOrder os → ((r : ℤ) → count_at r os ≤ 1) → rises low os
 unfolding rises
 all_risen low [] first order once = tt
 all_risen low (o ∷ os) first order once = risen low o os first.0 order once
-
--- from what a sort by them ensures
-pub put_in_order : {F : Type 0} {g : Mut F (Bor Occurrence × Unit {0}) ℤ} {f : F} (xs : List Occurrence)
-    → ((key : Occurrence → ℤ) → ComputesKey g key f → IsSortedByKey key int_cmp xs)
-    → ((a : Bor Occurrence × Unit {0}) (r : ℤ) (f' : F) → Called g f a r f' → (r ≡ a.0.now.rid) × (f' ≡ f)) → InOrder xs
-put_in_order {g = g} {f = f} xs sorted h = sorted (λ o. o.rid) (always_returns_same g (λ a r. r ≡ a.0.now.rid) f h)
 
 -- Members.
 
@@ -138,16 +127,8 @@ unfolding is_one
 member P [] o h m = absurd m
 member P (p ∷ ps) o h m = elim m [ inl e ↦ subst P e h.0 | inr n ↦ member P ps o h.1 n ]
 
-some_same : {A : Type 0} (x y : A) → Some x ≡ Some y → x ≡ y
-some_same x y h = cc
-
 sooner_self : (x : Occurrence) → is_sooner x x ≡ true → ⊥
 sooner_self x h = elim (sooner_cases x x h) [ inl lt ↦ omega (arith, signed_arith, lt) | inr e ↦ omega (arith, signed_arith, e.1) ]
-
-all_at : {A : Type 0} (p : A → Bool) (xs : List A) (k : ℕ) (x : A) → list_all p xs ≡ true → slice_get xs k ≡ Some x → p x ≡ true
-all_at p [] k x h e = absurd (cc e)
-all_at p (y ∷ ys) zero x h e = ap p (sym (some_same y x e)) ∙ (and_both (p y) (list_all p ys) h).0
-all_at p (y ∷ ys) (suc k) x h e = all_at p ys k x (and_both (p y) (list_all p ys) h).1 e
 
 shows_at : (tz : TzText) (v t : ℤ) → instant_in tz v ≡ Some t → is_showing v ≡ true
 shows_at tz v t e = by_bool (is_showing v) (λ h. h) (λ h. let none = instant-none tz v h in cc)
@@ -177,7 +158,7 @@ module _ (s : Series) (rule : TzText) (w : Window) where
   no_two os list j k a b lt h g e =
       let one = (list.only j a h).0 in
       let other = (list.only k b g).0 in
-      let same : a ≡ b = some_same a b (sym one ∙ ap (occurrence_with s) e ∙ other) in
+      let same : a ≡ b = same_Some a b (sym one ∙ ap (occurrence_with s) e ∙ other) in
       sooner_self b (subst (λ x. is_sooner x b ≡ true) same (list.ordered j k a b lt h g))
 
   pub sorted_are : (xs ys : List Occurrence) → IsListOf Meets xs → IsPermutation xs ys → InOrder ys → ys ≡ occurrences_overlapping s (instant_in rule) w

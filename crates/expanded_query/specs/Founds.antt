@@ -17,8 +17,8 @@ given_by w s = results_by (Some s.series.now) (Some (tz_view s.rule)) w s.number
 abbrev pub title_of : FoundOccurrence → List ℕ
 title_of f = option_map_or (λ b. b.value) f.title f.source.now.title.now
 
-abbrev pub item_of : FoundOccurrence → Item
-item_of f = record {
+abbrev pub found_item : FoundOccurrence → Item
+found_item f = record {
   start = f.start;
   uid = f.source.now.uid.now;
   title = title_of f;
@@ -29,12 +29,12 @@ item_of f = record {
 abbrev pub id_of : FoundOccurrence → List ℕ
 id_of f = result_id f.source.now.number (data_of f.source.now.event.now) f.rid
 
-abbrev pub result_of : FoundOccurrence → List ℕ × Item
-result_of f = (id_of f, item_of f)
+abbrev pub found_result : FoundOccurrence → List ℕ × Item
+found_result f = (id_of f, found_item f)
 
 -- of one at its place
 abbrev pub id_at : Ranked → List ℕ
 id_at r = id_of r.found.now
 
-abbrev pub result_at : Ranked → List ℕ × Item
-result_at r = result_of r.found.now
+abbrev pub ranked_result : Ranked → List ℕ × Item
+ranked_result r = found_result r.found.now

@@ -17,8 +17,8 @@ abbrev pub looks_for : OccurrenceSight → List ZoneText × (List ℕ × Data)
 looks_for s = (s.zones.now, (s.floating.now, s.filter.filter))
 
 -- the window between the filter's times
-abbrev pub window_of : OccurrenceSight → Window
-window_of s = instants_asked s.filter.clock (members_in s.filter.filter)
+abbrev pub filter_window : OccurrenceSight → Window
+filter_window s = instants_asked s.filter.clock (members_in s.filter.filter)
 
 -- what event n gives, what these events give as far as they are live, and what all live events do
 abbrev pub gives : OccurrenceSight → ℕ → Data → List (List ℕ × Item)

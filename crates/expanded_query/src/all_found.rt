@@ -1,6 +1,6 @@
 //! The occurrences of events that overlap a window.
 ghost use Rattle.std.specs.Prelude.{◌≡◌, ◌++◌, All, IfOk, OnOk, flat_map, map, true};
-ghost use Rattle.expanded_query.specs.Founds.{given_by, result_of};
+ghost use Rattle.expanded_query.specs.Founds.{found_result, given_by};
 ghost use Rattle.jiff_tz.specs.PosixText.{tz_view};
 ghost use Rattle.occurrence_windows.specs.Bounds.{AreNear};
 ghost use Rattle.spec_json.specs.TreeData.{data_of};
@@ -22,7 +22,7 @@ pub(crate) fn all_found<'a>(
     window: Window,
 ) -> Result<Vec<FoundOccurrence<'a>>, AllocError>
     requires { AreNear window }
-    ensures { IfOk result (λ v. map result_of v.items ≡ flat_map (given_by window) sources.now) }
+    ensures { IfOk result (λ v. map found_result v.items ≡ flat_map (given_by window) sources.now) }
 {
     let mut found = Vec::new(alloc);
     for source in sources {
@@ -39,7 +39,7 @@ fn add_occurrences<'a>(
     found: &mut Vec<FoundOccurrence<'a>>,
 ) -> Result<(), AllocError>
     requires { All (λ o. is_in_years o.rid ≡ true) occurrences.now }
-    ensures { OnOk result (map result_of found.new.items ≡ map result_of found.old.items ++ map (occurrence_result (instant_in (tz_view source.now.rule)) source.now.number (data_of source.now.event.now)) occurrences.now) }
+    ensures { OnOk result (map found_result found.new.items ≡ map found_result found.old.items ++ map (occurrence_result (instant_in (tz_view source.now.rule)) source.now.number (data_of source.now.event.now)) occurrences.now) }
 {
     for occurrence in occurrences {
         found.push(FoundOccurrence::new(alloc, source, occurrence)?)?;

@@ -28,7 +28,7 @@ pub(crate) struct FoundOccurrence<'a> {
 impl<'a> FoundOccurrence<'a> {
     ghost use Rattle.std.specs.Prelude.{IfOk};
     ghost use Rattle.std.specs.Str.{bytes_eq};
-    ghost use Rattle.expanded_query.specs.Founds.{id_of, result_of, title_of};
+    ghost use Rattle.expanded_query.specs.Founds.{found_result, id_of, title_of};
     ghost use Rattle.jiff_tz.specs.PosixText.{tz_view};
     ghost use Rattle.spec_json.specs.TreeData.{data_of};
     ghost use Rattle.spec_queries.specs.Expanded.{occurrence_result};
@@ -41,7 +41,7 @@ impl<'a> FoundOccurrence<'a> {
         occurrence: &Occurrence,
     ) -> Result<FoundOccurrence<'a>, AllocError>
         requires { is_in_years occurrence.now.rid ≡ true }
-        ensures { IfOk result (λ found. result_of found ≡ occurrence_result (instant_in (tz_view source.now.rule)) source.now.number (data_of source.now.event.now) occurrence.now) }
+        ensures { IfOk result (λ found. found_result found ≡ occurrence_result (instant_in (tz_view source.now.rule)) source.now.number (data_of source.now.event.now) occurrence.now) }
     {
         let title = own_title(alloc, source.event, occurrence.rid)?;
         Ok(FoundOccurrence {

@@ -1,6 +1,6 @@
 //! Found occurrences in the order of a query.
 ghost use Rattle.std.specs.Prelude.{◌≡◌, IfOk, OnOk, map};
-ghost use Rattle.expanded_query.specs.Founds.{id_at, item_of, result_at, result_of};
+ghost use Rattle.expanded_query.specs.Founds.{found_item, found_result, id_at, ranked_result};
 ghost use Rattle.spec_queries.specs.Comparing.{by_all, by_comparator, by_property};
 ghost use Rattle.spec_queries.specs.Expanded.{ids_in_order};
 
@@ -18,7 +18,7 @@ pub(crate) fn in_order<'a>(
     found: &'a [FoundOccurrence<'a>],
     order: &Order,
 ) -> Result<Vec<Ranked<'a>>, AllocError>
-    ensures { IfOk result (λ v. map id_at v.items ≡ ids_in_order order.now (map result_of found.now)) }
+    ensures { IfOk result (λ v. map id_at v.items ≡ ids_in_order order.now (map found_result found.now)) }
 {
     let mut results = references(alloc, found)?;
     sort(&mut results, order)?;
@@ -29,7 +29,7 @@ fn references<'a>(
     alloc: Global,
     found: &'a [FoundOccurrence<'a>],
 ) -> Result<Vec<Ranked<'a>>, AllocError>
-    ensures { IfOk result (λ v. map result_at v.items ≡ map result_of found.now) }
+    ensures { IfOk result (λ v. map ranked_result v.items ≡ map found_result found.now) }
 {
     let mut results = Vec::with_capacity(alloc, found.len())?;
     for one in found {
@@ -39,7 +39,7 @@ fn references<'a>(
 }
 
 fn sort(results: &mut Vec<Ranked<'_>>, order: &Order) -> Result<(), AllocError>
-    ensures { OnOk result (map id_at results.new.items ≡ ids_in_order order.now (map result_at results.old.items)) }
+    ensures { OnOk result (map id_at results.new.items ≡ ids_in_order order.now (map ranked_result results.old.items)) }
 {
     let comparators = order.comparators();
     results.sort_by(|a, b| compare(comparators, a.found, b.found))
@@ -47,7 +47,7 @@ fn sort(results: &mut Vec<Ranked<'_>>, order: &Order) -> Result<(), AllocError>
 
 // How two occurrences stand to each other: `Equal` where no comparator tells them apart.
 fn compare(comparators: &[Comparator], a: &FoundOccurrence<'_>, b: &FoundOccurrence<'_>) -> Ordering
-    ensures { result ≡ by_all comparators.now (item_of a.now) (item_of b.now) }
+    ensures { result ≡ by_all comparators.now (found_item a.now) (found_item b.now) }
 {
     for comparator in comparators {
         match by_comparator(*comparator, a, b) {
@@ -63,7 +63,7 @@ fn by_comparator(
     a: &FoundOccurrence<'_>,
     b: &FoundOccurrence<'_>,
 ) -> Ordering
-    ensures { result ≡ by_comparator comparator (item_of a.now) (item_of b.now) }
+    ensures { result ≡ by_comparator comparator (found_item a.now) (found_item b.now) }
 {
     if comparator.ascending {
         by_property(comparator.property, a, b)
@@ -73,7 +73,7 @@ fn by_comparator(
 }
 
 fn by_property(property: Property, a: &FoundOccurrence<'_>, b: &FoundOccurrence<'_>) -> Ordering
-    ensures { result ≡ by_property property (item_of a.now) (item_of b.now) }
+    ensures { result ≡ by_property property (found_item a.now) (found_item b.now) }
 {
     match property {
         Property::Start => a.start.cmp(&b.start),

@@ -32,7 +32,7 @@ pub(crate) struct OccurrenceSight<'a> {
 }
 
 impl<'a> OccurrenceSight<'a> {
-    ghost use Rattle.expanded_query.specs.Sights.{gives, looks_for, window_of};
+    ghost use Rattle.expanded_query.specs.Sights.{filter_window, gives, looks_for};
 
     /// What is seen by a filter whose zone has this rule. Takes memory for folded texts.
     pub(crate) fn new(
@@ -55,7 +55,7 @@ impl<'a> OccurrenceSight<'a> {
 
     /// The window between the times of the filter. Takes no memory.
     pub(crate) fn window(&self) -> Window
-        ensures value { result ≡ window_of self.now }
+        ensures value { result ≡ filter_window self.now }
         ensures near { AreNear result }
     {
         self.filter.window()
@@ -69,7 +69,7 @@ impl<'a> OccurrenceSight<'a> {
         event: &StoredEvent<'b>,
     ) -> Result<Option<Source<'b>>, AllocError>
         requires { HasItsSeries self.now.zones.now event.now }
-        ensures { IfOk result (λ source. flat_map (given_by (window_of self.now)) (some_of source) ≡ gives self.now number (data_of event.now.object.now)) }
+        ensures { IfOk result (λ source. flat_map (given_by (filter_window self.now)) (some_of source) ≡ gives self.now number (data_of event.now.object.now)) }
     {
         let object = event.object;
         let series = event.series;

@@ -2,7 +2,7 @@
 ghost use Rattle.std.specs.Prelude.{◌≡◌, ◌++◌, IfOk, OnOk, flat_map};
 ghost use Rattle.account_store.specs.Store.{entries};
 ghost use Rattle.expanded_query.specs.Founds.{given_by};
-ghost use Rattle.expanded_query.specs.Sights.{all_given, given_among, window_of};
+ghost use Rattle.expanded_query.specs.Sights.{all_given, filter_window, given_among};
 ghost use Rattle.spec_history.specs.History.{changes_of};
 ghost use Rattle.spec_json.specs.Parts.{some_of};
 
@@ -19,7 +19,7 @@ pub(crate) fn sources<'a>(
     sight: &OccurrenceSight<'_>,
 ) -> Result<Vec<Source<'a>>, AllocError>
     requires { sight.now.zones.now ≡ events.now.zones.now }
-    ensures { IfOk result (λ v. flat_map (given_by (window_of sight.now)) v.items ≡ all_given sight.now (changes_of (entries events.now.store.now))) }
+    ensures { IfOk result (λ v. flat_map (given_by (filter_window sight.now)) v.items ≡ all_given sight.now (changes_of (entries events.now.store.now))) }
 {
     sources_among(alloc, events, sight, events.store.ids(Kind::Event))
 }
@@ -32,7 +32,7 @@ fn sources_among<'a>(
     numbers: &[u64],
 ) -> Result<Vec<Source<'a>>, AllocError>
     requires { sight.now.zones.now ≡ events.now.zones.now }
-    ensures { IfOk result (λ v. flat_map (given_by (window_of sight.now)) v.items ≡ given_among sight.now (changes_of (entries events.now.store.now)) numbers.now) }
+    ensures { IfOk result (λ v. flat_map (given_by (filter_window sight.now)) v.items ≡ given_among sight.now (changes_of (entries events.now.store.now)) numbers.now) }
 {
     let mut sources = Vec::new(alloc);
     for number in numbers {

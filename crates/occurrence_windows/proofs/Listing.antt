@@ -1,7 +1,7 @@
 -- The list of the occurrences up to a point.
 use Rattle.std.proofs.Common.{◌≡◌, ℕ, zero, suc, ◌⊎◌, inl, inr, Bool, true, false, refl, sym, ap, ◌∙◌, arith, ℤ, ◌<ℤ◌, Option, Some, None, List, [], ◌∷◌, ◌++◌, length, slice_get}
 use Rattle.std.proofs.lemmas.Int.{by_lt_z}
-use Rattle.std.proofs.lemmas.Option.{slice_get_within}
+use Rattle.std.proofs.lemmas.Option.{same_Some, slice_get_within}
 use Rattle.jiff_core.proofs.SignedLemmas.{signed_arith}
 use Rattle.spec_series.specs.declared.occurrence.Occurrence.{Occurrence}
 use Rattle.occurrence_windows.specs.Listing.{IsAfter, IsListOf}
@@ -14,15 +14,12 @@ use Rattle.rule_expand.proofs.Sets.{not_true}
 abbrev pub UpTo : (Occurrence → Type 0) → ℤ → Option ℤ → Occurrence → Type 0
 UpTo P here seen o = P o × (is_after here seen o.start o.rid ≡ false)
 
-some_same : {A : Type 0} (x y : A) → Some x ≡ Some y → x ≡ y
-some_same x y h = cc
-
 pub by_bool : {Q : Type 0} (b : Bool) → (b ≡ true → Q) → (b ≡ false → Q) → Q
 by_bool true f g = f refl
 by_bool false f g = g refl
 
 pub pushed_cases : {A : Type 0} (xs : List A) (x y : A) (k : ℕ) → slice_get (xs ++ x ∷ []) k ≡ Some y → (slice_get xs k ≡ Some y) ⊎ ((k ≡ length xs) × (y ≡ x))
-pushed_cases [] x y zero h = inr (refl, sym (some_same x y h))
+pushed_cases [] x y zero h = inr (refl, sym (same_Some x y h))
 pushed_cases [] x y (suc k) h = cc
 pushed_cases (z ∷ xs) x y zero h = inl h
 pushed_cases (z ∷ xs) x y (suc k) h = elim (pushed_cases xs x y k h) [ inl a ↦ inl a | inr b ↦ inr (ap (λ n. suc n) b.0, b.1) ]

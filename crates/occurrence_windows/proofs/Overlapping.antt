@@ -1,5 +1,5 @@
 -- Occurrences that overlap a window.
-use Rattle.std.proofs.Common.{◌≡◌, ℕ, ◌*◌, ◌≤◌, inl, inr, Bool, true, false, refl, sym, ap, arith, ℤ, pos, ◌≤ℤ◌, ◌<ℤ◌, ◌+ℤ◌, ◌-ℤ◌, int_lt, Option, Some, None, IsTrue}
+use Rattle.std.proofs.Common.{◌≡◌, ℕ, ◌*◌, ◌≤◌, inl, inr, Bool, true, false, refl, sym, ap, arith, ℤ, pos, ◌≤ℤ◌, ◌+ℤ◌, ◌-ℤ◌, int_lt, Option, Some, None, IsTrue}
 use Rattle.std.specs.Prelude.{option_map, is_some}
 use Rattle.std.specs.Option.{option_map_or}
 use Rattle.std.proofs.lemmas.Int.{by_lt_z}
@@ -15,8 +15,9 @@ use Rattle.spec_windows.specs.declared.window.Window.{Window}
 use Rattle.spec_windows.specs.Windows.{IsOverlapping, period_of, span_at, keeps_limits, overlaps_window}
 use Rattle.occurrence_windows.specs.Bounds.{first_wall, last_wall}
 use Rattle.occurrence_windows.specs.Listing.{IsAfter}
-use Rattle.occurrence_windows.proofs.Walking.{after_trans, beyond, after_by, after_cases, sooner_after}
-use Rattle.rule_expand.specs.Later.{is_after, IsFirstOf}
+use Rattle.occurrence_windows.proofs.Walking.{after_trans, beyond, after_by, after_cases}
+use Rattle.rule_expand.specs.Later.{is_after, IsFirstOf, IsUntil}
+use Rattle.rule_expand.proofs.Sets.{is_int_le}
 use Rattle.rule_expand.proofs.Places.{and_both, late_is}
 
 -- the years 1 to 9998
@@ -118,16 +119,11 @@ module _ (s : Series) (at : ℤ → Option ℤ) (w : Window) where
   left_more from here past seen x single old first missed = λ o m late.
       beyond x o (first.1 o (m.0, old o m late)) (λ e f. let same = single o x m.0 first.0.0 e f in let y = rw same at m.1 in cc)
 
-  pub none_left : (from here : ℤ) (past seen : Option ℤ) → AreLeft P from past here seen → IsFirstOf (IsAfter (IsOccurrence s) here seen) None → IsFirstOf (IsAfter P from past) None
-  none_left from here past seen old none = λ o m. none o (m.0.0, old o m.0 m.1)
-
-  pub none_high : (from here high : ℤ) (past seen : Option ℤ) (x : Occurrence) → AreInstants at → high ≡ last_wall w.before → AreLeft P from past here seen → IsFirstOf (IsAfter (IsOccurrence s) here seen) (Some x) → high <ℤ x.start
+  pub none_left : (from here high : ℤ) (past seen : Option ℤ) → AreInstants at → high ≡ last_wall w.before → AreLeft P from past here seen → IsFirstOf (IsUntil (Some high) (IsAfter (IsOccurrence s) here seen)) None
       → IsFirstOf (IsAfter P from past) None
-  none_high from here high past seen x i e old first past_it = λ o m.
+  none_left from here high past seen i e old none = λ o m.
       let le = high_holds at w o i m.0.1 in
-      let f = first.1 o (m.0.0, old o m.0 m.1) in
-      let sooner = sooner_after o x (after_by o.start (Some o.rid) x.start x.rid (inl (omega (arith, signed_arith, le, past_it, e)))) in
-      cc
+      none o ((m.0.0, old o m.0 m.1), is_int_le o.start high (omega (arith, signed_arith, le, e)))
 
   pub found_first : (from here : ℤ) (past seen : Option ℤ) (x : Occurrence) → IsOnward from past here seen → AreLeft P from past here seen → IsFirstOf (IsAfter (IsOccurrence s) here seen) (Some x) → overlaps_window at w x ≡ true
       → IsFirstOf (IsAfter P from past) (Some x)

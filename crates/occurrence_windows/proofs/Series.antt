@@ -1,8 +1,7 @@
 -- What occurrences of a series keep: there is one of a start and a recurrence id, and how long they last.
-use Rattle.std.proofs.Common.{◌≡◌, ◌∙◌, ℕ, zero, suc, ◌+◌, ◌≤◌, ◌<◌, ℤ, inl, inr, Bool, true, false, not, nat_le, List, [], ◌∷◌, length, slice_get, Option, Some, None, refl, sym, ap, arith}
-use Rattle.std.specs.Ordering.{int_eq}
-use Rattle.std.proofs.lemmas.Bool.Decides.{Decides-int_eq, nat_tests}
-use Rattle.std.proofs.lemmas.Option.{slice_get_within}
+use Rattle.std.proofs.Common.{◌≡◌, ◌∙◌, ℕ, zero, suc, ◌+◌, ◌≤◌, ◌<◌, ℤ, inl, inr, Bool, true, false, nat_le, List, [], ◌∷◌, length, slice_get, Option, Some, None, refl, sym, ap, arith}
+use Rattle.std.proofs.lemmas.Bool.Decides.{nat_tests}
+use Rattle.std.proofs.lemmas.Option.{same_Some, slice_get_within}
 use Rattle.jiff_core.proofs.SignedLemmas.{signed_arith}
 use Rattle.jiff_core.specs.Calendar.{IsWithin}
 use Rattle.jiff_tz.specs.declared.posix.TimeZone.{TimeZone}
@@ -14,7 +13,7 @@ use Rattle.spec_series.specs.declared.occurrence.Occurrence.{Occurrence}
 use Rattle.spec_series.specs.declared.series.Series.{Series}
 use Rattle.spec_series.proofs.Occurrences.{kinds, names}
 use Rattle.spec_series.specs.Occurrences.{IsOccurrence, IsReplacement, occurrence_with}
-use Rattle.spec_series.specs.SeriesLimits.{are_distinct, are_short, is_named, is_span_short, wall_seconds}
+use Rattle.spec_series.specs.SeriesLimits.{are_short, is_span_short, wall_seconds}
 use Rattle.spec_time.specs.declared.length.Length.{Length}
 use Rattle.spec_windows.specs.Clocks.{instant_in}
 use Rattle.occurrence_windows.specs.Bounds.{lasts_up_to}
@@ -22,12 +21,9 @@ use Rattle.occurrence_windows.proofs.Overlapping.{AreInstants, AreSingle, IsShow
 use Rattle.rule_expand.proofs.Least.{by_lt}
 use Rattle.rule_expand.proofs.Places.{and_both}
 use Rattle.rule_expand.proofs.Regular.{named_near}
-use Rattle.rule_expand.proofs.Sets.{int_le_is, or_left, or_right}
+use Rattle.rule_expand.proofs.Sets.{int_le_is}
 use Rattle.zone_instants.proofs.Bounds.{instant_near, rule_near}
 use Rattle.zone_instants.proofs.Readings.{instant-none}
-
-pub some_same : {A : Type 0} (x y : A) → Some x ≡ Some y → x ≡ y
-some_same x y h = cc
 
 pub rid_of : (x : Exception) (o : Occurrence) → IsReplacement x o → x.rid ≡ o.rid
 rid_of x o h = ap (λ y. y.rid) h
@@ -36,7 +32,7 @@ pub replaced_of : (x : Exception) (o : Occurrence) → IsReplacement x o → x.r
 replaced_of x o h = ap (λ y. y.replaced) h
 
 pub single : (s : Series) → AreSingle (IsOccurrence s)
-single s a b m n e f = some_same a b (sym m ∙ ap (occurrence_with s) f ∙ n)
+single s a b m n e f = same_Some a b (sym m ∙ ap (occurrence_with s) f ∙ n)
 
 pub rids_near : (s : Series) (o : Occurrence) → IsOccurrence s o → IsWithin 400000000000 o.start → IsWithin 400000000000 o.rid
 rids_near s o m h = elim (kinds s o m) [

@@ -1,5 +1,5 @@
 -- The walk from one occurrence to the next.
-use Rattle.std.proofs.Common.{◌≡◌, ◌<◌, ◌⊎◌, inl, inr, true, false, refl, sym, ◌∙◌, arith, ℤ, pos, ◌≤ℤ◌, ◌<ℤ◌, ◌+ℤ◌, ◌-ℤ◌, ◌*ℤ◌, Option, Some, None, IfSome, int_lt}
+use Rattle.std.proofs.Common.{◌≡◌, ◌<◌, ◌⊎◌, inl, inr, true, false, refl, ◌∙◌, arith, ℤ, pos, ◌≤ℤ◌, ◌<ℤ◌, ◌+ℤ◌, ◌-ℤ◌, ◌*ℤ◌, Option, Some, None, IfSome, int_lt}
 use Rattle.std.specs.Ordering.{int_eq}
 use Rattle.std.specs.Int.{int_gap}
 use Rattle.std.proofs.lemmas.Bool.Decides.{Decides-int_eq}
@@ -33,13 +33,6 @@ sooner_by a b h = elim h [
   | inl lt ↦ or_left (int_lt a.start b.start) _ (is_late a.start b.start lt)
   | inr more ↦ or_right (int_lt a.start b.start) _ (both_and (int_eq a.start b.start) _ ((Decides-int_eq a.start b.start).1 more.0) (is_late a.rid b.rid more.1))
 ]
-
--- being after an occurrence is being later than it
-pub sooner_after : (a b : Occurrence) → is_after a.start (Some a.rid) b.start b.rid ≡ true → is_sooner a b ≡ true
-sooner_after a b h = sooner_by a b (elim (after_cases a.start (Some a.rid) b.start b.rid h) [
-  | inl lt ↦ inl lt
-  | inr more ↦ inr (sym more.0, late_is a.rid b.rid more.1)
-])
 
 past_trans : (past : Option ℤ) (b r : ℤ) → is_past past b ≡ true → b <ℤ r → is_past past r ≡ true
 past_trans None b r h lt = refl
@@ -99,6 +92,3 @@ key_less from (Some p) s r h near n = elim (after_cases from (Some p) s r h) [
 pub moves_on : (from : ℤ) (past : Option ℤ) (s r : ℤ) → is_after from past s r ≡ true → IfSome past (IsWithin 400000000000) → IsWithin 400000000000 s → IsWithin 400000000000 r
     → int_gap (key s (Some r)) TOP < int_gap (key from past) TOP
 moves_on from past s r h near m n = gap_less (key from past) (key s (Some r)) TOP (key_less from past s r h near n) (omega (arith, signed_arith, m, n))
-
-pub late_not : (a n : ℤ) → int_lt a n ≡ false → n ≤ℤ a
-late_not a n h = grind (arith, signed_arith)

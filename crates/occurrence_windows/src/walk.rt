@@ -1,5 +1,5 @@
 //! The walk from one occurrence that overlaps a window to the next.
-ghost use Rattle.std.specs.Prelude.{◌≡◌, ◌↔◌, ◌≤◌, int_lt, IfSome, IfOk, IsTrue};
+ghost use Rattle.std.specs.Prelude.{◌≡◌, ◌↔◌, ◌≤◌, IfSome, IfOk, IsTrue};
 ghost use Rattle.jiff_core.specs.Calendar.{IsWithin};
 ghost use Rattle.jiff_tz.specs.PosixText.{tz_view};
 ghost use Rattle.spec_series.specs.SeriesLimits.{wall_seconds};
@@ -13,7 +13,7 @@ ghost use Rattle.rule_expand.specs.Later.{IsFirstOf};
 use crate::lengths::longest;
 use crate::span::span_of;
 use jiff_tz::posix::TimeZone;
-use rule_expand::next_from;
+use rule_expand::next_until;
 use spec_events::limits::{FIRST_START, LAST_START};
 use spec_series::occurrence::Occurrence;
 use spec_series::series::Series;
@@ -62,13 +62,6 @@ fn last_wall(window: Window) -> Wall
     }
 }
 
-// Whether an occurrence starts after a wall second.
-fn starts_after(o: &Occurrence, wall: &Wall) -> bool
-    ensures { result ≡ int_lt wall.now o.now.start }
-{
-    wall.seconds() < o.start.seconds()
-}
-
 /// The first occurrence, by start and then recurrence id, that overlaps the window and starts after `from`, or at it with a
 /// recurrence id after `past`, if that is given. `None` where there is none on all days. Takes no memory.
 pub fn next_overlapping(
@@ -87,12 +80,9 @@ pub fn next_overlapping(
     let mut here = from;
     let mut seen = past;
     loop {
-        let Some(o) = next_from(series, here, seen) else {
+        let Some(o) = next_until(series, here, seen, Some(last)) else {
             return None;
         };
-        if starts_after(&o, &last) {
-            return None;
-        }
         if overlaps_window(rule, &o, window) {
             return Some(o);
         }
