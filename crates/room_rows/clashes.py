@@ -71,13 +71,10 @@ def starts_of(series):
     return starts
 
 
-def spans_of(series):
-    """The beginnings, ends and recurrence ids of the occupying occurrences before the horizon."""
+def spans_of(series, starts):
+    """The beginnings, ends and recurrence ids of the occupying occurrences, of the recurrence ids that begin before the horizon."""
     named = {item["rid"]: item for item in series["exceptions"]}
     spans = []
-    starts = starts_of(series)
-    if starts is None:
-        return None
     if "free" not in series:
         for rid in starts:
             if rid.isoformat() not in named:
@@ -135,12 +132,12 @@ def some_row(choose):
     if a is None:
         return None
     if choose.random() < 0.25:
-        spans = spans_of(a)
+        spans = spans_of(a, starts_of(a))
         return json.dumps({"a": a}), first_shared(spans, spans, True)
     b = some_series(choose, datetime.datetime(2024, choose.randint(1, 12), choose.randint(1, 28)))
     if b is None:
         return None
-    return json.dumps({"a": a, "b": b}), first_shared(spans_of(a), spans_of(b), False)
+    return json.dumps({"a": a, "b": b}), first_shared(spans_of(a, starts_of(a)), spans_of(b, starts_of(b)), False)
 
 
 def main():

@@ -79,6 +79,8 @@ def as_rrule(rule, start, ends):
         words["bymonth"] = [int(m) for m in rule["byMonth"]]
     if "byMonthDay" in rule:
         words["bymonthday"] = rule["byMonthDay"]
+    if "byYearDay" in rule:
+        words["byyearday"] = rule["byYearDay"]
     if "byDay" in rule:
         words["byweekday"] = [
             rrule.weekday(DAYS.index(day["day"]), day.get("nthOfPeriod")) for day in rule["byDay"]
@@ -125,4 +127,5 @@ def main():
         rows += 1
 
 
-main()
+if __name__ == "__main__":
+    main()

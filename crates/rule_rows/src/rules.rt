@@ -1,10 +1,10 @@
 //! Rows of recurrence rules, and the days that they give.
-ghost use Rattle.std.specs.Prelude.{◌≡◌, ◌≤◌, length, true};
+ghost use Rattle.std.specs.Prelude.{◌≡◌, ◌≤◌, ◌<◌, ◌^◌, IfSome, length, true, unsigned_abs};
 ghost use Rattle.spec_time.specs.Walls.{is_in_years};
 
 use row_table::answers::push_wall;
 use row_table::members::wall_at;
-use rule_expand::{Bound, last_day, next_from, occurs_on};
+use rule_expand::{Bound, last_day, next_until, occurs_on};
 use rule_read::{RulesError, read_rules};
 use spec_json::tree::Tree;
 use spec_series::by_part::End;
@@ -20,7 +20,7 @@ use time_text::is_in_years;
 /// How many occurrences of a series are told.
 const TOLD: u32 = 10;
 
-/// The end of the wall seconds that `next_from` is asked about.
+/// The end of the wall seconds that `next_until` is asked about.
 const FAR: u64 = 1 << 57;
 
 /// What is told of the `rules` from a `start`, or `bad`. None where the row can't be read.
@@ -66,7 +66,7 @@ fn told_of_rules(
     let series = hourly(alloc, start, rules);
     match asked.get("times") {
         Some(Tree::Whole(times)) => asked_again(alloc, &series, asked, times.get()),
-        _ => first_occurrences(alloc, &series),
+        _ => first_occurrences(alloc, &series, &last_asked(asked)),
     }
 }
 
@@ -87,6 +87,28 @@ fn hourly(alloc: Global, start: Wall, rules: Rules) -> Series
     }
 }
 
+// The last wall second that is asked about, if there is one.
+fn last_asked(asked: &Tree) -> Option<Wall>
+    ensures { IfSome result (λ w. unsigned_abs w < 2 ^ 57) }
+{
+    let Some(to) = wall_at(asked, "to") else {
+        return None;
+    };
+    if to.seconds().unsigned_abs() < FAR {
+        return Some(to);
+    }
+    None
+}
+
+fn copy_of(wall: &Option<Wall>) -> Option<Wall>
+    ensures { result ≡ wall.now }
+{
+    match wall {
+        Some(wall) => Some(*wall),
+        None => None,
+    }
+}
+
 // How many of so many questions for the next occurrence had an answer, from a wall second on and behind the year 9999 from there again.
 //
 // It is there to measure how long a question takes.
@@ -97,6 +119,7 @@ fn asked_again(
     times: i128,
 ) -> Result<String, AllocError> {
     let from = wall_at(asked, "from").unwrap_or(series.start);
+    let to = last_asked(asked);
     let mut here = from;
     let mut answers: u64 = 0;
     for _ in 0..times.unsigned_abs() {
@@ -106,7 +129,7 @@ fn asked_again(
         if here.seconds().unsigned_abs() >= FAR {
             break;
         }
-        if let Some(next) = next_from(series, here, Some(here)) {
+        if let Some(next) = next_until(series, here, Some(here), copy_of(&to)) {
             here = next.start;
             answers = answers.saturating_add(1);
         }
@@ -116,8 +139,14 @@ fn asked_again(
     Ok(text)
 }
 
-// The starts of the first occurrences, one after another.
-fn first_occurrences(alloc: Global, series: &Series) -> Result<String, AllocError> {
+// The starts of the first occurrences up to a wall second, if one is given, one after another.
+fn first_occurrences(
+    alloc: Global,
+    series: &Series,
+    to: &Option<Wall>,
+) -> Result<String, AllocError>
+    requires { IfSome to.now (λ w. unsigned_abs w < 2 ^ 57) }
+{
     let mut text = String::new(alloc);
     let mut from = series.start;
     let mut past = None;
@@ -125,7 +154,7 @@ fn first_occurrences(alloc: Global, series: &Series) -> Result<String, AllocErro
         if from.seconds().unsigned_abs() >= FAR {
             break;
         }
-        let Some(next) = next_from(series, from, past) else {
+        let Some(next) = next_until(series, from, past, copy_of(to)) else {
             break;
         };
         if !text.is_empty() {
