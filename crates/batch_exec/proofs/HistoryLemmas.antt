@@ -1,19 +1,17 @@
 -- What a request comes to in histories, at each of its ends.
-use Rattle.std.proofs.Common.{◌≡◌, ℕ, ℤ, ◌+◌, ◌≤◌, List, [], ◌++◌, Result, Ok, Err, inl, inr, length, map, ap, ◌∙◌, sym, refl, subst, append-nil, arith}
+use Rattle.std.proofs.Common.{◌≡◌, ℤ, ◌+◌, ◌≤◌, List, [], ◌++◌, Ok, Err, inl, inr, map, ap, ◌∙◌, sym, subst, append-nil, arith}
 use Rattle.spec_batch.proofs.CallCounts.{few_asked, few_calls, few_stopped}
 use Rattle.spec_batch.proofs.Chains.{nothing_done, stop_adds_nothing, summaries_join, summary, turns_counted}
-use Rattle.spec_batch.specs.Batch.{IsBatch, IsBegun, IsStopped, IsUntouched, NextMeans, Step, made_in}
-use Rattle.spec_batch.specs.Chain.{Made, Shown, Stops, Summary, front_of}
+use Rattle.spec_batch.specs.Batch.{IsBegun, IsStopped, IsUntouched, NextMeans, Step, made_in}
+use Rattle.spec_batch.specs.Chain.{Made, Shown, Summary, front_of}
 use Rattle.spec_batch.specs.declared.desk.DeskError.{DeskError}
 use Rattle.spec_batch.specs.declared.desk.DeskError.TheVariants as reason
 use Rattle.spec_batch.specs.declared.desk.Front.{Front}
-use Rattle.spec_batch.specs.declared.request.BatchError.{BatchError}
 use Rattle.spec_batch.specs.declared.request.BatchError.TheVariants as batch
 use Rattle.spec_batch.specs.declared.request.Invocation.{Invocation}
 use Rattle.spec_core.specs.declared.limits.TheConstants.{MAX_CALLS_IN_REQUEST}
 use Rattle.spec_core.specs.declared.user.User.{User}
 use Rattle.spec_json.specs.Data.{Data}
-use Rattle.spec_json.specs.declared.tree.Tree.{Tree}
 use Rattle.batch_exec.specs.Histories.{RequestsStandInHistories}
 
 module _ (user : User) (moment : ℤ) (d : Data) (fronts fronts' : List Front) (s t : Shown) where

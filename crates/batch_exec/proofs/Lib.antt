@@ -4,3 +4,4 @@ pub mod Granting
 pub mod Responding
 pub mod Progressing
 mod HistoryLemmas
+mod Filling

@@ -1,5 +1,5 @@
 -- What the calls of a request come to in the histories of a desk's accounts, whatever others add to these.
-use Rattle.std.specs.Prelude.{◌≡◌, ℕ, ℤ, ◌+◌, ◌≤◌, List, ◌++◌, map, Result}
+use Rattle.std.specs.Prelude.{◌≡◌, ℤ, ◌+◌, ◌≤◌, List, ◌++◌, map, Result}
 use Rattle.spec_batch.specs.Batch.{IsBatch}
 use Rattle.spec_batch.specs.Chain.{Made, Shown, Summary, front_of}
 use Rattle.spec_batch.specs.declared.desk.Front.{Front}

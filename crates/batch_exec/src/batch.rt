@@ -1,6 +1,8 @@
 //! The invocations of a request, one after the other, on the accounts of a desk.
 ghost use Rattle.std.specs.Prelude.{◌≡◌, ◌<◌, ◌++◌, [], All, IfOk, map, unwrap_or};
+ghost use Rattle.json_edge.specs.Lengths.{saturated};
 ghost use Rattle.spec_batch.specs.Batch.{error_response, error_type, reply_response};
+ghost use Rattle.spec_batch.specs.Meaning.{size_of_responses};
 ghost use Rattle.spec_json.specs.Parts.{as_text};
 ghost use Rattle.spec_batch.specs.Requests.{id_pair_of};
 ghost use Rattle.spec_json.specs.TreeData.{data_of, pair_of};
@@ -8,6 +10,7 @@ ghost use Rattle.batch_exec.specs.Answering.{HasAnswered};
 ghost use Rattle.batch_exec.specs.Stepping.{IsCallResponse, IsDeskReply, IsResponse};
 
 use crate::meaning::{Judgement, judge};
+use json_edge::length::text_length;
 use spec_batch::desk::{Desk, DeskError, Front};
 use spec_batch::method_response::MethodResponse;
 use spec_batch::request::{Invocation, Invocations};
@@ -137,18 +140,22 @@ fn respond_from_account<D: Desk>(
 }
 
 /// The response to an invocation, by the responses and the created ids before it.
+///
+/// `size` are the bytes of the compact texts of the arguments of these responses, or the last value of a u64 where there are more.
 fn respond<D: Desk>(
     alloc: Global,
     user: &User,
     capabilities: &[Text],
     responses: &[MethodResponse],
+    size: u64,
     created: &mut Pairs,
     desk: &mut D,
     invocation: Invocation,
     moment: Moment,
     fronts: &mut Vec<Front>,
 ) -> Result<MethodResponse, DeskError>
-    requires { All (λ g. g.account < (D.shown desk.old).accounts) user.now.grants }
+    requires accounts { All (λ g. g.account < (D.shown desk.old).accounts) user.now.grants }
+    requires size { size ≡ saturated (size_of_responses responses.now) }
     ensures { IsResponse fronts.old.items fronts.new.items (D.shown desk.old) (D.shown desk.new) user.now.grants capabilities.now moment responses.now created.old created.new invocation result }
 {
     let Invocation {
@@ -161,6 +168,7 @@ fn respond<D: Desk>(
         user,
         capabilities,
         responses,
+        size,
         created,
         &name,
         arguments,
@@ -239,12 +247,14 @@ pub(crate) fn answer_all<D: Desk>(
         return Err(DeskError::NoMemory);
     };
     let mut responses = Vec::new(alloc);
+    let mut size: u64 = 0;
     for invocation in calls.into_items() {
         let response = match respond(
             alloc,
             user,
             capabilities.items(),
             &responses,
+            size,
             &mut created,
             desk,
             invocation,
@@ -254,6 +264,7 @@ pub(crate) fn answer_all<D: Desk>(
             Ok(response) => response,
             Err(error) => return Err(error),
         };
+        size = size.saturating_add(text_length(&response.arguments));
         if responses.push(response).is_err() {
             return Err(DeskError::NoMemory);
         }

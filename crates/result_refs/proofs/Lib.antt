@@ -2,3 +2,5 @@ mod BehindLemmas
 mod FormLemmas
 mod PartedLemmas
 mod ResponseLemmas
+pub mod SizeLemmas
+pub mod ReferredLemmas

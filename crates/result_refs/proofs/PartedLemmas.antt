@@ -1,6 +1,6 @@
 -- Arguments, taken apart: their keys rise, and they tell what the arguments come to.
-use Rattle.std.proofs.Common.{◌≡◌, ℕ, List, [], ◌∷◌, ◌==◌, Bool, true, false, Option, Some, None, Result, Ok, Err, IfErr, IsErrAnd, option_map, option_and_then, filter, map, drop, refl, sym, ap, ◌∙◌, subst}
-use Rattle.std.proofs.lemmas.Bool.{and_from, eqb-true, and_parts}
+use Rattle.std.proofs.Common.{◌≡◌, ◌≤◌, ℕ, List, [], ◌∷◌, ◌==◌, Bool, true, false, Option, Some, None, Result, Ok, Err, IfErr, IfSome, IsErrAnd, nat_lt, option_map, option_and_then, filter, map, drop, refl, sym, ap, ◌∙◌, subst}
+use Rattle.std.proofs.lemmas.Bool.{and_from, eqb-true, and_parts, le-ltb}
 use Rattle.std.specs.Cmp.Lexicographic.{slice_cmp}
 use Rattle.std.specs.List.{list_any}
 use Rattle.std.specs.Ordering.{nat_cmp, is_lt}
@@ -9,12 +9,14 @@ use Rattle.spec_json.specs.Data.{Data, Pair}
 use Rattle.spec_json.specs.Edit.{put_all}
 use Rattle.spec_json.specs.ObjectKeys.{is_above, keys_rise}
 use Rattle.spec_json.specs.Parts.{all_some}
-use Rattle.spec_batch.specs.References.{resolved, has_both_forms, is_reference, referred_member, resolution, value_of_reference, with_referred}
+use Rattle.spec_batch.specs.References.{resolved, has_both_forms, has_too_many, size_of_values, is_reference, referred_member, resolution, value_of_reference, with_referred}
+use Rattle.spec_batch.specs.declared.limits.TheConstants.{MAX_REFERRED_BYTES}
 use Rattle.spec_batch.specs.declared.method_response.MethodResponse.{MethodResponse}
 use Rattle.result_refs.specs.Parted.{plain_in, references_in, with_value}
 use Rattle.result_refs.specs.Reports.{Reports, ReportsNone}
+use Rattle.result_refs.specs.Sizes.{values_in}
 use Rattle.result_refs.specs.declared.arguments.ReferenceError.{ReferenceError}
-use Rattle.result_refs.specs.declared.arguments.ReferenceError.TheVariants.{BothForms, BadReference, NoMemory}
+use Rattle.result_refs.specs.declared.arguments.ReferenceError.TheVariants.{TooMany, BothForms, BadReference, TooLarge, NoMemory}
 
 -- members that are left out leave the others in order
 above_plain : (k : List ℕ) (p : Pair) (ps : List Pair) → is_above k (p ∷ ps) ≡ true → is_above k (plain_in ps) ≡ true → (reference : Bool) → is_reference p ≡ reference → is_above k (plain_in (p ∷ ps)) ≡ true
@@ -86,21 +88,25 @@ referred_as_named : (rs : List MethodResponse) (ps : List Pair) → all_some (re
 referred_as_named rs [] = refl
 referred_as_named rs (p ∷ ps) = rw (referred_as_named rs ps) refl
 
-resolution_of_parts : (rs : List MethodResponse) (arguments : List Pair) → list_any (λ p. has_both_forms arguments p) arguments ≡ false
+pub resolution_of_parts : (rs : List MethodResponse) (arguments : List Pair) → has_too_many arguments ≡ false → list_any (λ p. has_both_forms arguments p) arguments ≡ false
     → resolution rs arguments ≡ with_referred arguments (all_some (λ p. with_value rs p) (references_in arguments))
-resolution_of_parts rs arguments h = rw (h, referred_as_named rs (filter is_reference arguments)) refl
+resolution_of_parts rs arguments f h = rw (f, h, referred_as_named rs (filter is_reference arguments)) refl
 
-pub resolved_by_parts : (rs : List MethodResponse) (arguments plain references values o : List Pair) → list_any (λ p. has_both_forms arguments p) arguments ≡ false → plain ≡ plain_in arguments → references ≡ references_in arguments
-    → all_some (λ p. with_value rs p) references ≡ Some values → o ≡ put_all values plain → resolution rs arguments ≡ resolved o
-resolved_by_parts rs arguments plain references values o h p r v e =
-    let found : all_some (λ q. with_value rs q) (references_in arguments) ≡ Some values = ap (λ ps. all_some (λ q. with_value rs q) ps) (sym r) ∙ v in
-    resolution_of_parts rs arguments h ∙ (ap (λ found. with_referred arguments found) found ∙ ap resolved (sym (e ∙ ap (λ ps. put_all values ps) p)))
+pub resolved_by_parts : (rs : List MethodResponse) (arguments plain references values o : List Pair) → has_too_many arguments ≡ false → list_any (λ p. has_both_forms arguments p) arguments ≡ false → plain ≡ plain_in arguments → references ≡ references_in arguments
+    → all_some (λ p. with_value rs p) references ≡ Some values → IfSome (values_in rs arguments) (λ vs. size_of_values vs ≤ MAX_REFERRED_BYTES) → o ≡ put_all values plain → resolution rs arguments ≡ resolved o
+resolved_by_parts rs arguments plain references values o f h p r v small e =
+    let found : values_in rs arguments ≡ Some values = ap (λ ps. all_some (λ q. with_value rs q) ps) (sym r) ∙ v in
+    let few : size_of_values values ≤ MAX_REFERRED_BYTES = subst (λ o. IfSome o (λ vs. size_of_values vs ≤ MAX_REFERRED_BYTES)) found small in
+    let within : nat_lt MAX_REFERRED_BYTES (size_of_values values) ≡ false = le-ltb MAX_REFERRED_BYTES (size_of_values values) few in
+    resolution_of_parts rs arguments f h ∙ (ap (λ found. with_referred arguments found) found ∙ (rw within refl ∙ ap resolved (sym (e ∙ ap (λ ps. put_all values ps) p))))
 
-pub reports_bad : (e : ReferenceError) (rs : List MethodResponse) (arguments references : List Pair) → list_any (λ p. has_both_forms arguments p) arguments ≡ false → references ≡ references_in arguments
+pub reports_bad : (e : ReferenceError) (rs : List MethodResponse) (arguments references : List Pair) → has_too_many arguments ≡ false → list_any (λ p. has_both_forms arguments p) arguments ≡ false → references ≡ references_in arguments
     → ReportsNone e (all_some (λ p. with_value rs p) references) → Reports e (resolution rs arguments)
-reports_bad BothForms rs arguments references h r n = absurd n
-reports_bad BadReference rs arguments references h r n = resolution_of_parts rs arguments h ∙ ap (λ found. with_referred arguments found) (ap (λ ps. all_some (λ q. with_value rs q) ps) (sym r) ∙ n)
-reports_bad NoMemory rs arguments references h r n = tt
+reports_bad TooMany rs arguments references f h r n = absurd n
+reports_bad BothForms rs arguments references f h r n = absurd n
+reports_bad BadReference rs arguments references f h r n = resolution_of_parts rs arguments f h ∙ ap (λ found. with_referred arguments found) (ap (λ ps. all_some (λ q. with_value rs q) ps) (sym r) ∙ n)
+reports_bad (TooLarge size) rs arguments references f h r n = absurd n
+reports_bad NoMemory rs arguments references f h r n = tt
 
 -- an error that is passed on says the same
 pub passed_on : {X : Type 0} (r : Result X ReferenceError) (e : ReferenceError) (P : ReferenceError → Type 0) → IsErrAnd r (λ error. error ≡ e) → P e → IfErr r P

@@ -1,12 +1,26 @@
-//! Arguments that are given both as a value and as a reference.
+//! Arguments that are too many references, or given both as a value and as a reference.
 ghost use Rattle.std.specs.Prelude.{◌≡◌, map};
 ghost use Rattle.std.specs.List.{list_any};
-ghost use Rattle.spec_batch.specs.References.{has_both_forms};
+ghost use Rattle.spec_batch.specs.References.{has_both_forms, has_too_many};
 ghost use Rattle.spec_json.specs.TreeData.{pair_of};
 ghost use Rattle.result_refs.specs.Walk.{begins_with, from_key};
 
 use crate::behind_sign::behind;
+use spec_batch::limits::MAX_REFERENCES;
 use spec_json::tree::{Member, TreeObject};
+
+/// Whether more arguments are references than a call may have. Takes no memory.
+pub(crate) fn has_too_many(arguments: &TreeObject) -> bool
+    ensures { result ≡ has_too_many arguments.now }
+{
+    let mut count = 0;
+    for member in arguments.members() {
+        if behind(member.key.as_str(), '#').is_some() {
+            count += 1;
+        }
+    }
+    count > MAX_REFERENCES
+}
 
 /// Whether an argument is given both as a value and as a reference. Takes no memory.
 ///

@@ -6,5 +6,7 @@ mod behind_sign;
 mod forms;
 mod path;
 mod reference;
+mod size;
+mod value;
 
 pub use arguments::{ReferenceError, resolve};

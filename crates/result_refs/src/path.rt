@@ -1,99 +1,57 @@
-//! The values that paths lead to.
-ghost use Rattle.std.specs.Prelude.{◌≡◌, ◌≤◌, ◌++◌, IfOk, OnOk, drop, length, map, option_and_then, option_map};
-ghost use Rattle.spec_json.specs.Parts.{all_some};
-ghost use Rattle.spec_batch.specs.References.{item_at, items_or_self, joined, path_parts, value_by};
+//! Paths, and steps along them.
+ghost use Rattle.std.specs.Prelude.{◌≡◌, IfOk, map, option_map, unwrap_or};
+ghost use Rattle.spec_batch.specs.References.{item_at, path_parts};
 ghost use Rattle.spec_json.specs.TreeData.{data_of};
-ghost use Rattle.result_refs.specs.Steps.{all_items, named_by};
+ghost use Rattle.result_refs.specs.Steps.{all_items, named_by, parts_along};
 
 use crate::behind_sign::behind;
 use patch_object::{Pointer, PointerError};
 use spec_json::text::Text;
-use spec_json::tree::{Tree, TreeList};
+use spec_json::tree::Tree;
 use std::alloc::{AllocError, Global};
 use time_text::read_number;
 
-/// The value that a path leads to from this one (RFC 8620 section 3.7). Takes memory for it and for the parts.
-///
-/// A path is empty, or a JSON Pointer in which `*` stands for each item of an array.
-pub(crate) fn value_at_path(
-    alloc: Global,
-    path: &str,
-    value: &Tree,
-) -> Result<Option<Tree>, AllocError>
-    ensures { IfOk result (λ o. option_map data_of o ≡ option_and_then (λ ps. value_by ps (data_of value.now)) (path_parts path.now)) }
-{
-    if path.is_empty() {
-        return Ok(Some(value.copy()?));
-    }
-    let Some(pointer) = behind(path, '/') else {
-        return Ok(None);
-    };
-    match Pointer::read(alloc, &Text::from_str(alloc, pointer)?) {
-        Ok(pointer) => value_by(alloc, pointer.parts(), 0, value),
-        Err(PointerError::BadEscape) => Ok(None),
-        Err(PointerError::NoMemory) => Err(AllocError),
-    }
+/// A path (RFC 8620 section 3.7): empty, or a JSON Pointer in which `*` stands for each item of an array.
+#[derive(Drop)]
+pub(crate) struct Path {
+    // The pointer behind the first `/`, where there is one.
+    pointer: Option<Pointer>,
 }
 
-// The value that the parts from the place `i` on lead to.
-#[cycle(value)]
-fn value_by(
-    alloc: Global,
-    parts: &[Text],
-    i: usize,
-    value: &Tree,
-) -> Result<Option<Tree>, AllocError>
-    requires { i ≤ length parts.now }
-    ensures { IfOk result (λ o. option_map data_of o ≡ value_by (drop i parts.now) (data_of value.now)) }
-{
-    if i == parts.len() {
-        return Ok(Some(value.copy()?));
-    }
-    if let Some(items) = all_items(value, &parts[i]) {
-        return values_joined(alloc, parts, i + 1, items);
-    }
-    match named_by(value, &parts[i]) {
-        None => Ok(None),
-        Some(named) => value_by(alloc, parts, i + 1, named),
-    }
-}
-
-// One list of what the parts from the place `i` on lead to from each item.
-#[cycle(value)]
-fn values_joined(
-    alloc: Global,
-    parts: &[Text],
-    i: usize,
-    items: &[Tree],
-) -> Result<Option<Tree>, AllocError>
-    requires { i ≤ length parts.now }
-    ensures { IfOk result (λ o. option_map data_of o ≡ option_map joined (all_some (λ d. value_by (drop i parts.now) d) (map data_of items.now))) }
-{
-    let mut joined = Vec::new(alloc);
-    for item in items {
-        match value_by(alloc, parts, i, item)? {
-            None => return Ok(None),
-            Some(value) => put_in(&mut joined, value)?,
+impl Path {
+    /// Reads a path. Takes memory for its parts.
+    pub(crate) fn read(alloc: Global, path: &str) -> Result<Option<Path>, AllocError>
+        ensures { IfOk result (λ o. option_map parts_along o ≡ path_parts path.now) }
+    {
+        if path.is_empty() {
+            return Ok(Some(Path { pointer: None }));
+        }
+        let Some(pointer) = behind(path, '/') else {
+            return Ok(None);
+        };
+        match Pointer::read(alloc, &Text::from_str(alloc, pointer)?) {
+            Ok(pointer) => Ok(Some(Path {
+                pointer: Some(pointer),
+            })),
+            Err(PointerError::BadEscape) => Ok(None),
+            Err(PointerError::NoMemory) => Err(AllocError),
         }
     }
-    Ok(Some(Tree::List(TreeList::new(joined))))
-}
 
-// A list is put in as its items.
-#[tactic(auto, using(spec_json::specs::Data::items_back))]
-fn put_in(joined: &mut Vec<Tree>, value: Tree) -> Result<(), AllocError>
-    ensures { OnOk result (map data_of joined.new.items ≡ map data_of joined.old.items ++ items_or_self (data_of value)) }
-{
-    match value {
-        Tree::List(list) => joined.append(&mut list.into_items())?,
-        _ => joined.push(value)?,
+    /// The parts, in order. Takes no memory.
+    pub(crate) fn parts(&self) -> &[Text]
+        ensures { result.now ≡ parts_along self.now }
+    {
+        match &self.pointer {
+            Some(pointer) => pointer.parts(),
+            None => &[],
+        }
     }
-    Ok(())
 }
 
-// The items of an array, where the part is `*`.
+/// The items of an array, where the part is `*`. Takes no memory.
 #[tactic(auto, using(spec_json::specs::Data::items_back))]
-fn all_items<'a>(value: &'a Tree, part: &Text) -> Option<&'a [Tree]>
+pub(crate) fn all_items<'a>(value: &'a Tree, part: &Text) -> Option<&'a [Tree]>
     ensures { option_map (λ s. map data_of s.now) result ≡ all_items part.now (data_of value.now) }
 {
     match value {
@@ -102,9 +60,9 @@ fn all_items<'a>(value: &'a Tree, part: &Text) -> Option<&'a [Tree]>
     }
 }
 
-// The member or the item that a part names.
+/// The member or the item that a part names. Takes no memory.
 #[tactic(auto, using(spec_json::specs::Data::items_back, spec_json::specs::Data::pairs_back))]
-fn named_by<'a>(value: &'a Tree, part: &Text) -> Option<&'a Tree>
+pub(crate) fn named_by<'a>(value: &'a Tree, part: &Text) -> Option<&'a Tree>
     ensures { option_map (λ t. data_of t.now) result ≡ named_by part.now (data_of value.now) }
 {
     match value {

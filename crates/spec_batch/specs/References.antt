@@ -1,21 +1,27 @@
 -- Result references: arguments that take their value from an earlier response (RFC 8620 section 3.7).
-use Rattle.std.specs.Prelude.{ℕ, List, [], ◌∷◌, ◌==◌, Bool, not, Option, Some, None, option_map, option_and_then, is_some, filter, flat_map, drop, slice_get, codes, if◌then◌else◌}
+use Rattle.std.specs.Prelude.{ℕ, List, [], ◌∷◌, ◌==◌, Bool, not, Option, Some, None, option_map, option_and_then, is_some, filter, flat_map, drop, length, nat_lt, slice_get, sum_by, codes, if◌then◌else◌}
 use Rattle.std.specs.List.{list_any}
 use Rattle.std.specs.Str.{bytes_eq}
 use Rattle.spec_json.specs.Data.{Data, list, object, Pair, lookup, items_of, list_of, pairs_of}
 use Rattle.spec_json.specs.Edit.{put_all}
+use Rattle.spec_json.specs.Json.{text_of}
 use Rattle.spec_json.specs.Number.{number_in}
 use Rattle.spec_json.specs.Parts.{all_some, behind_hash, text_at}
 use Rattle.spec_json.specs.Pointer.{parts}
 use Rattle.spec_json.specs.TreeData.{data_of}
+use Rattle.spec_batch.specs.declared.limits.TheConstants.{MAX_REFERENCES, MAX_REFERRED_BYTES}
 use Rattle.spec_batch.specs.declared.method_response.MethodResponse.{MethodResponse}
 
 -- what the arguments of a call come to
 pub data Resolution : Type 0 where
+  -- more of them are references than a call may have
+  too_many : Resolution
   -- an argument is given both as a value and as a reference
   both_forms : Resolution
   -- a reference has no value
   bad_reference : Resolution
+  -- the values of the references have more bytes than a call may refer to, these
+  too_large : ℕ → Resolution
   resolved : List Pair → Resolution
 
 -- an argument that is a list is put in as its items
@@ -66,6 +72,9 @@ value_of_reference responses d =
 abbrev pub is_reference : Pair → Bool
 is_reference p = is_some (behind_hash p.0)
 
+abbrev pub has_too_many : List Pair → Bool
+has_too_many arguments = nat_lt MAX_REFERENCES (length (filter is_reference arguments))
+
 -- the argument stands there without the `#` too
 abbrev pub has_both_forms : List Pair → Pair → Bool
 has_both_forms arguments p = is_some (option_and_then (λ key. lookup key arguments) (behind_hash p.0))
@@ -73,12 +82,21 @@ has_both_forms arguments p = is_some (option_and_then (λ key. lookup key argume
 abbrev pub referred_member : List MethodResponse → Pair → Option Pair
 referred_member responses p = option_map (λ d. (drop 1 p.0, d)) (value_of_reference responses p.1)
 
+-- the bytes of the compact texts of these values
+abbrev pub size_of_values : List Pair → ℕ
+size_of_values ps = sum_by (λ p. length (text_of p.1)) ps
+
+abbrev pub unless_too_large : List Pair → List Pair → ℕ → Resolution
+unless_too_large arguments referred size =
+    if nat_lt MAX_REFERRED_BYTES size then too_large size else resolved (put_all referred (filter (λ p. not (is_reference p)) arguments))
+
 abbrev pub with_referred : List Pair → Option (List Pair) → Resolution
 with_referred arguments None = bad_reference
-with_referred arguments (Some referred) = resolved (put_all referred (filter (λ p. not (is_reference p)) arguments))
+with_referred arguments (Some referred) = unless_too_large arguments referred (size_of_values referred)
 
--- the arguments, with the value of each reference in its place
+-- the arguments, with the value of each reference in its place, where these are neither too many nor too large (RFC 8620 sections 3.6.2 and 3.7)
 abbrev pub resolution : List MethodResponse → List Pair → Resolution
 resolution responses arguments =
-    if list_any (has_both_forms arguments) arguments then both_forms
+    if has_too_many arguments then too_many
+    else if list_any (has_both_forms arguments) arguments then both_forms
     else with_referred arguments (all_some (referred_member responses) (filter is_reference arguments))

@@ -2,5 +2,6 @@
 #![tactic(auto)]
 
 pub mod desk;
+pub mod limits;
 pub mod method_response;
 pub mod request;

@@ -24,7 +24,7 @@ pub respond_from_account-requires : goal.respond_from_account-requires
 respond_from_account-requires g c =
     let accounts : ℕ = (g.D.Desk.shown c.args.desk.now).accounts in
     let j = c.in-Ok-Call in
-    subst (account_is_below accounts) j.field-0-is (j.ensures.account accounts c.requires)
+    subst (account_is_below accounts) j.field-0-is (j.ensures.account accounts c.requires.accounts)
 
 pub returns-in-Ok-Call : goal.returns-in-Ok-Call
 returns-in-Ok-Call g c =

@@ -2,7 +2,7 @@ use Rattle.std.proofs.Common.{◌≡◌, ◌+◌, ◌-◌, ◌*◌, ◌++◌, le
 use Rattle.spec_json.specs.Parts.{all_some}
 use Rattle.spec_batch.specs.References.{items_or_self, value_by}
 use Rattle.spec_json.specs.TreeData.{data_of}
-use Rattle.result_refs.proofs.path.+value.Given as goal
+use Rattle.result_refs.proofs.value.+value.Given as goal
 
 abbrev pub decreases-value_by : goal.decreases-value_by
 decreases-value_by l = 2 * (length l.parts.now - l.i)
