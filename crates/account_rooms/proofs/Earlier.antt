@@ -1,5 +1,5 @@
 -- What a series gives far behind its start it gives some cycles of the calendar earlier too.
-use Rattle.std.proofs.Common.{◌≡◌, ◌∙◌, ℕ, ◌+◌, ◌-◌, ◌*◌, ◌≤◌, ℤ, pos, ◌+ℤ◌, ◌-ℤ◌, ◌*ℤ◌, ◌≤ℤ◌, ◌<ℤ◌, ◌==◌, inl, inr, Bool, true, false, List, [], ◌∷◌, refl, sym, ap, arith, mul_assoc, mul_comm}
+use Rattle.std.proofs.Common.{◌≡◌, ◌∙◌, ℕ, ◌+◌, ◌-◌, ◌*◌, ◌≤◌, ℤ, pos, ◌+ℤ◌, ◌-ℤ◌, ◌*ℤ◌, ◌≤ℤ◌, ◌<ℤ◌, ◌==◌, inl, inr, Bool, true, false, List, [], ◌∷◌, refl, sym, ap, arith}
 use Rattle.std.specs.List.{list_any}
 use Rattle.std.proofs.lemmas.Bool.Decides.{nat_tests, Decides-int_eq}
 use Rattle.jiff_core.proofs.SignedLemmas.{signed_arith}
@@ -7,9 +7,8 @@ use borrow.Author.Differences.{up, down}
 use Rattle.spec_time.specs.Walls.{day_of_wall, is_in_years, second_of_wall}
 use Rattle.spec_series.proofs.Occurrences.{kinds, regular_occurs}
 use Rattle.spec_series.specs.Occurrences.{Covers, IsOccurrence, IsOfKinds, IsRegular, is_day}
-use Rattle.spec_series.specs.Periods.{is_in_phase, period_number}
 use Rattle.spec_series.specs.Places.{count_from}
-use Rattle.spec_series.specs.RuleSets.{is_by_end, is_counted, is_due, is_in_set, is_kept, is_within_count}
+use Rattle.spec_series.specs.RuleSets.{is_by_end, is_counted, is_due, is_in_set, is_within_count}
 use Rattle.spec_series.specs.SeriesLimits.{is_named, wall_seconds}
 use Rattle.spec_series.specs.declared.by_part.End.{End}
 use Rattle.spec_series.specs.declared.by_part.End.TheVariants.{Count, Never, Until}
@@ -17,29 +16,14 @@ use Rattle.spec_series.specs.declared.occurrence.Occurrence.{Occurrence}
 use Rattle.spec_series.specs.declared.rule.Rule.{Rule}
 use Rattle.spec_series.specs.declared.series.Series.{Series}
 use Rattle.residue_clash.proofs.Covering.{replaced_early}
-use Rattle.rule_expand.proofs.Cycle.{count_from-after, is_kept-cycle, later}
-use Rattle.rule_expand.proofs.Next.{period-later}
+use Rattle.rule_expand.proofs.Cycle.{count_from-after, later}
+use Rattle.rule_expand.proofs.DueDays.{due_again}
 use Rattle.rule_expand.proofs.Places.{and_both, count_le, false_true}
 use Rattle.rule_expand.proofs.Range.{years_near}
 use Rattle.rule_expand.proofs.Regular.{named_near}
-use Rattle.rule_expand.proofs.Remainder.{modulo-steps}
 use Rattle.rule_expand.proofs.Sets.{both_and, counted_cases, counted_later, in_by, in_cases, int_le_is, is_int_le, not_true, or_cases, or_left, or_right, set_is}
-use Rattle.rule_expand.specs.Walk.{periods}
 
 -- ---- A rule.
-
--- as many cycles later as some times the interval, a day is due again
-due_again : (r : Rule) (s m n : ℤ) (k : ℕ) → n ≡ later m (pos (k * r.interval)) → is_due r s n ≡ is_due r s m
-unfolding is_due is_in_phase
-due_again r s m n k e =
-    let i = r.interval in
-    let P = periods r.frequency in
-    let turned : k * i * P ≡ k * P * i = mul_assoc k i P ∙ ap (λ x. k * x) (mul_comm i P) ∙ sym (mul_assoc k P i) in
-    let moved : period_number r n ≡ period_number r m +ℤ pos (k * P * i) =
-    ap (period_number r) e ∙ period-later r.frequency r.week_start m (pos (k * i)) ∙ ap (λ x. period_number r m +ℤ pos x) turned in
-    let same = modulo-steps i (k * P) (period_number r m) (period_number r n) r.interval_in.0 moved in
-    let kept : is_kept r n ≡ is_kept r m = ap (is_kept r) e ∙ is_kept-cycle r m (pos (k * i)) in
-    rw (kept, same) refl
 
 by_end_earlier : (e : End) (v w : ℤ) → v ≤ℤ w → is_by_end e w ≡ true → is_by_end e v ≡ true
 by_end_earlier Never v w le h = refl

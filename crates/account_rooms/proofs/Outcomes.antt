@@ -95,11 +95,11 @@ module _ (g : Ground) (cs : List Change) (n : ℕ) (before : Option Tree) (names
 
   module _ (m : MeetsNoEarlier g cs n before names_id ps) where
     outcome_is : outcome g cs n before names_id ps ≡ unless_clash found change
-    outcome_is = unless_earlier cs (has_full_resource g.base.zones cs n (stored_event g cs n before names_id ps)) found change (bad_of_event g cs before names_id (stored_event g cs n before names_id ps)) m.valid m.fits m.room
+    outcome_is = unless_earlier cs (has_full_resource g.base.zones cs n (stored_event g cs n before names_id ps)) found change (bad_of_event g.base.zones cs before names_id (stored_event g cs n before names_id ps)) m.valid m.fits m.room
 
     clashed_would : IsClashed (outcome g cs n before names_id ps) → Would
     clashed_would (calendar, (clash, h)) =
-        let last = last_of_all cs (has_full_resource g.base.zones cs n (stored_event g cs n before names_id ps)) found change (bad_of_event g cs before names_id (stored_event g cs n before names_id ps)) calendar clash h in
+        let last = last_of_all cs (has_full_resource g.base.zones cs n (stored_event g cs n before names_id ps)) found change (bad_of_event g.base.zones cs before names_id (stored_event g cs n before names_id ps)) calendar clash h in
         (calendar, (second_of clash, told_would calendar clash (found_first (series_in g.base.zones (stored_event g cs n before names_id ps)) (calendar, clash) refl last.1.1)))
 
     would_clashed : Would → IsClashed (outcome g cs n before names_id ps)
@@ -118,7 +118,7 @@ clashes_are_exact g cs n before names_id ps m = (clashed_would g cs n before nam
 pub clashes_are_first : ClashesAreFirst
 clashes_are_first g cs n before names_id ps calendar clash h =
     let last = last_of_all cs (has_full_resource g.base.zones cs n (stored_event g cs n before names_id ps)) (found g cs n before names_id ps) (change g cs n before names_id ps)
-    (bad_of_event g cs before names_id (stored_event g cs n before names_id ps)) calendar clash h in (
+    (bad_of_event g.base.zones cs before names_id (stored_event g cs n before names_id ps)) calendar clash h in (
       record { valid = last.0.0; fits = last.0.1; room = last.1.0 },
       found_first g cs n before names_id ps (series_in g.base.zones (stored_event g cs n before names_id ps)) (calendar, clash) refl last.1.1,
     )
@@ -132,7 +132,7 @@ module _ (g : Ground) (cs : List Change) where
   calendar_not : (n : ℕ) (before : Option Tree) (names_id : Bool) (ps : List Pair) → IsClashed (calendar_outcome g cs n before names_id ps) → ⊥
   calendar_not n before names_id ps (calendar, (clash, h)) =
       let d = with_own_id Calendar n ps in
-      let last = last_of_all cs (exceeds_resources cs n d) None (put Calendar n (stored (calendar_in d))) (bad_of_calendar g cs before names_id d) calendar clash h in
+      let last = last_of_all cs (exceeds_resources cs n d) None (put Calendar n (stored (calendar_in d))) (bad_of_calendar g.base.zones cs before names_id d) calendar clash h in
       cc last.1.1
 
   calendar_patched_not : (n : ℕ) (before : Tree) (r : Result Data (List ℕ)) → IsClashed (patched_outcome g cs Calendar n before r) → ⊥
@@ -168,7 +168,7 @@ module _ (g : Ground) (cs : List Change) where
       let made = applied n before (patched (data_of before) patch) h in
       record { n = n; before = before; d = made.0; named = refl; applies = made.1; stays = refl; first = refl }
 
-  destroyed_not : (kind : Kind) (o : Option (ℕ × Tree)) → IsClashed (destroyed_outcome g cs kind o) → ⊥
+  destroyed_not : (kind : Kind) (o : Option (ℕ × Tree)) → IsClashed (destroyed_outcome cs kind o) → ⊥
   destroyed_not kind None (calendar, (clash, h)) = cc h
   destroyed_not kind (Some q) h = by_cases (is_in_use cs kind q.0) h
     where
@@ -188,7 +188,7 @@ module _ (g : Ground) (cs : List Change) where
         let is = updated_is (resolved_patch created Event patch) is_destroyed is_repeated (object_named cs Event id) event.1 in
         (is.n, (is.before, (is.d, (record { whole = event.0; named = is.named; applies = is.applies }, is.stays, is.first))))
     others_store (destroy id) h =
-        let event = whole (occurrence_named cs Event id) false (destroyed_outcome g cs Event (object_named cs Event id)) h in
+        let event = whole (occurrence_named cs Event id) false (destroyed_outcome cs Event (object_named cs Event id)) h in
         absurd (destroyed_not Event (object_named cs Event id) event.1)
 
     calendars_not : (o : Operation) → IsClashed (outcome_of g cs Calendar created o) → ⊥

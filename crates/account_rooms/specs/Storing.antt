@@ -41,7 +41,7 @@ module _ (g : Ground) (cs : List Change) (n : ℕ) (before : Option Tree) (names
 
   -- No other refusal holds: no property is bad, and the account and each resource that the event books have room for it.
   pub record MeetsNoEarlier : Type 0 where
-    pub valid : bad_of_event g cs before names_id stored_event ≡ []
+    pub valid : bad_of_event g.base.zones cs before names_id stored_event ≡ []
     pub fits : exceeds_quota cs (size_of_object (Some (Object stored_members))) ≡ false
     pub room : has_full_resource g.base.zones cs n stored_event ≡ false
 

@@ -2,7 +2,7 @@
 -- Calendars).
 use Rattle.std.specs.Prelude.{ℕ, ℤ, suc, List, [], ◌∷◌, Bool, Option, Some, None, length, map, unwrap_or}
 use Rattle.cal_model.specs.Changes.{changes_response, changes_refusal}
-use Rattle.cal_model.specs.Gets.{get_response, get_error, ids_not_found, objects_asked, selected}
+use Rattle.cal_model.specs.Gets.{get_response, get_error, ids_not_found, listed}
 use Rattle.cal_model.specs.Operations.{Ground}
 use Rattle.cal_model.specs.SetReply.{set_arguments}
 use Rattle.cal_model.specs.Sets.{new_ids, objects_of, set_changes, set_refusal}
@@ -48,8 +48,8 @@ unless_refused (Some e) cs = []
 
 -- `/get` (RFC 8620 section 5.1)
 abbrev pub get_answer : Base → List Entry → List (List ℕ × List ℕ) → GetArguments → Reply
-get_answer base h created q = unless_error h (get_error (changes_of h) q) (answered h (get_response base q.kind (changes_of h)
-    (map (selected q.properties) (objects_asked (changes_of h) q.kind created q.ids)) (ids_not_found (changes_of h) q.kind created q.ids)) [])
+get_answer base h created q = unless_error h (get_error (changes_of h) created q)
+    (answered h (get_response base q.kind (changes_of h) (listed (changes_of h) created q) (ids_not_found (changes_of h) q.kind created q.ids)) [])
 
 -- `/changes` (RFC 8620 section 5.2)
 abbrev pub changes_answer : Base → List Entry → ChangesArguments → Reply

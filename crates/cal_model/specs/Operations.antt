@@ -31,6 +31,7 @@ use Rattle.spec_bookings.specs.BookedResources.{clash_of_event, has_full_resourc
 use Rattle.spec_bookings.specs.Resources.{resources_at, zone_of_resource}
 use Rattle.spec_bookings.specs.declared.limits.TheConstants.{MAX_RESOURCES}
 use Rattle.spec_bookings.specs.declared.clash.Clash.{Clash}
+use Rattle.spec_site.specs.TimeZones.{ZoneText}
 use Rattle.property_table.specs.Names.{put_name}
 use Rattle.property_table.specs.Table.{given}
 
@@ -110,38 +111,46 @@ abbrev pub is_in_use : List Change → Kind → ℕ → Bool
 is_in_use cs Calendar n = has_event cs n
 is_in_use cs Event n = false
 
-module _ (g : Ground) (cs : List Change) where
+module _ (zones : List ZoneText) (cs : List Change) where
   -- the bad properties of a calendar, with those that what it was before makes bad
   abbrev pub bad_of_calendar : Option Tree → Bool → Data → List (List ℕ)
   bad_of_calendar before names_id d =
-      with_name_if names_id (codes "id") (with_name_if (has_other_zone before d) (codes "resourceZone") (bad_properties g.base.zones d))
+      with_name_if names_id (codes "id") (with_name_if (has_other_zone before d) (codes "resourceZone") (bad_properties zones d))
 
+  -- what comes of storing a calendar that has its id
   abbrev pub stored_calendar_outcome : ℕ → Option Tree → Bool → Data → Outcome
   stored_calendar_outcome n before names_id d =
       after_tests cs (exceeds_resources cs n d) None (put Calendar n (stored (calendar_in d))) (bad_of_calendar before names_id d)
 
-  -- what comes of storing calendar n with these members, in place of what it was before; `names_id` says whether the client gives an id
-  -- that it may not give
-  abbrev pub calendar_outcome : ℕ → Option Tree → Bool → List Pair → Outcome
-  calendar_outcome n before names_id ps = stored_calendar_outcome n before names_id (with_own_id Calendar n ps)
-
   -- what the resources that an event is in make bad
   abbrev pub bad_of_booking : Data → List (List ℕ) → List (List ℕ)
-  bad_of_booking d names = with_name_if (has_long_override g.base.zones cs d) (codes "recurrenceOverrides")
+  bad_of_booking d names = with_name_if (has_long_override zones cs d) (codes "recurrenceOverrides")
       (with_name_if (is_long_booking cs d) (codes "duration") (with_name_if (is_in_other_zone cs d) (codes "timeZone") names))
 
   -- the bad properties of an event, with those that its account and what it was before make bad
   abbrev pub bad_of_event : Option Tree → Bool → Data → List (List ℕ)
   bad_of_event before names_id d = with_name_if names_id (codes "id") (with_name_if (has_other_uid before d) (codes "uid")
-      (with_name_if (names_missing_calendar cs d) (codes "calendarIds") (bad_of_booking d (bad_properties_of_event g.base.zones d))))
+      (with_name_if (names_missing_calendar cs d) (codes "calendarIds") (bad_of_booking d (bad_properties_of_event zones d))))
 
+  -- what comes of storing an event that has what the server sets
   abbrev pub stored_event_outcome : ℕ → Option Tree → Bool → List Pair → Outcome
-  stored_event_outcome n before names_id ps = after_tests cs (has_full_resource g.base.zones cs n (object (members_of ps)))
-      (clash_of_event g.base.zones cs n (object (members_of ps))) (put Event n ps) (bad_of_event before names_id (object (members_of ps)))
+  stored_event_outcome n before names_id ps = after_tests cs (has_full_resource zones cs n (object (members_of ps)))
+      (clash_of_event zones cs n (object (members_of ps))) (put Event n ps) (bad_of_event before names_id (object (members_of ps)))
+
+-- what comes of removing an object that is there
+abbrev pub destroyed_outcome : List Change → Kind → Option (ℕ × Tree) → Outcome
+destroyed_outcome cs kind None = Refused NotFound
+destroyed_outcome cs kind (Some q) = unless (if_holds (is_in_use cs kind q.0) CalendarHasEvent ∷ []) (within_quota cs false None (removal kind q.0))
+
+module _ (g : Ground) (cs : List Change) where
+  -- what comes of storing calendar n with these members, in place of what it was before; `names_id` says whether the client gives an id
+  -- that it may not give
+  abbrev pub calendar_outcome : ℕ → Option Tree → Bool → List Pair → Outcome
+  calendar_outcome n before names_id ps = stored_calendar_outcome g.base.zones cs n before names_id (with_own_id Calendar n ps)
 
   -- what comes of storing event n with these members, in place of what it was before
   abbrev pub event_outcome : ℕ → Option Tree → Bool → List Pair → Outcome
-  event_outcome n before names_id ps = stored_event_outcome n before names_id (event_members g.base.account_id g.moment n before ps)
+  event_outcome n before names_id ps = stored_event_outcome g.base.zones cs n before names_id (event_members g.base.account_id g.moment n before ps)
 
   abbrev pub object_outcome : Kind → ℕ → Option Tree → Bool → List Pair → Outcome
   object_outcome Calendar n before names_id ps = calendar_outcome n before names_id ps
@@ -162,10 +171,6 @@ module _ (g : Ground) (cs : List Change) where
       ∷ if_holds is_repeated (InvalidPatch [])
       ∷ []) (patched_outcome kind q.0 q.1 (patched (data_of q.1) patch))
 
-  abbrev pub destroyed_outcome : Kind → Option (ℕ × Tree) → Outcome
-  destroyed_outcome kind None = Refused NotFound
-  destroyed_outcome kind (Some q) = unless (if_holds (is_in_use cs kind q.0) CalendarHasEvent ∷ []) (within_quota cs false None (removal kind q.0))
-
   -- an occurrence can't be changed by itself
   abbrev pub unless_occurrence : Option Tree → Bool → Outcome → Outcome
   unless_occurrence occurrence is_destroyed o = unless (
@@ -178,7 +183,7 @@ module _ (g : Ground) (cs : List Change) where
   abbrev pub outcome_of : Kind → List (List ℕ × List ℕ) → Operation → Outcome
   outcome_of kind created (update id patch is_destroyed is_repeated) = unless_occurrence (occurrence_named cs kind id) is_destroyed
       (updated_outcome kind (resolved_patch created kind patch) is_destroyed is_repeated (object_named cs kind id))
-  outcome_of kind created (destroy id) = unless_occurrence (occurrence_named cs kind id) false (destroyed_outcome kind (object_named cs kind id))
+  outcome_of kind created (destroy id) = unless_occurrence (occurrence_named cs kind id) false (destroyed_outcome cs kind (object_named cs kind id))
 
 abbrev pub changes_in : Outcome → List Change
 changes_in (Accepted c) = c ∷ []

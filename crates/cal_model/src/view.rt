@@ -1,8 +1,9 @@
 //! What a set sees of an account while it is planned.
-ghost use Rattle.std.specs.Prelude.{◌≡◌, ◌≤◌, ◌++◌, ◌∷◌, [], IfNone, IfOk, List, OnErr, OnOk, length, option_map, true};
+ghost use Rattle.std.specs.Prelude.{◌≡◌, ◌≤◌, ◌+◌, ◌++◌, ◌∷◌, [], None, IfNone, IfOk, List, OnErr, OnOk, length, option_map, true};
 ghost use Rattle.cal_model.specs.EventObject.{has_event};
 ghost use Rattle.cal_model.specs.Fits.{IsFit};
 ghost use Rattle.cal_model.specs.Quota.{size_of, size_of_object};
+ghost use Rattle.cal_model.specs.Sound.{unsound_place};
 ghost use Rattle.cal_model.specs.declared.limits.TheConstants.{MAX_ENTRIES, MAX_OBJECT_BYTES};
 ghost use Rattle.spec_history.specs.Base.{Base};
 ghost use Rattle.spec_history.specs.History.{changes_of, ids_at, live_object};
@@ -59,9 +60,14 @@ pub trait AccountView {
         ensures exact { result ≡ first_clash (other_bookings (base self.now).zones (changes self.now) event calendar) series.now }
         ensures clear { IfNone result (IsClear (other_bookings (base self.now).zones (changes self.now) event calendar) series.now) };
 
-    /// How many objects of a kind were created. Takes no memory.
+    /// Each change is sound behind those before it: the account would store its object again. A law; it does nothing.
+    fn has_sound_changes(&self)
+        ensures { unsound_place (base self.now).zones (changes self.now) ≡ None };
+
+    /// How many objects of a kind were created. None has the next number. Takes no memory.
     fn created_so_far(&self, kind: Kind) -> u64
         ensures exact { result ≡ length (ids_at (changes self.now) kind) }
+        ensures new { live_object (changes self.now) kind (result + 1) ≡ None }
         ensures most { result ≤ MAX_ENTRIES };
 
     /// Which copy of the data the account goes on from. Takes no memory.

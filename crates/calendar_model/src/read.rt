@@ -1,8 +1,9 @@
 //! Reads calendars.
 ghost use Rattle.std.specs.Prelude.{◌≡◌, [], IfErr, IfOk, OnOk, pos, true, unwrap_or};
-ghost use Rattle.cal_model.specs.Calendar.{bad_properties, calendar_in};
+ghost use Rattle.cal_model.specs.Calendar.{bad_properties, calendar_in, stored};
 ghost use Rattle.calendar_model.specs.Reports.{Reports};
 ghost use Rattle.calendar_model.specs.declared.read.CalendarError.TheVariants.{NoMemory};
+ghost use Rattle.spec_json.specs.Data.{members_of, object};
 ghost use Rattle.spec_json.specs.Parts.{number_at, text_at, truth_at};
 ghost use Rattle.spec_json.specs.TreeData.{data_of};
 
@@ -39,10 +40,11 @@ impl From<AllocError> for CalendarError {
 
 /// Reads a calendar, in which a member that is null counts as left out.
 ///
-/// `BadCalendar` names all properties that are bad. Takes memory for a copy of the texts, or for the names.
+/// `BadCalendar` names all properties that are bad. What is stored of a calendar has none. Takes memory for a copy of the texts, or for the names.
 pub fn read_calendar(alloc: Global, tree: &Tree, zones: &Zones) -> Result<Calendar, CalendarError>
     ensures value { IfOk result (λ c. c ≡ calendar_in (data_of tree.now)) }
     ensures valid { OnOk result (bad_properties zones.now (data_of tree.now) ≡ []) }
+    ensures stored { IfOk result (λ c. bad_properties zones.now (object (members_of (stored c))) ≡ []) }
     ensures err { IfErr result (λ error. Reports error (bad_properties zones.now (data_of tree.now))) }
 {
     let names = failing_names(alloc, &CalendarTable { zones }, tree)?;
@@ -51,6 +53,7 @@ pub fn read_calendar(alloc: Global, tree: &Tree, zones: &Zones) -> Result<Calend
             properties: Texts::new(names),
         });
     }
+    let _ordered = tree.members_in();
     Ok(calendar(alloc, tree)?)
 }
 

@@ -5,3 +5,7 @@ pub mod MemberLemmas
 pub mod NameLemmas
 pub mod ResolvedLemmas
 mod BookingLemmas
+mod SameLemmas
+mod ServerLemmas
+pub mod SoundLemmas
+mod AgainLemmas

@@ -1,8 +1,10 @@
 //! What comes of storing a calendar.
-ghost use Rattle.std.specs.Prelude.{◌≡◌, ◌++◌, ◌==◌, None, IfOk, codes, false, filter, length, not, option_map};
-ghost use Rattle.cal_model.specs.Calendar.{calendar_in, stored, text_or_null};
+ghost use Rattle.std.specs.Prelude.{◌≡◌, ◌++◌, ◌==◌, [], None, IfOk, codes, false, filter, length, not, option_map, true};
+ghost use Rattle.cal_model.specs.Calendar.{bad_properties, calendar_in, stored, text_or_null};
 ghost use Rattle.cal_model.specs.Operations.{calendar_outcome, exceeds_resources, has_other_zone, put, stored_calendar_outcome, with_name_if, within_quota};
+ghost use Rattle.cal_model.specs.Sound.{has_own_id};
 ghost use Rattle.spec_history.specs.declared.entry.Kind.TheVariants.{Calendar as calendar_kind};
+ghost use Rattle.spec_json.specs.Data.{members_of, object};
 ghost use Rattle.spec_json.specs.SameData.{same_data};
 ghost use Rattle.spec_json.specs.TreeData.{data_of};
 ghost use Rattle.object_outcomes.specs.Judging.{IsAllowed, IsBefore, ground_in};
@@ -22,6 +24,7 @@ use spec_json::lists::Texts;
 use spec_json::text::Text;
 use spec_json::tree::{Tree, TreeObject};
 use std::alloc::{AllocError, Global};
+use zone_table::Zones;
 
 /// What comes of storing a calendar of this number in place of what it was before. `names_id` says whether the client gives an id that
 /// it may not give.
@@ -35,30 +38,33 @@ pub(crate) fn calendar_outcome<V: AccountView>(
     object: TreeObject,
 ) -> Result<Judged, AllocError>
     requires before { IsBefore (V.changes view.now) calendar_kind number (option_map (λ t. t.now) before) }
+    requires zones { (V.base view.now).zones ≡ setting.now.zones.now }
     ensures exact { IfOk result (λ j. j.outcome ≡ calendar_outcome (ground_in setting.now) (V.changes view.now) number
         (option_map (λ t. t.now) before.entry) names_id object) }
     ensures allowed { IfOk result (IsAllowed (V.base view.now).zones (V.changes view.now)) }
 {
     let tree = with_own_id(alloc, Kind::Calendar, number, object)?;
-    stored_outcome(alloc, view, setting, number, before, names_id, &tree)
+    stored_outcome(alloc, view, setting.zones, number, before, names_id, &tree)
 }
 
-// What comes of storing a calendar that has its id.
-fn stored_outcome<V: AccountView>(
+/// What comes of storing a calendar that has its id.
+pub(crate) fn stored_outcome<V: AccountView>(
     alloc: Global,
     view: &V,
-    setting: &Setting<'_>,
+    zones: &Zones,
     number: u64,
     before: Option<&Tree>,
     names_id: bool,
     tree: &Tree,
 ) -> Result<Judged, AllocError>
     requires before { IsBefore (V.changes view.now) calendar_kind number (option_map (λ t. t.now) before) }
-    ensures exact { IfOk result (λ j. j.outcome ≡ stored_calendar_outcome (ground_in setting.now) (V.changes view.now) number
+    requires id { has_own_id calendar_kind number (data_of tree.now) ≡ true }
+    requires zones { (V.base view.now).zones ≡ zones.now }
+    ensures exact { IfOk result (λ j. j.outcome ≡ stored_calendar_outcome zones.now (V.changes view.now) number
         (option_map (λ t. t.now) before.entry) names_id (data_of tree.now)) }
     ensures allowed { IfOk result (IsAllowed (V.base view.now).zones (V.changes view.now)) }
 {
-    match read_calendar(alloc, tree, setting.zones) {
+    match read_calendar(alloc, tree, zones) {
         Ok(calendar) => {
             let names = with_own_names(alloc, before, names_id, tree, Vec::new(alloc))?;
             if names.is_empty() {
@@ -130,6 +136,8 @@ fn store<V: AccountView>(
 ) -> Result<Judged, AllocError>
     requires before { IsBefore (V.changes view.now) calendar_kind number (option_map (λ t. t.now) before) }
     requires same { has_other_zone (option_map (λ t. t.now) before) (data_of tree.now) ≡ false }
+    requires id { has_own_id calendar_kind number (data_of tree.now) ≡ true }
+    requires valid { bad_properties (V.base view.now).zones (object (members_of (stored calendar.now))) ≡ [] }
     requires calendar { calendar.now ≡ calendar_in (data_of tree.now) }
     ensures exact { IfOk result (λ j. j.outcome ≡ within_quota (V.changes view.now)
         (exceeds_resources (V.changes view.now) number (data_of tree.now)) None (put calendar_kind number (stored (calendar_in (data_of tree.now))))) }

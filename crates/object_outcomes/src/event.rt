@@ -1,12 +1,13 @@
 //! What comes of storing an event.
-ghost use Rattle.std.specs.Prelude.{◌≡◌, Some, IfOk, OnOk, is_some, map, option_map, unwrap_or};
+ghost use Rattle.std.specs.Prelude.{◌≡◌, [], Some, IfOk, OnOk, false, is_some, map, option_map, true, unwrap_or};
 ghost use Rattle.std.specs.List.{list_all};
 ghost use Rattle.cal_model.specs.EventObject.{has_other_uid, names_missing_calendar, moment_created, value_or_null, with_default, with_server_values};
-ghost use Rattle.cal_model.specs.Operations.{event_outcome, stored_event_outcome, within_quota};
+ghost use Rattle.cal_model.specs.Operations.{bad_of_event, event_outcome, stored_event_outcome, within_quota};
+ghost use Rattle.cal_model.specs.Sound.{has_server_values};
 ghost use Rattle.spec_events.specs.Events.{calendars_among};
 ghost use Rattle.spec_history.specs.History.{live_object};
 ghost use Rattle.spec_history.specs.declared.entry.Kind.TheVariants.{Calendar as calendar_kind, Event as event_kind};
-ghost use Rattle.spec_json.specs.Data.{null, text};
+ghost use Rattle.spec_json.specs.Data.{members_of, null, object, text};
 ghost use Rattle.spec_json.specs.Edit.{with_pair};
 ghost use Rattle.spec_json.specs.SameData.{same_data};
 ghost use Rattle.spec_json.specs.TreeData.{data_of, pair_of};
@@ -15,7 +16,7 @@ ghost use Rattle.spec_bookings.specs.BookedResources.{clash_of_event, has_full_r
 ghost use Rattle.spec_bookings.specs.Resources.{resources_of};
 ghost use Rattle.spec_time.specs.LocalTimes.{utc_text};
 ghost use Rattle.property_table.specs.Table.{given};
-ghost use Rattle.object_outcomes.specs.Judging.{HasNumber, IsAllowed, IsStorable, ground_in, names_with_booking, names_with_own};
+ghost use Rattle.object_outcomes.specs.Judging.{HasNumber, IsAllowed, IsBefore, IsStorable, ground_in, names_with_booking, names_with_own};
 
 use crate::against::stands_against;
 use crate::booking_rules::{
@@ -37,6 +38,7 @@ use spec_series::series::Series;
 use spec_time::moment::Moment;
 use std::alloc::{AllocError, Global};
 use time_text::{object_id_text, read_object_id, utc_text};
+use zone_table::Zones;
 
 /// What comes of storing an event of this number in place of what it was before. `names_id` says whether the client gives an id
 /// that it may not give.
@@ -49,36 +51,47 @@ pub(crate) fn event_outcome<V: AccountView>(
     names_id: bool,
     object: TreeObject,
 ) -> Result<Judged, AllocError>
-    requires number { HasNumber (V.changes view.now) event_kind number }
+    requires before { IsBefore (V.changes view.now) event_kind number (option_map (λ t. t.now) before) }
     requires zones { (V.base view.now).zones ≡ setting.now.zones.now }
     ensures exact { IfOk result (λ j. j.outcome ≡ event_outcome (ground_in setting.now) (V.changes view.now) number
         (option_map (λ t. t.now) before.entry) names_id object) }
     ensures allowed { IfOk result (IsAllowed (V.base view.now).zones (V.changes view.now)) }
 {
+    view.has_sound_changes();
+    let _range = setting.moment.seconds();
     let given = given(alloc, object)?;
     let members = with_server_values(alloc, setting, number, before, given)?;
-    stored_outcome(alloc, view, setting, number, before, names_id, members)
+    stored_outcome(
+        alloc,
+        view,
+        setting.zones,
+        number,
+        before,
+        names_id,
+        members,
+    )
 }
 
-// What comes of storing an event of these members.
-fn stored_outcome<V: AccountView>(
+/// What comes of storing an event of these members, which has what the server sets.
+pub(crate) fn stored_outcome<V: AccountView>(
     alloc: Global,
     view: &V,
-    setting: &Setting<'_>,
+    zones: &Zones,
     number: u64,
     before: Option<&Tree>,
     names_id: bool,
     members: TreeObject,
 ) -> Result<Judged, AllocError>
-    requires number { HasNumber (V.changes view.now) event_kind number }
-    requires zones { (V.base view.now).zones ≡ setting.now.zones.now }
-    ensures exact { IfOk result (λ j. j.outcome ≡ stored_event_outcome (ground_in setting.now) (V.changes view.now) number
+    requires before { IsBefore (V.changes view.now) event_kind number (option_map (λ t. t.now) before) }
+    requires form { has_server_values event_kind number (object (members_of members)) ≡ true }
+    requires zones { (V.base view.now).zones ≡ zones.now }
+    ensures exact { IfOk result (λ j. j.outcome ≡ stored_event_outcome zones.now (V.changes view.now) number
         (option_map (λ t. t.now) before.entry) names_id members) }
     ensures allowed { IfOk result (IsAllowed (V.base view.now).zones (V.changes view.now)) }
 {
     let event = Tree::Object(members);
     let resources = resources_of(alloc, view, &event)?;
-    match read_event(alloc, &event, setting.zones) {
+    match read_event(alloc, &event, zones) {
         Ok(series) => {
             let is_long = has_long_exception(&series, &resources);
             let none = Vec::new(alloc);
@@ -91,7 +104,7 @@ fn stored_outcome<V: AccountView>(
             Ok(refused_for(names))
         }
         Err(EventError::BadEvent { properties }) => {
-            let is_long = has_long_override(alloc, view, setting.zones, &event, &resources)?;
+            let is_long = has_long_override(alloc, view, zones, &event, &resources)?;
             let names = copies(alloc, properties.items())?;
             let names = with_own_names(
                 alloc, view, before, names_id, is_long, &event, &resources, names,
@@ -114,6 +127,8 @@ fn store<V: AccountView>(
     requires number { HasNumber (V.changes view.now) event_kind number }
     requires resources { resources.now ≡ resources_of (V.changes view.now) (data_of event) }
     requires event { IsStorable (V.base view.now).zones (V.changes view.now) (data_of event) series }
+    requires valid { bad_of_event (V.base view.now).zones (V.changes view.now) (live_object (V.changes view.now) event_kind number) false (data_of event) ≡ [] }
+    requires form { has_server_values event_kind number (data_of event) ≡ true }
     ensures exact { IfOk result (λ j. j.outcome ≡ within_quota (V.changes view.now) (has_full_resource (V.base view.now).zones (V.changes view.now) number (data_of event))
         (clash_of_event (V.base view.now).zones (V.changes view.now) number (data_of event)) (record { kind = event_kind; id = number; object = Some event })) }
     ensures allowed { IfOk result (IsAllowed (V.base view.now).zones (V.changes view.now)) }

@@ -206,28 +206,41 @@ fn destroy<V: AccountView>(
     id: &Text,
 ) -> Result<Judged, AllocError>
     ensures exact { IfOk result (λ j. j.outcome
-        ≡ destroyed_outcome (ground_in setting.now) (V.changes view.now) setting.now.kind
+        ≡ destroyed_outcome (V.changes view.now) setting.now.kind
         (object_named (V.changes view.now) setting.now.kind id.now)) }
     ensures allowed { IfOk result (IsAllowed (V.base view.now).zones (V.changes view.now)) }
 {
     match named(view, setting.kind, id) {
         None => Ok(Judged::refused(SetError::NotFound)),
-        Some((number, _)) => {
-            if is_in_use(view, setting.kind, number) {
-                return Ok(Judged::refused(SetError::CalendarHasEvent));
-            }
-            let change = Change {
-                kind: setting.kind,
-                id: number,
-                object: None,
-            };
-            let against = Against {
-                is_full: false,
-                clash: None,
-            };
-            within_quota(alloc, view, change, against, None)
-        }
+        Some((number, object)) => remove(alloc, view, setting.kind, number, object),
     }
+}
+
+/// What comes of removing an object that is live.
+pub(crate) fn remove<V: AccountView>(
+    alloc: Global,
+    view: &V,
+    kind: Kind,
+    number: u64,
+    object: &Tree,
+) -> Result<Judged, AllocError>
+    requires { live_object (V.changes view.now) kind number ≡ Some object.now }
+    ensures exact { IfOk result (λ j. j.outcome ≡ destroyed_outcome (V.changes view.now) kind (Some (number, object.now))) }
+    ensures allowed { IfOk result (IsAllowed (V.base view.now).zones (V.changes view.now)) }
+{
+    if is_in_use(view, kind, number) {
+        return Ok(Judged::refused(SetError::CalendarHasEvent));
+    }
+    let change = Change {
+        kind,
+        id: number,
+        object: None,
+    };
+    let against = Against {
+        is_full: false,
+        clash: None,
+    };
+    within_quota(alloc, view, change, against, None)
 }
 
 // Whether this is a calendar in which events are.

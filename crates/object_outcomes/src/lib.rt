@@ -16,5 +16,6 @@ mod quota;
 mod resolved;
 pub mod resources;
 pub mod setting;
+pub mod sound;
 pub mod texts;
 mod uid;

@@ -1,8 +1,10 @@
 //! The room of an account.
-ghost use Rattle.std.specs.Prelude.{◌≡◌, ◌++◌, IfOk, None, false, not};
+ghost use Rattle.std.specs.Prelude.{◌≡◌, ◌++◌, IfOk, None, false, not, true};
 ghost use Rattle.cal_model.specs.Fits.{IsObjectFit};
 ghost use Rattle.cal_model.specs.Operations.{within_quota};
 ghost use Rattle.cal_model.specs.Quota.{exceeds_quota, size_of_object};
+ghost use Rattle.cal_model.specs.Sound.{is_sound};
+ghost use Rattle.cal_model.specs.declared.outcome.Outcome.TheVariants.{Accepted};
 ghost use Rattle.spec_bookings.specs.SeriesPut.{series_put};
 ghost use Rattle.object_outcomes.specs.Judging.{HasNumber, IsAllowed};
 
@@ -19,7 +21,8 @@ use std::alloc::{AllocError, Global};
 
 /// What comes of a change: it is refused where the account has no room for it or a resource is full, and then where it clashes.
 ///
-/// Where it is accepted, `fit` says that the account may take its object. `series` is that of the event that it puts.
+/// Where it is accepted, `fit` says that the account may take its object, and `sound` that it would store it again. `series` is that of the
+/// event that it puts.
 pub(crate) fn within_quota<V: AccountView>(
     alloc: Global,
     view: &V,
@@ -31,6 +34,7 @@ pub(crate) fn within_quota<V: AccountView>(
     requires fit { against.is_full ≡ false → against.clash ≡ None
         → IsObjectFit (V.base view.now).zones (V.changes view.now) change.kind change.id change.object }
     requires series { series ≡ series_put (V.base view.now).zones change }
+    requires sound { within_quota (V.changes view.now) against.is_full against.clash change ≡ Accepted change → is_sound (V.base view.now).zones (V.changes view.now) change ≡ true }
     ensures exact { IfOk result (λ j. j.outcome ≡ within_quota (V.changes view.now) against.is_full against.clash change) }
     ensures allowed { IfOk result (IsAllowed (V.base view.now).zones (V.changes view.now)) }
 {

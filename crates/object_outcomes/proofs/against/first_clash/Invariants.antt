@@ -1,4 +1,4 @@
-use Rattle.std.proofs.Common.{◌≡◌, ◌++◌, All, drop, take}
+use Rattle.std.proofs.Common.{◌≡◌, All, drop, take}
 use Rattle.spec_bookings.specs.BookedResources.{first_clash_in, other_bookings}
 use Rattle.spec_bookings.specs.Clashes.{IsClear}
 use Rattle.object_outcomes.proofs.against.first_clash.Given as goal

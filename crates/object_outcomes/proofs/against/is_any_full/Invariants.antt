@@ -1,4 +1,4 @@
-use Rattle.std.proofs.Common.{◌≡◌, ◌++◌, drop, length, nat_le}
+use Rattle.std.proofs.Common.{◌≡◌, drop, length, nat_le}
 use Rattle.std.specs.List.{list_any}
 use Rattle.spec_bookings.specs.BookedResources.{other_bookings}
 use Rattle.spec_bookings.specs.declared.limits.TheConstants.{MAX_BOOKINGS}

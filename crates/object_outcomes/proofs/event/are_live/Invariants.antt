@@ -1,4 +1,4 @@
-use Rattle.std.proofs.Common.{◌≡◌, ◌++◌, drop, is_some, map}
+use Rattle.std.proofs.Common.{◌≡◌, drop, is_some, map}
 use Rattle.std.specs.List.{list_all}
 use Rattle.spec_events.specs.Events.{calendars_among}
 use Rattle.spec_history.specs.History.{live_object}
