@@ -1,5 +1,5 @@
 -- The entries that changes become.
-use Rattle.std.proofs.Common.{◌≡◌, ◌+◌, ℕ, suc, List, [], ◌∷◌, ◌++◌, add-zero, append_assoc, arith, length, refl, sym, ap, ◌∙◌, zero-add}
+use Rattle.std.proofs.Common.{◌≡◌, ◌+◌, ℕ, suc, List, [], ◌∷◌, ◌++◌, add-zero, append_assoc, arith, length, refl, sym, ap, ◌∙◌}
 use Rattle.std.proofs.lemmas.List.{map-append}
 use Rattle.std.proofs.lemmas.List.Sums.{sum_by-append}
 use Rattle.account_core.specs.Tally.{Tallies}
@@ -19,12 +19,12 @@ changes_back s [] n = refl
 changes_back s (c ∷ cs) n = ap (λ ds. c ∷ ds) (changes_back s cs (suc n))
 
 -- the changes of a history that the staged changes became part of
-pub changes_committed : (h h' : List Entry) (s : Stamp) (cs : List Change) → h' ≡ h ++ entries_from s 0 cs → changes_of h' ≡ changes_of h ++ cs
-changes_committed h h' s cs is = rw (is, map-append, changes_back) refl
+pub changes_committed : (h h' : List Entry) (s : Stamp) (n : ℕ) (cs : List Change) → h' ≡ h ++ entries_from s n cs → changes_of h' ≡ changes_of h ++ cs
+changes_committed h h' s n cs is = rw (is, map-append, changes_back) refl
 
 -- the tally of a history with its staged changes is that of the history which they became part of
-pub tally_committed : (t : Tally) (h h' : List Entry) (s : Stamp) (cs : List Change) → Tallies t (changes_of h ++ cs) → h' ≡ h ++ entries_from s 0 cs → Tallies t (changes_of h')
-tally_committed t h h' s cs tallies is = rw (changes_committed h h' s cs is) tallies
+pub tally_committed : (t : Tally) (h h' : List Entry) (cs : List Change) → Tallies t (changes_of h ++ cs) → changes_of h' ≡ changes_of h ++ cs → Tallies t (changes_of h')
+tally_committed t h h' cs tallies is = rw is tallies
 
 pub object_from_append : (cs ds : List Change) (before : Option Tree) (kind : Kind) (id : ℕ) → object_from before (cs ++ ds) kind id ≡ object_from (object_from before cs kind id) ds kind id
 object_from_append [] ds before kind id = refl
@@ -38,6 +38,6 @@ entries_push s [] n c = rw add-zero refl
 entries_push s (d ∷ cs) n c = ap (λ es. entry_of s n d ∷ es) (entries_push s cs (suc n) c ∙ ap (λ m. entries_from s (suc n) cs ++ entry_of s m c ∷ []) (omega arith))
 
 -- one entry more, with the next part
-pub entries_more : (h h' h'' : List Entry) (s : Stamp) (cs : List Change) (c : Change) (part : ℕ) → h' ≡ h ++ entries_from s 0 cs → part ≡ length cs → h'' ≡ h' ++ entry_of s part c ∷ []
-    → h'' ≡ h ++ entries_from s 0 (cs ++ c ∷ [])
-entries_more h h' h'' s cs c part before number push = push ∙ rw (before, number, append_assoc) (ap (λ es. h ++ es) (sym (entries_push s cs 0 c ∙ ap (λ m. entries_from s 0 cs ++ entry_of s m c ∷ []) (zero-add (length cs)))))
+pub entries_more : (h h' h'' : List Entry) (s : Stamp) (cs : List Change) (c : Change) (first part : ℕ) → h' ≡ h ++ entries_from s first cs → part ≡ first + length cs → h'' ≡ h' ++ entry_of s part c ∷ []
+    → h'' ≡ h ++ entries_from s first (cs ++ c ∷ [])
+entries_more h h' h'' s cs c first part before number push = push ∙ rw (before, number, append_assoc) (ap (λ es. h ++ es) (sym (entries_push s cs first c)))

@@ -1,6 +1,6 @@
 -- The tally of one change more.
 use Rattle.std.proofs.lemmas.Bool.{false≢true}
-use Rattle.std.proofs.Common.{◌≡◌, ◌≤◌, ◌+◌, ◌⊎◌, inl, inr, max, ℕ, List, [], ◌∷◌, ◌++◌, Bool, true, false, cond, is_some, length, length-append, arith, refl, sym, ap, ◌∙◌, zero-add, subst}
+use Rattle.std.proofs.Common.{◌≡◌, ◌≤◌, ◌+◌, ◌⊎◌, inl, inr, max, ℕ, List, [], ◌∷◌, ◌++◌, Bool, true, false, cond, Option, Some, None, is_some, length, length-append, arith, refl, sym, ap, ◌∙◌, zero-add, subst}
 use Rattle.std.proofs.lemmas.List.FromFn.{length-range_with_len}
 use Rattle.std.proofs.lemmas.List.Sums.{sum_by-append}
 use Rattle.std.specs.List.{range_with_len}
@@ -15,6 +15,7 @@ use Rattle.spec_history.specs.declared.entry.Change.{Change}
 use Rattle.spec_history.specs.declared.entry.Kind.{Kind}
 use Rattle.spec_history.specs.declared.entry.Kind.TheVariants.{Calendar, Event}
 use Rattle.spec_bookings.proofs.Numbered.{numbered_if_live}
+use Rattle.spec_json.specs.declared.tree.Tree.{Tree}
 
 -- the change is of the next object or of one that is there
 abbrev pub IsNumbered : List Change → Change → Type 0
@@ -58,3 +59,13 @@ next t cs c h fit = next_by t cs c h fit
 
 pub length_created : (t : Tally) (cs : List Change) (k : Kind) → Tallies t cs → length (ids_at cs k) ≡ count_created t k
 length_created t cs k h = ap length (h.numbers k) ∙ length-range_with_len 1 (count_created t k)
+
+-- no object has the number after those that were created
+pub next_is_new : (t : Tally) (cs : List Change) (k : Kind) → Tallies t cs → live_object cs k (count_created t k + 1) ≡ None
+next_is_new t cs k h = by_object (live_object cs k (count_created t k + 1)) refl
+  where
+    by_object : (o : Option Tree) → live_object cs k (count_created t k + 1) ≡ o → o ≡ None
+    by_object None e = refl
+    by_object (Some u) e =
+        let known = subst (λ ids. is_in ids (count_created t k + 1) ≡ true) (h.numbers k) (numbered_if_live cs k (count_created t k + 1) _ [] (λ g. absurd (false≢true g)) (ap is_some e)) in
+        absurd (omega (arith, in_range 1 (count_created t k) (count_created t k + 1) known))

@@ -1,8 +1,11 @@
 pub mod Numbers
 pub mod Counting
 pub mod Committing
+pub mod Soundness
+mod Opened
 pub mod Rooms
 pub mod Pages
 pub mod SeriesRead
 pub mod LiveEvents
 pub mod AskedLemmas
+pub mod FoundLemmas

@@ -1,17 +1,14 @@
 -- The rooms of a ledger after a step.
 use Rattle.std.proofs.Common.{◌≡◌, ℕ, List, [], ◌∷◌, ◌++◌, ap, append-nil, append_assoc, false, map, subst, sym, true, ◌∙◌}
-use Rattle.account_core.proofs.Committing.{changes_committed}
 use Rattle.account_rooms.proofs.Following.{bookings_of_room, calendars_of_rooms, room_of_resource, rooms_more}
 use Rattle.account_rooms.specs.RoomChanges.{rooms_after}
 use Rattle.account_rooms.specs.Rooms.{AreRooms, BookedRoom, bookings_in, has_room}
-use Rattle.cal_model.specs.Answer.{entries_from}
 use Rattle.cal_model.specs.Fits.{IsFit}
 use Rattle.spec_history.specs.History.{changes_of, ids_at, next_number}
 use Rattle.spec_history.specs.Pages.{is_in}
 use Rattle.spec_history.specs.declared.entry.Change.{Change}
 use Rattle.spec_history.specs.declared.entry.Entry.{Entry}
 use Rattle.spec_history.specs.declared.entry.Kind.TheVariants.{Calendar}
-use Rattle.spec_history.specs.declared.stamp.Stamp.{Stamp}
 use Rattle.spec_bookings.specs.BookedResources.{bookings_of}
 use Rattle.spec_bookings.specs.Resources.{is_resource, resources_at}
 use Rattle.spec_bookings.specs.SeriesPut.{series_put}
@@ -31,9 +28,9 @@ one_staged zones cs staged more c rs qs h fit new is after =
     same_rooms zones ((cs ++ staged) ++ c ∷ []) (cs ++ more) (rooms_after c (series_put zones c) rs) qs (rooms_more zones (cs ++ staged) c rs h fit new) (ap (λ ds. cs ++ ds) is ∙ sym (append_assoc cs staged (c ∷ []))) after
 
 -- the staged changes are part of the history
-pub rooms_committed : (zones : List ZoneText) (h h' : List Entry) (s : Stamp) (cs : List Change) (rs qs : List BookedRoom) → AreRooms zones (changes_of h ++ cs) rs → h' ≡ h ++ entries_from s 0 cs → qs ≡ rs
+pub rooms_committed : (zones : List ZoneText) (h h' : List Entry) (cs : List Change) (rs qs : List BookedRoom) → AreRooms zones (changes_of h ++ cs) rs → changes_of h' ≡ changes_of h ++ cs → qs ≡ rs
     → AreRooms zones (changes_of h') qs
-rooms_committed zones h h' s cs rs qs rooms is same = same_rooms zones (changes_of h ++ cs) (changes_of h') rs qs rooms (changes_committed h h' s cs is) same
+rooms_committed zones h h' cs rs qs rooms is same = same_rooms zones (changes_of h ++ cs) (changes_of h') rs qs rooms is same
 
 -- What rooms tell.
 

@@ -1,13 +1,10 @@
 -- What was read of changes, beside them.
 use Rattle.std.proofs.Common.{◌≡◌, ℕ, List, [], ◌∷◌, ◌++◌, Option, append-nil, append_assoc, length, map, take, refl, sym, ap, ◌∙◌}
 use Rattle.std.proofs.lemmas.List.{map-append}
-use Rattle.account_core.proofs.Committing.{changes_committed}
-use Rattle.cal_model.specs.Answer.{entries_from}
 use Rattle.spec_bookings.specs.SeriesPut.{series_put}
 use Rattle.spec_history.specs.History.{changes_of}
 use Rattle.spec_history.specs.declared.entry.Change.{Change}
 use Rattle.spec_history.specs.declared.entry.Entry.{Entry}
-use Rattle.spec_history.specs.declared.stamp.Stamp.{Stamp}
 use Rattle.spec_series.specs.declared.series.Series.{Series}
 use Rattle.spec_site.specs.TimeZones.{ZoneText}
 
@@ -32,7 +29,7 @@ module _ (zones : List ZoneText) where
       ∙ ap (map (series_put zones)) (sym (append-nil (changes_of es)) ∙ ap (λ ds. changes_of es ++ ds) (sym is))
 
   -- the staged changes are part of the history
-  pub read_committed : (h h' : List Entry) (s : Stamp) (cs none : List Change) (ss : List (Option Series)) → ss ≡ map (series_put zones) (changes_of h ++ cs) → h' ≡ h ++ entries_from s 0 cs
+  pub read_committed : (h h' : List Entry) (cs none : List Change) (ss : List (Option Series)) → ss ≡ map (series_put zones) (changes_of h ++ cs) → changes_of h' ≡ changes_of h ++ cs
       → none ≡ [] → ss ≡ map (series_put zones) (changes_of h' ++ none)
-  read_committed h h' s cs none ss read is empty =
-      read ∙ ap (map (series_put zones)) (sym (changes_committed h h' s cs is) ∙ sym (append-nil (changes_of h')) ∙ ap (λ ds. changes_of h' ++ ds) (sym empty))
+  read_committed h h' cs none ss read is empty =
+      read ∙ ap (map (series_put zones)) (sym is ∙ sym (append-nil (changes_of h')) ∙ ap (λ ds. changes_of h' ++ ds) (sym empty))

@@ -6,11 +6,13 @@ ghost use Rattle.cal_model.specs.Answer.{added, answer};
 use crate::changes::changes;
 use crate::get::get;
 use crate::ledger::Ledger;
+use crate::opening::{EntriesError, open_at};
 use crate::queries::{availability, query, query_changes};
 use crate::set::set;
 use spec_bookings::clash::Clash;
 use spec_calls::call::{Asks, Call, Reply};
 use spec_history::book::Book;
+use spec_history::entry::Entry;
 use spec_history::stamp::Stamp;
 use spec_json::text::Text;
 use spec_series::series::Series;
@@ -45,9 +47,11 @@ impl Model for Account {
 
 impl Account {
     ghost use Rattle.std.specs.Arc.{arc_value};
-    ghost use Rattle.std.specs.Prelude.{IfNone, option_map, true};
+    ghost use Rattle.std.specs.Prelude.{◌≤◌, IfErr, IfNone, None, drop, length, option_map, true};
+    ghost use Rattle.account_core.specs.Opening.{IsRefusal};
     ghost use Rattle.account_rooms.specs.Covered.{AreCoveredOnce};
     ghost use Rattle.account_rooms.specs.Rooms.{AreFree};
+    ghost use Rattle.cal_model.specs.Sound.{unsound_place};
     ghost use Rattle.spec_history.specs.History.{changes_of};
     ghost use Rattle.spec_bookings.specs.BookedResources.{other_bookings};
     ghost use Rattle.spec_bookings.specs.Resources.{is_resource};
@@ -67,6 +71,43 @@ impl Account {
         Ok(Account {
             ledger: Ledger::new(alloc, id, zones, generation),
         })
+    }
+
+    /// An account of this id, with these zones, in this generation of the data, that goes on from these entries. Its resources have the
+    /// bookings of these entries.
+    ///
+    /// `BadEntries` tells the place of the first entry that isn't sound behind those before it. The entries may be of any authors, turns
+    /// and moments. Takes memory for what an account keeps of its entries.
+    pub fn open_at(
+        alloc: Global,
+        id: Text,
+        zones: Arc<Zones>,
+        generation: u64,
+        entries: Vec<Entry>,
+    ) -> Result<Account, EntriesError>
+        ensures opened { IfOk result (λ a. a ≡ (record { account_id = id; zones = arc_value zones; generation = generation }, entries.items)) }
+        ensures sound { OnOk result (unsound_place (arc_value zones) (changes_of entries.items) ≡ None) }
+        ensures refused { IfErr result (IsRefusal (unsound_place (arc_value zones) (changes_of entries.items))) }
+    {
+        Ok(Account {
+            ledger: open_at(alloc, id, zones, generation, entries)?,
+        })
+    }
+
+    /// Each entry is sound behind those before it, so that the account opens again at its entries. It is so of each account, whatever
+    /// sets it took, and this call does nothing.
+    pub fn has_sound_entries(&self)
+        ensures { unsound_place self.now.0.zones (changes_of self.now.1) ≡ None }
+    {
+        self.ledger.has_sound_entries();
+    }
+
+    /// The entries from a place on. Takes no memory.
+    pub fn added_since(&self, place: u64) -> &[Entry]
+        requires { place ≤ length self.now.1 }
+        ensures { result.now ≡ drop place self.now.1 }
+    {
+        &self.ledger.store.entries()[place as usize..]
     }
 
     /// No second of a live resource calendar is covered by two different occurrences of its bookings, over all days without end.

@@ -21,7 +21,7 @@ use spec_json::tree::{Tree, TreeList};
 use std::alloc::AllocError;
 use time_text::state_text;
 
-/// Answers a get of objects of a kind. A name that no property of the kind has is told before too many objects.
+/// Answers a get of objects of a kind. A name that no property of the kind has is told before too many objects, or too large ones.
 pub fn get(ledger: &Ledger, arguments: &GetArguments, created: &Pairs) -> Result<Reply, AllocError>
     ensures { IfOk result (λ r. r ≡ get_answer (base ledger.now) (ledger_entries ledger.now) created.now arguments.now) }
 {
@@ -49,8 +49,10 @@ fn get_ids(
     if ids.len() > MAX_OBJECTS_IN_GET {
         return Ok(refusal(ledger.alloc, &ledger.store, MethodError::RequestTooLarge));
     }
-    let found = find_ids(ledger.alloc, &ledger.store, kind, ids, properties, created)?;
-    get_reply(ledger, kind, found)
+    match find_ids(ledger.alloc, &ledger.store, kind, ids, properties, created)? {
+        Some(found) => get_reply(ledger, kind, found),
+        None => Ok(refusal(ledger.alloc, &ledger.store, MethodError::RequestTooLarge)),
+    }
 }
 
 fn get_all(ledger: &Ledger, kind: Kind, properties: &Option<Texts>) -> Result<Reply, AllocError>
@@ -61,8 +63,10 @@ fn get_all(ledger: &Ledger, kind: Kind, properties: &Option<Texts>) -> Result<Re
     if objects.len() > MAX_OBJECTS_IN_GET {
         return Ok(refusal(ledger.alloc, &ledger.store, MethodError::RequestTooLarge));
     }
-    let found = find_all(ledger.alloc, &objects, properties)?;
-    get_reply(ledger, kind, found)
+    match find_all(ledger.alloc, kind, &objects, properties)? {
+        Some(found) => get_reply(ledger, kind, found),
+        None => Ok(refusal(ledger.alloc, &ledger.store, MethodError::RequestTooLarge)),
+    }
 }
 
 // The reply to a get that found this.

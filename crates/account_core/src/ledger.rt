@@ -1,6 +1,6 @@
 //! The history of an account with the changes that a call is about to make.
 ghost use Rattle.std.specs.Coded.{codes};
-ghost use Rattle.std.specs.Prelude.{◌≡◌, ◌<◌, ◌≤◌, ◌^◌, ◌++◌, ◌∷◌, [], IfNone, OnErr, OnOk, length, map, option_map, true, vec_capacity, vec_len};
+ghost use Rattle.std.specs.Prelude.{◌≡◌, ◌<◌, ◌≤◌, ◌+◌, ◌^◌, ◌++◌, ◌∷◌, [], None, IfNone, OnErr, OnOk, length, map, option_map, true, vec_capacity, vec_len};
 ghost use Rattle.std.specs.Arc.{arc_value};
 ghost use Rattle.account_core.specs.Tally.{Tallies};
 ghost use Rattle.account_rooms.specs.RoomChanges.{MayChange, rooms_after};
@@ -8,6 +8,7 @@ ghost use Rattle.account_rooms.specs.Covered.{AreCoveredOnce};
 ghost use Rattle.account_rooms.specs.Rooms.{AreFree, AreRooms};
 ghost use Rattle.account_store.specs.Store.{entries, spare};
 ghost use Rattle.cal_model.specs.Answer.{entries_from};
+ghost use Rattle.cal_model.specs.Sound.{unsound_place};
 ghost use Rattle.event_store.specs.EventsBase.{base_of};
 ghost use Rattle.spec_bookings.specs.SeriesPut.{series_put};
 ghost use Rattle.spec_history.specs.History.{changes_of, count_of_kind};
@@ -38,7 +39,7 @@ use zone_table::Zones;
 /// The history of an account, and the changes that a call makes before they become entries.
 ///
 /// Contracts see the account's base, its entries, the staged changes, and how many of these can become entries without memory. What was read of
-/// a change when it was staged stands beside it from then on.
+/// a change when it was staged stands beside it from then on. Each change is sound behind those before it.
 #[derive(Drop)]
 pub struct Ledger {
     pub alloc: Global,
@@ -61,6 +62,8 @@ pub struct Ledger {
     ghost series_read: { series ≡ map (series_put (arc_value zones)) (changes_of (entries store) ++ staged.items) } by { Prim.hlevel codes },
     ghost kept_rooms: { AreRooms (arc_value zones) (changes_of (entries store)) rooms.kept },
     ghost rooms_now: { AreRooms (arc_value zones) (changes_of (entries store) ++ staged.items) rooms.rooms },
+    ghost kept_sound: { unsound_place (arc_value zones) (changes_of (entries store)) ≡ None },
+    ghost sound: { unsound_place (arc_value zones) (changes_of (entries store) ++ staged.items) ≡ None },
 }
 
 impl Ledger {
@@ -117,15 +120,16 @@ impl Ledger {
         }
     }
 
-    /// Makes the staged changes entries of a call. Takes no memory, since it was reserved.
-    pub fn commit(&mut self, stamp: &Stamp)
-        requires { length (staged self.old) ≤ spare self.old.store }
-        ensures entries { ledger_entries self.new ≡ ledger_entries self.old ++ entries_from stamp.now 0 (staged self.old) }
+    /// Makes the staged changes entries of a call, with parts from `first` on. Takes no memory, since it was reserved.
+    pub fn commit(&mut self, stamp: &Stamp, first: u32)
+        requires spare { length (staged self.old) ≤ spare self.old.store }
+        requires parts { first + length (staged self.old) ≤ 2 ^ 32 }
+        ensures entries { ledger_entries self.new ≡ ledger_entries self.old ++ entries_from stamp.now first (staged self.old) }
         ensures staged { staged self.new ≡ [] }
         ensures base { base self.new ≡ base self.old }
     {
         let staged = mem::replace(&mut self.staged, Vec::new(self.alloc));
-        push_all(&mut self.store, stamp, staged);
+        push_all(&mut self.store, stamp, first, staged);
         self.kept = self.tally;
         self.rooms.keep();
     }
@@ -134,6 +138,11 @@ impl Ledger {
     pub fn is_never_booked_twice(&self)
         ensures free { AreFree (base self.now).zones (history self.now) }
         ensures occurrences { AreCoveredOnce (base self.now).zones (history self.now) }
+    {}
+
+    /// Each change of the history is sound behind those before it. This call does nothing.
+    pub fn has_sound_entries(&self)
+        ensures { unsound_place (base self.now).zones (history self.now) ≡ None }
     {}
 
     /// The first clash of a series with itself or with the bookings of others in a live resource calendar. Takes no memory.
@@ -184,18 +193,18 @@ fn follow(
     log.push(series)
 }
 
-// Puts the entries of these changes at the end.
-fn push_all(store: &mut Store, stamp: &Stamp, changes: Vec<Change>)
+// Puts the entries of these changes at the end, with parts from `first` on. They are counted in 64 bits, since the last part may be the greatest.
+fn push_all(store: &mut Store, stamp: &Stamp, first: u32, changes: Vec<Change>)
     requires spare { length changes.items ≤ spare store.old }
-    requires few { length changes.items < 2 ^ 32 }
-    ensures { entries store.new ≡ entries store.old ++ entries_from stamp.now 0 changes.items }
+    requires few { first + length changes.items ≤ 2 ^ 32 }
+    ensures { entries store.new ≡ entries store.old ++ entries_from stamp.now first changes.items }
 {
-    let mut part: u32 = 0;
+    let mut part = u64::from(first);
     for change in changes {
         store.push_reserved(Entry {
             author: stamp.author,
             turn: stamp.turn,
-            part,
+            part: part as u32,
             moment: stamp.moment,
             change,
         });
@@ -238,6 +247,8 @@ impl AccountView for Ledger {
     fn clash(&self, calendar: u64, event: u64, series: &Series) -> Option<Clash> {
         self.first_clash(calendar, event, series)
     }
+
+    fn has_sound_changes(&self) {}
 
     fn created_so_far(&self, kind: Kind) -> u64 {
         self.tally.created(kind)

@@ -8,6 +8,7 @@ mod found;
 mod get;
 mod ledger;
 mod occurrences;
+pub mod opening;
 mod properties;
 mod queries;
 mod reply;

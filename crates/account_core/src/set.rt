@@ -36,7 +36,7 @@ pub fn set(
 {
     match prepare(ledger, stamp.moment, arguments, created) {
         Ok(reply) => {
-            ledger.commit(stamp);
+            ledger.commit(stamp, 0);
             Ok(reply)
         }
         Err(PlanError::Method(error)) => Ok(refusal(ledger.alloc, &ledger.store, error)),

@@ -4,6 +4,7 @@ use Rattle.account_core.proofs.Counting.{next, tally_counted}
 use Rattle.account_core.proofs.Numbers.{new_is_next}
 use Rattle.account_core.proofs.Rooms.{one_staged}
 use Rattle.account_core.proofs.SeriesRead.{one_read}
+use Rattle.account_core.proofs.Soundness.{one_sound}
 use Rattle.account_core.specs.Ledger.{changes, history, staged}
 use Rattle.account_core.specs.Tally.{count_created}
 use Rattle.account_rooms.proofs.Following.{rooms_may}
@@ -37,6 +38,8 @@ invariant_of-self c =
           (c.in-Ok.ensures.series ∙ ap (λ s. l.series ++ s ∷ []) c.requires.series);
       kept_rooms = subst (AreRooms zones (history l)) (sym c.follow.ensures.kept) l.kept_rooms;
       rooms_now = one_staged zones (history l) (staged l) c.push_reserved.new.self.items c.args.change l.rooms.rooms c.follow.new.rooms.rooms l.rooms_now c.requires.fit new more after;
+      kept_sound = l.kept_sound;
+      sound = one_sound zones (history l) (staged l) c.push_reserved.new.self.items c.args.change l.sound c.requires.fit.sound more;
     }
 
 pub returns-in-Ok-clause-ok : goal.returns-in-Ok-clause-ok
