@@ -3,7 +3,7 @@ use Rattle.std.proofs.Common.{◌≡◌, ℕ, ℤ, suc, List, [], ◌∷◌, Opt
 use Rattle.std.proofs.lemmas.List.{length-map}
 use Rattle.cal_model.specs.Answer.{answer, answer_to, added, availability_answer, changes_answer, changes_by, entries_from, get_answer, ground, query_answer, query_changes_answer, refused, set_answer, unless_error, unless_refused}
 use Rattle.cal_model.specs.Changes.{changes_response, changes_refusal}
-use Rattle.cal_model.specs.Gets.{get_response, get_error, ids_not_found, objects_asked, selected}
+use Rattle.cal_model.specs.Gets.{get_response, get_error, ids_not_found, listed}
 use Rattle.cal_model.specs.SetReply.{set_arguments}
 use Rattle.cal_model.specs.Sets.{new_ids, objects_of, set_changes, set_refusal}
 use Rattle.spec_availability.specs.Availability.{availability_refusal, availability_response}
@@ -49,8 +49,8 @@ module _ (b : Base) (h h' : List Entry) (same : changes_of h ≡ changes_of h') 
 
   module _ (m : ℤ) (created : List (List ℕ × List ℕ)) where
     same_get : (q : GetArguments) → get_answer b h created q ≡ get_answer b h' created q
-    same_get q = same_by (λ cs. get_error cs q) _ _ (λ i. record {
-      arguments = get_response b q.kind (same i) (map (selected q.properties) (objects_asked (same i) q.kind created q.ids)) (ids_not_found (same i) q.kind created q.ids);
+    same_get q = same_by (λ cs. get_error cs created q) _ _ (λ i. record {
+      arguments = get_response b q.kind (same i) (listed (same i) created q) (ids_not_found (same i) q.kind created q.ids);
       error = None;
       created = [];
       place = same_length i;

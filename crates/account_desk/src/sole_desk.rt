@@ -1,7 +1,8 @@
 //! A desk that has its accounts for itself.
-ghost use Rattle.std.specs.Prelude.{◌≡◌, ◌<◌, ◌^◌, IfOk, length};
-ghost use Rattle.account_desk.specs.SoleDesk.{fresh_account, fresh_accounts, of_desk, shown_of};
+ghost use Rattle.std.specs.Prelude.{◌≡◌, ◌<◌, ◌^◌, All, IfOk, length};
+ghost use Rattle.account_desk.specs.SoleDesk.{account_at, fresh_account, fresh_accounts, of_desk, shown_of};
 ghost use Rattle.account_desk.specs.FreshDesk.{IsSole, fresh_desk};
+ghost use Rattle.spec_history.specs.Signed.{written_by};
 
 use account_core::account::Account;
 use session_doc::Site;
@@ -52,6 +53,23 @@ impl SoleDesk {
             accounts: fresh_accounts(alloc, site)?,
             turns: 0,
         })
+    }
+
+    /// A desk over these accounts, whose entries are all its own, before any call. Takes no memory.
+    pub fn with(accounts: Vec<Account>) -> SoleDesk
+        requires few { length accounts.items < 2 ^ 32 }
+        requires own { All (λ a. written_by 0 a.1 ≡ a.1) accounts.items }
+        ensures { result ≡ (accounts.items, 0) }
+    {
+        SoleDesk { accounts, turns: 0 }
+    }
+
+    /// The account of a number. Takes no memory.
+    pub fn account(&self, n: u32) -> &Account
+        requires { n < length self.now.0 }
+        ensures { result.now ≡ account_at self.now.0 n }
+    {
+        &self.accounts[n as usize]
     }
 
     /// No entry of the accounts is anybody else's than the desk's. A law; it does nothing.
