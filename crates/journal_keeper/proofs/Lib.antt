@@ -1,0 +1,5 @@
+pub mod DepthLemmas
+pub mod Finding
+pub mod ManyTexts
+pub mod OneEntry
+pub mod Loading

@@ -1,0 +1,11 @@
+//! A keeper in a database of SQLite, in one file.
+#![tactic(auto)]
+
+mod insert;
+mod next_place;
+pub mod open;
+mod read_back;
+pub mod sql_keeper;
+mod tables;
+#[cfg(test)]
+mod tests;

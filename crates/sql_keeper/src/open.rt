@@ -1,0 +1,111 @@
+//! How a keeper is opened.
+
+use crate::insert::insertion;
+use crate::read_back::reading;
+use crate::sql_keeper::SqlKeeper;
+use crate::tables::{Found, VERSION, prepare};
+use sqlite::{Alter, Connection, Error, ErrorCode, File, FileStore, Options, Unknown};
+use sqlite_std_file::OpenError as PathError;
+use std::alloc::Global;
+use std::hash::{BuildHasher, RandomState};
+use std::io::ErrorKind;
+
+/// How many pages that were read a keeper has in memory.
+const CACHE_PAGES: usize = 64;
+
+/// How many written pages it has in memory before they go to the log.
+const SPILL_PAGES: usize = 256;
+
+/// Why a keeper wasn't opened.
+#[derive(Clone, Copy, Debug, PartialEq, Eq)]
+pub enum OpenError {
+    /// Another process has the file open, or this one has.
+    InUse,
+    /// The system doesn't let the file be opened: no such folder, no rights, a folder or something else in its place.
+    CannotOpen,
+    /// The file is of another program, or no database.
+    OtherProgram,
+    /// The file has tables of this version, which this program doesn't know.
+    OtherVersion(i64),
+    /// The database failed.
+    Failed(Error),
+    /// Memory was wanted.
+    NoMemory,
+}
+
+impl From<Error> for OpenError {
+    fn from(error: Error) -> OpenError {
+        match error {
+            Error::SqliteFailure(ErrorCode::DatabaseBusy) => OpenError::InUse,
+            Error::SqliteFailure(ErrorCode::CannotOpen) => OpenError::CannotOpen,
+            Error::SqliteFailure(ErrorCode::NotADatabase) => OpenError::OtherProgram,
+            Error::SqliteFailure(ErrorCode::OutOfMemory) => OpenError::NoMemory,
+            _ => OpenError::Failed(error),
+        }
+    }
+}
+
+/// The keeper over a database, which becomes a journal where it has no tables.
+pub fn open_keeper<S: Alter + Drop>(
+    alloc: Global,
+    conn: Connection<S>,
+) -> Result<SqlKeeper<S>, OpenError> {
+    let mut conn = conn;
+    match prepare(&mut conn)? {
+        Found::Journal(VERSION) => {}
+        Found::Journal(version) => return Err(OpenError::OtherVersion(version)),
+        Found::Other => return Err(OpenError::OtherProgram),
+    }
+    let insertion = insertion(&mut conn)?;
+    let reading = reading(&mut conn)?;
+    Ok(SqlKeeper {
+        alloc,
+        conn,
+        insertion,
+        reading,
+        places: Vec::new(alloc),
+        is_closed: false,
+        faults: 0,
+        damages: 0,
+    })
+}
+
+/// The keeper over the file of this name, which is made where there is none. While it is open, no other process opens the file.
+///
+/// A torn write is taken to leave each byte old or new, so that a commit costs one sync. When the process ends the file and its log, `NAME-wal`, lie side by side, and go together.
+pub fn open_file(rt: &HostRuntime, name: &str) -> Result<SqlKeeper<FileStore<File>>, OpenError> {
+    let conn = connect(rt, name)?;
+    open_keeper(rt.alloc(), conn)
+}
+
+fn connect(rt: &HostRuntime, name: &str) -> Result<Connection<FileStore<File>>, OpenError> {
+    let options = options(rt)?;
+    match sqlite_std_file::open(rt, name, Unknown) {
+        Ok(files) => match Connection::open_files(rt.alloc(), files, options) {
+            Ok(conn) => Ok(conn),
+            Err((error, _)) => Err(OpenError::from(error)),
+        },
+        Err(error) => Err(path_error(error)),
+    }
+}
+
+fn path_error(error: PathError) -> OpenError {
+    match error {
+        PathError::OutOfMemory => OpenError::NoMemory,
+        PathError::Busy => OpenError::InUse,
+        PathError::Io(error) if error.kind() == ErrorKind::OutOfMemory => OpenError::NoMemory,
+        _ => OpenError::CannotOpen,
+    }
+}
+
+// Sixteen accounts with the caches that `sqlite` chooses would take 256 MB.
+fn options(rt: &HostRuntime) -> Result<Options, OpenError> {
+    let Ok(state) = RandomState::new(rt) else {
+        return Err(OpenError::CannotOpen);
+    };
+    Ok(Options {
+        cache_pages: CACHE_PAGES,
+        spill_pages: SPILL_PAGES,
+        ..Options::new(state.hash_one(&0u8))
+    })
+}

@@ -1,0 +1,151 @@
+//! What keepers give back, and which databases are no journals. The texts are written by hand.
+
+use crate::open::{OpenError, open_keeper};
+use journal_keeper::keeper::{JournalError, KeepError, Keeper};
+use journal_keeper::kept_text::KeptText;
+use journal_keeper::memory_keeper::MemKeeper;
+use journal_keeper::write::entry_text;
+use spec_json::text::Text;
+use sqlite::{Connection, MemStore, params};
+use std::alloc::Global;
+use std::process::Abort;
+use std::test::Fail;
+
+const CALENDAR: &str =
+    r#"{"author":0,"id":1,"kind":"calendar","moment":1704067200,"object":{"name":"Work"},"part":0,"turn":1}"#;
+
+const EVENT: &str =
+    r#"{"author":7,"id":4294967295,"kind":"event","moment":253370764799,"object":{"a":[{"b":-1}],"c":"\u0001é"},"part":1,"turn":1099511627776}"#;
+
+const REMOVAL: &str =
+    r#"{"author":0,"id":1,"kind":"calendar","moment":0,"object":null,"part":0,"turn":2}"#;
+
+fn kept(alloc: Global, account: &str, text: &str) -> Result<KeptText, Fail> {
+    let text = text.as_bytes().to_vec(alloc)?;
+    Ok(KeptText::new(Text::from_str(alloc, account)?, text))
+}
+
+// Keeps three texts of two accounts in two keeps, and loads them.
+fn keeps<K: Keeper>(rt: &impl Abort, alloc: Global, keeper: &mut K) -> Result<(), Fail> {
+    loads(rt, alloc, keeper, "A1", &[])?;
+    let first = vec![in alloc; kept(alloc, "A1", CALENDAR)?, kept(alloc, "B", EVENT)?]?;
+    assert_eq!(rt; keeper.keep(first), Ok(()));
+    let second = vec![in alloc; kept(alloc, "A1", REMOVAL)?]?;
+    assert_eq!(rt; keeper.keep(second), Ok(()));
+    loads(rt, alloc, keeper, "A1", &[CALENDAR, REMOVAL])?;
+    loads(rt, alloc, keeper, "B", &[EVENT])?;
+    loads(rt, alloc, keeper, "C", &[])
+}
+
+fn loads<K: Keeper>(
+    rt: &impl Abort,
+    alloc: Global,
+    keeper: &mut K,
+    account: &str,
+    wanted: &[&str],
+) -> Result<(), Fail> {
+    let Ok(list) = keeper.load(account) else {
+        panic!(rt; "no list of {account}");
+    };
+    assert_eq!(rt; list.len(), wanted.len());
+    for (entry, wanted) in list.iter().zip(wanted) {
+        let text = entry_text(alloc, entry)?;
+        assert!(rt; text.as_slice() == wanted.as_bytes());
+    }
+    Ok(())
+}
+
+fn is_damaged<K: Keeper>(rt: &impl Abort, keeper: &mut K, at: u64, wanted: &str) {
+    match keeper.load("A1") {
+        Err(JournalError::Damaged { place, text }) => {
+            assert_eq!(rt; place, at);
+            assert!(rt; text.as_slice() == wanted.as_bytes());
+        }
+        _ => panic!(rt; "no damage at {at}"),
+    }
+}
+
+#[test]
+fn a_keeper_in_memory_gives_back_what_it_kept(rt: HostRuntime) -> Result<(), Fail> {
+    let alloc = rt.alloc();
+    keeps(
+        &rt,
+        alloc,
+        &mut MemKeeper::new(alloc, Vec::new(alloc), Vec::new(alloc), false),
+    )
+}
+
+#[test]
+fn nothing_is_kept_behind_what_is_in_doubt(rt: HostRuntime) -> Result<(), Fail> {
+    let alloc = rt.alloc();
+    let failing = vec![in alloc; 1u64]?;
+    let mut keeper = MemKeeper::new(alloc, Vec::new(alloc), failing, true);
+    for wanted in [Ok(()), Err(KeepError::Failed), Err(KeepError::Failed)] {
+        let texts = vec![in alloc; kept(alloc, "A1", CALENDAR)?]?;
+        assert_eq!(rt; keeper.keep(texts), wanted);
+    }
+    loads(&rt, alloc, &mut keeper, "A1", &[CALENDAR])
+}
+
+#[test]
+fn a_journal_gives_back_what_it_kept(rt: HostRuntime) -> Result<(), Fail> {
+    let alloc = rt.alloc();
+    let Ok(mut keeper) = open_keeper(alloc, Connection::open_in_memory(alloc)?) else {
+        panic!(rt; "no journal");
+    };
+    keeps(&rt, alloc, &mut keeper)
+}
+
+fn put(conn: &mut Connection<MemStore>, place: i64, text: &str) -> bool {
+    conn.execute(
+        "INSERT INTO entry (account, place, text) VALUES ('A1', ?1, ?2)",
+        params![place, text.as_bytes()],
+    )
+    .is_ok()
+}
+
+#[test]
+fn damage_is_told_with_its_place(rt: HostRuntime) -> Result<(), Fail> {
+    let alloc = rt.alloc();
+    let Ok(mut keeper) = open_keeper(alloc, Connection::open_in_memory(alloc)?) else {
+        panic!(rt; "no journal");
+    };
+    let cut = "{\"author\":0,";
+    assert!(rt; put(&mut keeper.conn, 0, CALENDAR));
+    assert!(rt; put(&mut keeper.conn, 2, REMOVAL));
+    is_damaged(&rt, &mut keeper, 1, "");
+    assert!(rt; put(&mut keeper.conn, 1, cut));
+    is_damaged(&rt, &mut keeper, 1, cut);
+    Ok(())
+}
+
+fn refuses(rt: &impl Abort, alloc: Global, script: &str, wanted: OpenError) -> Result<(), Fail> {
+    let mut conn = Connection::open_in_memory(alloc)?;
+    assert!(rt; conn.execute_batch(script).is_ok());
+    match open_keeper(alloc, conn) {
+        Err(error) => assert_eq!(rt; error, wanted),
+        Ok(_) => panic!(rt; "opened"),
+    }
+    Ok(())
+}
+
+#[test]
+fn what_is_no_journal_is_refused(rt: HostRuntime) -> Result<(), Fail> {
+    let alloc = rt.alloc();
+    let other = "CREATE TABLE note (title TEXT NOT NULL) STRICT";
+    let about = "CREATE TABLE about (program TEXT NOT NULL, version INTEGER NOT NULL) STRICT;";
+    refuses(&rt, alloc, other, OpenError::OtherProgram)?;
+    refuses(&rt, alloc, about, OpenError::OtherProgram)?;
+    refuses(
+        &rt,
+        alloc,
+        "CREATE TABLE about (program TEXT NOT NULL, version INTEGER NOT NULL) STRICT; INSERT INTO about VALUES ('jmapd', 2)",
+        OpenError::OtherVersion(2),
+    )?;
+    refuses(
+        &rt,
+        alloc,
+        "CREATE TABLE about (program TEXT NOT NULL, version INTEGER NOT NULL) STRICT; INSERT INTO about VALUES ('notes', 1)",
+        OpenError::OtherProgram,
+    )
+}
