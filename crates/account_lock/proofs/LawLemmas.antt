@@ -72,7 +72,7 @@ module _ {B : Type 0} (entries : B → List Entry) (base : B → Base) where
             (λ home. subst (λ (b : B). (base b ≡ z) × (entries b ≡ r.history)) (same_Some home.0 b (sym (ap slot_of home.1) ∙ full)) (home.2, home.3))
             (λ out. absurd (some_is_none b (sym full ∙ ap slot_of out.0))) r.slot;
         in_hand = λ i v is. r.told.in_hand i v (at i v is);
-        seen = λ i v is. let k = r.told.seen i v (at i v is) in ((k.0, k.1), k.3);
+        seen = λ i v is. let k = r.told.seen i v (at i v is) in (k.0, k.1, ap (λ (a : ℕ). written_by a k.0) (number i v is) ∙ k.2, k.3);
         read = λ i v is. r.told.read i v (at i v is);
         unchanged = λ i v is. r.told.unchanged i v (at i v is);
         first = (let f = r.passes.first in (0, f.0, get 0 f.0 f.1, number 0 f.0 (get 0 f.0 f.1)));

@@ -73,8 +73,8 @@ module _ {B : Type 0} (entries : B → List Entry) (base : B → Base) where
     pub counted : l.count ≡ length history
     pub in_slot : (b : B) → l.slot ≡ Some b → (base b ≡ lock_base) × (entries b ≡ history)
     pub in_hand : (i : ℕ) (v : PassView) → slice_get l.views i ≡ Some v → v.phase ≡ Turn → v.hand ≡ (lock_base, history)
-    -- What a pass has seen goes on from the opening and begins the history. One that has read has seen it all.
-    pub seen : (i : ℕ) (v : PassView) → slice_get l.views i ≡ Some v → Begins v.seen opened × Begins history v.seen
+    -- What a pass has seen goes on from the opening, has just the entries there that are its own, and begins the history. One that has read has seen it all.
+    pub seen : (i : ℕ) (v : PassView) → slice_get l.views i ≡ Some v → (made : List Entry) × (v.seen ≡ opened ++ made) × (written_by v.number made ≡ v.mine) × Begins history v.seen
     pub read : (i : ℕ) (v : PassView) → slice_get l.views i ≡ Some v → IsTrue (has_read v.phase) → v.seen ≡ history
     pub unchanged : (i : ℕ) (v : PassView) → slice_get l.views i ≡ Some v → (v.opened ≡ opened) × (v.base ≡ lock_base)
     -- Passes have different numbers, from 0 up to the number of those that pass 0 has split off, and no other pass has split off any.

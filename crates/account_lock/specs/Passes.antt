@@ -23,8 +23,8 @@ pub record PassState : Type 0 where
   pub seen : List Entry
   pub mine : List Entry
 
-abbrev pub state_of : TableId → PassView → PassState
-state_of lock v = record { lock = lock; base = v.base; number = v.number; turns = v.turns; phase = v.phase; seen = v.seen; mine = v.mine }
+abbrev pub pass_state : TableId → PassView → PassState
+pass_state lock v = record { lock = lock; base = v.base; number = v.number; turns = v.turns; phase = v.phase; seen = v.seen; mine = v.mine }
 
 -- pass number k of a lock that was opened with a book of these entries
 abbrev pub opened_pass : TableId → Base → List Entry → ℕ → PassState

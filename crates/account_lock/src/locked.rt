@@ -3,7 +3,7 @@ ghost use Rattle.std.specs.Prelude.{◌≡◌, ◌↔◌, ℕ, ◌+◌, ◌<◌,
 ghost use Rattle.spec_history.specs.MostTurns.{most_turns};
 ghost use Rattle.account_lock.specs.LockSteps.{having_read, having_added, new_pass};
 ghost use Rattle.account_lock.specs.declared.lock.Phase.TheVariants.{Idle, Turn};
-ghost use Rattle.account_lock.specs.Passes.{PassState, IsAnswered, HasFailed, state_of, opened_pass};
+ghost use Rattle.account_lock.specs.Passes.{PassState, IsAnswered, HasFailed, pass_state, opened_pass};
 ghost use Rattle.account_lock.specs.StepNews.{IsSeatOf};
 ghost use Rattle.account_lock.specs.declared.locked.CallError.TheVariants.{PassSpent, NoMemory};
 
@@ -127,9 +127,9 @@ fn serve<B: Book, R: Wait>(
     requires stamp { (stamp.now.author ≡ seat.old.me.0.number) × (stamp.now.turn ≡ seat.old.me.0.turns + 1) }
     ensures idle { (seat.new.me.0.phase ≡ Idle) × (seat.new.me.1 ≡ []) }
     ensures answered { IfOk result (λ r. IsAnswered B.answer B.added call.now stamp.now.moment r
-        (state_of seat.old.table_id seat.old.me.0) (state_of seat.new.table_id seat.new.me.0)) }
+        (pass_state seat.old.table_id seat.old.me.0) (pass_state seat.new.table_id seat.new.me.0)) }
     ensures failed { OnErr result (HasFailed
-        (state_of seat.old.table_id seat.old.me.0) (state_of seat.new.table_id seat.new.me.0)) }
+        (pass_state seat.old.table_id seat.old.me.0) (pass_state seat.new.table_id seat.new.me.0)) }
 {
     let ticket = take_ticket(board, seat);
     await_turn(rt, board, seat, ticket);
@@ -170,7 +170,7 @@ fn act<B: Book>(
 fn pass_of<B: Book>(seat: PassSeat<B>, number: u32) -> Pass<B>
     requires idle { (seat.me.0.phase ≡ Idle) × (seat.me.1 ≡ []) }
     requires new { (seat.me.0.number ≡ number) × (seat.me.0.turns ≡ 0) }
-    ensures { result ≡ state_of seat.table_id seat.me.0 }
+    ensures { result ≡ pass_state seat.table_id seat.me.0 }
 {
     Pass {
         seat,
@@ -191,7 +191,7 @@ fn split_others<B: Book>(
     requires passes { (1 ≤ passes) × (passes ≤ 256) }
     requires room { (all.old.items ≡ []) × (passes ≤ vec_capacity all.old) }
     ensures same { (seat.new.me.0.phase ≡ seat.old.me.0.phase) × (seat.new.me.1 ≡ seat.old.me.1) }
-    ensures state { state_of seat.new.table_id seat.new.me.0 ≡ state_of seat.old.table_id seat.old.me.0 }
+    ensures state { pass_state seat.new.table_id seat.new.me.0 ≡ pass_state seat.old.table_id seat.old.me.0 }
     ensures len { vec_len all.new + 1 ≡ passes }
     ensures room { vec_capacity all.new ≡ vec_capacity all.old }
     ensures each { (k : ℕ) (p : PassState) → slice_get all.new.items k ≡ Some p

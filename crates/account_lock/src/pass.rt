@@ -21,13 +21,13 @@ impl<B: Book> Model for Pass<B> {
     ghost use Rattle.spec_json.specs.DataCode.{data_code};
     ghost use Rattle.spec_history.specs.MostTurns.{most_turns};
     ghost use Rattle.account_lock.specs.declared.lock.Phase.TheVariants.{Idle};
-    ghost use Rattle.account_lock.specs.Passes.{PassState, state_of};
+    ghost use Rattle.account_lock.specs.Passes.{PassState, pass_state};
 
     ghost Value = { PassState };
 
     ghost coded = { Prim.hlevel (codes, data_code) };
 
-    ghost view = { λ p. state_of p.seat.table_id p.seat.me.0 };
+    ghost view = { λ p. pass_state p.seat.table_id p.seat.me.0 };
 
     ghost invariant = { λ p. (p.seat.me.0.phase ≡ Idle) × (p.seat.me.1 ≡ []) × (p.number ≡ p.seat.me.0.number)
         × (p.turns ≡ p.seat.me.0.turns) × (p.turns ≤ most_turns) };
