@@ -1,4 +1,5 @@
 pub mod ChainLemmas
+pub mod JoinedLemmas
 pub mod WorkerLemmas
 pub mod CrewLemmas
 pub mod ListenerLemmas

@@ -1,4 +1,5 @@
 pub mod Chained
+pub mod Joined
 pub mod Working
 pub mod Crew
 pub mod Listeners
