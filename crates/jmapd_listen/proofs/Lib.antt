@@ -1,3 +1,5 @@
+pub mod DeskLemmas
+pub mod EndedLemmas
 pub mod FaultlessLemmas
 pub mod JobLemmas
 pub mod ListenLemmas

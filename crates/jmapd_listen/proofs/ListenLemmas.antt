@@ -3,7 +3,7 @@ use Rattle.std.proofs.Common.{◌≡◌, Ok, Err, refl}
 use mathlib.Core.Logic.{inl, inr}
 use Rattle.command_line.specs.Commands.{Listen, listen}
 use Rattle.io_edge.specs.Outside.{OpenerShown}
-use Rattle.jmapd_listen.specs.Listens.{Listens, ServesSite, SpawnerShown}
+use Rattle.jmapd_listen.specs.Listens.{Listens, ServesTogether, SpawnerShown}
 use Rattle.jmapd_run.specs.Shown.{LoadHow}
 use Rattle.jmapd_run.specs.Starts.{IsLoaded, misconfigured, not_opened, workers_for}
 use Rattle.jmapd_run.specs.declared.status.Status.{Status}
@@ -25,5 +25,5 @@ module _ (o o' : OpenerShown) (l : Listen) where
   not_loaded h s Cut how = absurd (let bad : Cut ≡ NoMemory = how in cc)
 
   -- the workers serve the users of the site
-  pub served : (h h' : HostShown) (s s' : SpawnerShown) (site : Site) → IsLoaded o o' l.config (Ok site) → (e : Status) → ServesSite l h h' s s' e → Listens h h' s s' o o' l e
+  pub served : (h h' : HostShown) (s s' : SpawnerShown) (site : Site) → IsLoaded o o' l.config (Ok site) → (e : Status) → ServesTogether site l h h' s s' e → Listens h h' s s' o o' l e
   served h h' s s' site loaded e how = inl (workers_for l site, (refl, loaded), how)

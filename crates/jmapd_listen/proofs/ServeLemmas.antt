@@ -1,28 +1,38 @@
 -- What comes of the workers of a site.
-use Rattle.std.proofs.Common.{◌≡◌, ℕ, Bool, true, false, subst, arith}
+use Rattle.std.proofs.Common.{◌≡◌, ℕ, ◌*◌, ◌<◌, Bool, true, false, List, length, map, sym, ap, ◌∙◌, arith}
+use Rattle.std.proofs.lemmas.List.{length-map}
+use Rattle.std.specs.List.{list_all}
 use mathlib.Core.Logic.{inr}
 use Rattle.command_line.specs.Commands.{Listen}
-use Rattle.jmapd_listen.specs.Listens.{ServesSite, SpawnerShown}
+use Rattle.jmapd_listen.proofs.EndedLemmas.{all_whole, one_failed}
+use Rattle.jmapd_listen.specs.Listens.{HaveEnded, ServesSite, SpawnerShown}
 use Rattle.jmapd_run.specs.declared.status.Status.TheVariants.{Done, NoMemory, OpenFault}
+use Rattle.listen_edge.specs.Ending.{counted}
 use Rattle.listen_edge.specs.Listening.{HostShown}
-use Rattle.listen_workers.specs.Crew.{HasServed}
+use Rattle.listen_workers.specs.Crew.{is_all}
+use Rattle.listen_workers.specs.Working.{EndedWorker}
 use Rattle.listen_workers.specs.Listeners.{AskedFor}
+use Rattle.spec_batch.specs.Chain.{Shown}
+use Rattle.spec_site.specs.Configuration.{Site}
 
 -- each worker has a listener
-module _ (l : Listen) (h h' : HostShown) (asked : AskedFor h h' l.port l.workers) where
+module _ (site : Site) (desks : List Shown) (l : Listen) (h h' : HostShown) (asked : AskedFor h h' l.port l.workers) where
   -- memory ran out before a worker was started
-  pub wanting : (s s' : SpawnerShown) → s' ≡ s → ServesSite l h h' s s' NoMemory
+  pub wanting : (s s' : SpawnerShown) → s' ≡ s → ServesSite site desks l h h' s s' NoMemory
   wanting s s' same = ((l.workers, omega arith, asked), same)
 
-  -- the workers were joined: the spawner counts no more as they are started
-  module _ (workers f f0 f1 s s0 s1 : ℕ) (all : workers ≡ l.workers) (started : (f0 ≡ f) × (s0 ≡ s)) where
-    counted_from : (is_all : Bool) → HasServed l.connections workers f0 f1 s0 s1 is_all → HasServed l.connections l.workers f f1 s s1 is_all
-    counted_from is_all has =
-        subst (λ (n : ℕ). HasServed l.connections n f f1 s s1 is_all) all
-        (subst (λ (n : ℕ). HasServed l.connections workers n f1 s s1 is_all) started.0 (subst (λ (n : ℕ). HasServed l.connections workers f0 f1 n s1 is_all) started.1 has))
+  -- the workers ended
+  module _ (s s' : SpawnerShown) (many : length desks ≡ l.workers) (workers : List (EndedWorker site l.connections)) (ended : HaveEnded desks s s' workers) where
+    count : length workers ≡ l.workers
+    count = sym (length-map workers (λ (w : EndedWorker site l.connections). w.tools.desk)) ∙ (ap length ended.began ∙ many)
 
-    pub all_served : HasServed l.connections workers f0 f1 s0 s1 true → ServesSite l h h' (record { faults = f; served = s }) (record { faults = f1; served = s1 }) Done
-    all_served has = (let c = counted_from true has in (asked, c.0, c.1))
+    pub all_served : list_all (λ (w : EndedWorker site l.connections). is_all w.done.end) workers ≡ true → ServesSite site desks l h h' s s' Done
+    all_served whole =
+        let t = all_whole (λ (w : EndedWorker site l.connections). w.done) l.connections workers ended.ends whole in
+        (asked, ended.faults ∙ ap (counted s.faults) t.0, ended.served ∙ ap (counted s.served) (t.1 ∙ ap (λ (n : ℕ). n * l.connections) count), (workers, ended))
 
-    pub not_all : HasServed l.connections workers f0 f1 s0 s1 false → ServesSite l h h' (record { faults = f; served = s }) (record { faults = f1; served = s1 }) OpenFault
-    not_all has = inr (asked, counted_from false has)
+    pub not_all : list_all (λ (w : EndedWorker site l.connections). is_all w.done.end) workers ≡ false → ServesSite site desks l h h' s s' OpenFault
+    not_all failed =
+        let some = one_failed (λ (w : EndedWorker site l.connections). w.done) l.connections workers ended.ends failed in
+        let faults = ended.faults in
+        inr (asked, omega (arith, some, faults), (workers, ended))

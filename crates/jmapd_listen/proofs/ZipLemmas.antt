@@ -8,12 +8,6 @@ module _ {A B : Type 0} where
   zip_length (x ∷ xs) [] same = absurd (omega (arith, same))
   zip_length (x ∷ xs) (y ∷ ys) same = (let rest = zip_length xs ys (omega (arith, same)) in omega (arith, rest))
 
-  pub zip_seconds : (xs : List A) (ys : List B) → length ys ≡ length xs → map (λ (p : A × B). p.1) (zip xs ys) ≡ ys
-  zip_seconds [] [] same = refl
-  zip_seconds [] (y ∷ ys) same = absurd (omega (arith, same))
-  zip_seconds (x ∷ xs) [] same = absurd (omega (arith, same))
-  zip_seconds (x ∷ xs) (y ∷ ys) same = ap (λ zs. y ∷ zs) (zip_seconds xs ys (omega (arith, same)))
-
   pub zip_second : (xs : List A) (ys : List B) (n : ℕ) (p : A × B) (d : B) → length ys ≡ length xs → n < length xs → p ≡ get_or (zip xs ys) n p → p.1 ≡ get_or ys n d
   zip_second [] ys n p d same few is = absurd (omega (arith, few))
   zip_second (x ∷ xs) [] n p d same few is = absurd (omega (arith, same))

@@ -7,7 +7,7 @@ use Rattle.jmapd_run.specs.declared.status.Status.{Status}
 use Rattle.jmapd_run.specs.declared.status.Status.TheVariants.{Done, NoMemory}
 use Rattle.listen_edge.specs.Listening.{HostShown}
 use Rattle.spec_site.specs.Configuration.{Site}
-use Rattle.jmapd_listen.specs.Listens.{Listens, ServesSite, SpawnerShown}
+use Rattle.jmapd_listen.specs.Listens.{Listens, ServesTogether, SpawnerShown}
 
 -- neither opener, host nor spawner failed
 pub record NoneFailed (o o' : OpenerShown) (h h' : HostShown) (s s' : SpawnerShown) : Type 0 where
@@ -17,4 +17,4 @@ pub record NoneFailed (o o' : OpenerShown) (h h' : HostShown) (s s' : SpawnerSho
 
 abbrev pub FaultlessListensServe : Type 0
 FaultlessListensServe = (o o' : OpenerShown) (h h' : HostShown) (s s' : SpawnerShown) (l : Listen) (status : Status) → Listens h h' s s' o o' l status → NoneFailed o o' h h' s s'
-    → (site : Site) → IsAccepted (Some l.config) o site → (status ≡ NoMemory) ⊎ ((status ≡ Done) × ServesSite l h h' s s' Done)
+    → (site : Site) → IsAccepted (Some l.config) o site → (status ≡ NoMemory) ⊎ ((status ≡ Done) × ServesTogether site l h h' s s' Done)

@@ -1,15 +1,17 @@
 -- What the command `listen` does, whatever bytes come on its connections.
-use Rattle.std.specs.Prelude.{◌≡◌, ◌⊎◌, ◌+◌, ◌*◌, ◌<◌, ◌≤◌, ℕ, Some, length}
+use Rattle.std.specs.Prelude.{◌≡◌, ◌⊎◌, ◌+◌, ◌*◌, ◌<◌, ◌≤◌, ℕ, List, [], All, Some, length, map, slice_get, slice_index_or, sum_by}
+use Rattle.account_desk.specs.FreshDesk.{account_rules, bases}
 use Rattle.command_line.specs.Commands.{Listen, listen}
-use Rattle.listen_workers.specs.Working.{Tools, Works}
+use Rattle.listen_workers.specs.Working.{EndedWorker, Tools, Works}
 use Rattle.io_edge.specs.Outside.{OpenerShown, Rose}
 use Rattle.jmapd_run.specs.Starts.{IsStart, Start, misconfigured, not_opened, workers_for}
 use Rattle.jmapd_run.specs.declared.status.Status.{Status}
 use Rattle.jmapd_run.specs.declared.status.Status.TheVariants.{Config, Done, NoMemory, OpenFault}
-use Rattle.listen_edge.specs.Ending.{counted}
+use Rattle.listen_edge.specs.Ending.{counted, faults_in}
 use Rattle.listen_edge.specs.Listening.{HostShown, ListenerShown}
 use Rattle.listen_edge.specs.declared.job.WorkerDone.{WorkerDone}
 use Rattle.spec_batch.specs.Chain.{Shown}
+use Rattle.spec_history.specs.Base.{no_base}
 use Rattle.spec_site.specs.Configuration.{Site}
 use Rattle.listen_workers.specs.Crew.{Ends}
 use Rattle.listen_workers.specs.Listeners.{AskedFor}
@@ -23,18 +25,44 @@ pub record SpawnerShown : Type 0 where
   pub faults : ℕ
   pub served : ℕ
 
--- what comes of a `listen` and a site: the workers served all their connections, and the spawner counted them; or a listener wasn't made, or one failed; or memory ran out
+-- These workers ended, each of which had one of these desks at first. The spawner counted how many of their listeners failed, and how many connections all of them served.
+pub record HaveEnded {site : Site} {connections : ℕ} (desks : List Shown) (s s' : SpawnerShown) (workers : List (EndedWorker site connections)) : Type 0 where
+  pub began : map (λ w. w.tools.desk) workers ≡ desks
+  pub ends : All (λ w. Ends connections w.done) workers
+  pub faults : s'.faults ≡ counted s.faults (sum_by (λ w. faults_in w.done.end) workers)
+  pub served : s'.served ≡ counted s.served (sum_by (λ w. w.done.served) workers)
+
+-- what comes of a `listen` and a site, where workers have these desks: they ended, having served all their connections; or a listener wasn't made, or one failed; or memory ran out
 -- before a worker was started
-abbrev pub ServesSite : Listen → HostShown → HostShown → SpawnerShown → SpawnerShown → Status → Type 0
-ServesSite l h h' s s' Done = AskedFor h h' l.port l.workers × (s'.faults ≡ counted s.faults 0) × (s'.served ≡ counted s.served (l.workers * l.connections))
-ServesSite l h h' s s' OpenFault =
-    (((n : ℕ) × (n < l.workers) × AskedFor h h' l.port (n + 1)) × Rose h.faults h'.faults × (s' ≡ s)) ⊎ (AskedFor h h' l.port l.workers × Rose s.faults s'.faults)
-ServesSite l h h' s s' NoMemory = ((n : ℕ) × (n ≤ l.workers) × AskedFor h h' l.port n) × (s' ≡ s)
-ServesSite l h h' s s' _ = ⊥
+abbrev pub ServesSite : Site → List Shown → Listen → HostShown → HostShown → SpawnerShown → SpawnerShown → Status → Type 0
+ServesSite site desks l h h' s s' Done =
+    AskedFor h h' l.port l.workers × (s'.faults ≡ counted s.faults 0) × (s'.served ≡ counted s.served (l.workers * l.connections))
+    × ((workers : List (EndedWorker site l.connections)) × HaveEnded desks s s' workers)
+ServesSite site desks l h h' s s' OpenFault =
+    (((n : ℕ) × (n < l.workers) × AskedFor h h' l.port (n + 1)) × Rose h.faults h'.faults × (s' ≡ s))
+    ⊎ (AskedFor h h' l.port l.workers × Rose s.faults s'.faults × ((workers : List (EndedWorker site l.connections)) × HaveEnded desks s s' workers))
+ServesSite site desks l h h' s s' NoMemory = ((n : ℕ) × (n ≤ l.workers) × AskedFor h h' l.port n) × (s' ≡ s)
+ServesSite site desks l h h' s s' _ = ⊥
 
 -- a desk over the accounts of a site that has made no call
 abbrev pub IsUnused : Site → Shown → Type 0
 IsUnused site desk = (desk.accounts ≡ length site.accounts) × (desk.turns ≡ 0)
+
+-- the desk of worker n over the fresh accounts of a site, before any call: it signs with the worker's number
+pub record IsDeskOf (site : Site) (n : ℕ) (desk : Shown) : Type 0 where
+  pub unused : IsUnused site desk
+  pub rules : desk.rules ≡ account_rules
+  pub opened : (k : ℕ) → (desk.base k ≡ slice_index_or (bases site) k no_base) × (desk.seen k ≡ [])
+  pub author : (k : ℕ) → k < length site.accounts → desk.author k ≡ n
+  pub last : (k : ℕ) → desk.last k ≡ 0
+
+-- the desks of so many workers, in order
+abbrev pub AreDesksOf : Site → ℕ → List Shown → Type 0
+AreDesksOf site workers desks = (length desks ≡ workers) × ((n : ℕ) (desk : Shown) → slice_get desks n ≡ Some desk → IsDeskOf site n desk)
+
+-- what comes of a `listen` and a site, where workers share its fresh accounts
+abbrev pub ServesTogether : Site → Listen → HostShown → HostShown → SpawnerShown → SpawnerShown → Status → Type 0
+ServesTogether site l h h' s s' status = (desks : List Shown) × AreDesksOf site l.workers desks × ServesSite site desks l h h' s s' status
 
 -- what is shown of host and spawner before and after
 module _ (h h' : HostShown) (s s' : SpawnerShown) where
@@ -42,7 +70,7 @@ module _ (h h' : HostShown) (s s' : SpawnerShown) where
   abbrev pub ListensFrom : Start → Status → Type 0
   ListensFrom not_opened OpenFault = (h' ≡ h) × (s' ≡ s)
   ListensFrom (misconfigured field index) (Config f i) = (f ≡ field) × (i ≡ index) × (h' ≡ h) × (s' ≡ s)
-  ListensFrom (workers_for l site) status = ServesSite l h h' s s' status
+  ListensFrom (workers_for l site) status = ServesTogether site l h h' s s' status
   ListensFrom _ _ = ⊥
 
   -- A `listen` and the opener come to a start, and from there the workers go on; or memory ran out before a listener was asked for.

@@ -8,7 +8,7 @@ use Rattle.jmapd_run.specs.Starts.{IsStart, Start, batch_for, misconfigured, not
 use Rattle.jmapd_run.specs.declared.status.Status.{Status}
 use Rattle.jmapd_run.specs.declared.status.Status.TheVariants.{NoMemory}
 use Rattle.listen_edge.specs.Listening.{HostShown}
-use Rattle.jmapd_listen.specs.Listens.{ServesSite, SpawnerShown}
+use Rattle.jmapd_listen.specs.Listens.{ServesTogether, SpawnerShown}
 
 -- what is shown of input, output and clock, of the host and of the spawner, before and after
 module _ (x x' : Surroundings) (h h' : HostShown) (s s' : SpawnerShown) where
@@ -24,7 +24,7 @@ module _ (x x' : Surroundings) (h h' : HostShown) (s s' : SpawnerShown) where
   WorksFrom (batch_for site user) status = RunsStreams (batch_for site user) status
   WorksFrom (stdio_of site) status = RunsStreams (stdio_of site) status
   WorksFrom (workload_by number size) status = RunsStreams (workload_by number size) status
-  WorksFrom (workers_for l site) status = ServesSite l h h' s s' status × (x' ≡ x)
+  WorksFrom (workers_for l site) status = ServesTogether site l h h' s s' status × (x' ≡ x)
 
   -- The words and the opener come to a start, and from there the program goes on; or memory ran out before anything else was touched.
   abbrev pub RunsProgram : OpenerShown → OpenerShown → List (List ℕ) → Status → Type 0

@@ -1,9 +1,10 @@
 //! The command `listen`.
+ghost use Rattle.std.specs.Arc.{arc_value};
 ghost use Rattle.std.specs.Prelude.{◌≡◌, ◌≤◌, ◌+◌, All, IfOk, length, map};
 ghost use Rattle.account_desk.specs.SharedDesk.{shown_by_passes};
 ghost use Rattle.command_line.specs.Shown.{listen_shown};
 ghost use Rattle.command_line.specs.declared.listen.TheConstants.{MAX_CONNECTIONS};
-ghost use Rattle.jmapd_listen.specs.Listens.{IsUnused, Listens, ServesSite};
+ghost use Rattle.jmapd_listen.specs.Listens.{AreDesksOf, IsUnused, Listens, ServesSite};
 
 use crate::job::WorkerJob;
 use account_core::account::Account;
@@ -18,7 +19,7 @@ use jmapd_run::status::Status;
 use listen_edge::host::{Host, HostError};
 use listen_edge::listener::ThreadListener;
 use listen_edge::spawner::Spawner;
-use listen_workers::crew::{join_all, start_all};
+use listen_workers::crew::{all_served, run_all};
 use listen_workers::desks::open_desks;
 use listen_workers::listeners::open_listeners;
 use session_doc::Site;
@@ -74,6 +75,7 @@ fn site_desks<W: Wait + Copy + Drop>(
     requires { (1 ≤ workers) × (workers ≤ 256) }
     ensures workers { IfOk result (λ desks. length desks.items ≡ workers) }
     ensures unused { IfOk result (λ desks. All (λ desk. IsUnused site.now (shown_by_passes desk)) desks.items) }
+    ensures of_site { IfOk result (λ desks. AreDesksOf site.now workers (map shown_by_passes desks.items)) }
 {
     open_desks(alloc, runtime, fresh_accounts(alloc, site)?, workers)
 }
@@ -95,7 +97,7 @@ pub fn serve_site<
 ) -> Status
     requires workers { length desks.items ≡ asked.now.workers }
     requires unused { All (λ desk. IsUnused site (D.shown desk)) desks.items }
-    ensures { ServesSite (listen_shown asked.now) (H.shown host.old) (H.shown host.new) (record { faults = S.faults spawner.old; served = S.served spawner.old })
+    ensures { ServesSite site (map D.shown desks.items) (listen_shown asked.now) (H.shown host.old) (H.shown host.new) (record { faults = S.faults spawner.old; served = S.served spawner.old })
         (record { faults = S.faults spawner.new; served = S.served spawner.new }) result }
 {
     let listeners = match open_listeners(alloc, host, asked.port, asked.workers) {
@@ -106,10 +108,10 @@ pub fn serve_site<
     let Ok(jobs) = jobs_of(alloc, site, listeners, desks, clock, asked.connections) else {
         return Status::NoMemory;
     };
-    let Ok(started) = start_all(alloc, spawner, jobs) else {
+    let Ok(backs) = run_all(alloc, spawner, jobs) else {
         return Status::NoMemory;
     };
-    if join_all(spawner, started, asked.connections) {
+    if all_served(&backs) {
         Status::Done
     } else {
         Status::OpenFault
@@ -135,7 +137,7 @@ fn jobs_of<
     requires unused { All (λ desk. IsUnused site (D.shown desk)) desks.items }
     requires connections { (1 ≤ connections) × (connections ≤ MAX_CONNECTIONS) }
     ensures desks { IfOk result (λ jobs. map (λ job. job.desk) jobs.items ≡ desks.items) }
-    ensures connections { IfOk result (λ jobs. All (λ job. job.connections ≡ connections) jobs.items) }
+    ensures each { IfOk result (λ jobs. All (λ job. (job.connections ≡ connections) × (arc_value job.site ≡ site)) jobs.items) }
 {
     let site = Arc::new(alloc, site)?;
     let mut jobs = Vec::with_capacity(alloc, listeners.len())?;

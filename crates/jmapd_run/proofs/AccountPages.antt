@@ -1,6 +1,7 @@
 -- Pages of the changes of an account's events lead to the last, and what a workload writes.
 use Rattle.std.proofs.Common.{◌≡◌, ◌≤◌, ◌<◌, ◌-◌, ◌^◌, ◌==◌, ◌&&◌, not, ℕ, pos, List, [], Bool, true, false, cond, Option, Some, None, Result, Ok, Err, IfOk, codes, length, map, arith, refl, sym, ap, ◌∙◌, subst, eq-eqb, eqb-true}
 use Rattle.std.proofs.Math.Nat.{lt_of_not-le}
+use Rattle.std.proofs.lemmas.Bool.{and_parts}
 use Rattle.std.proofs.lemmas.Bool.Decides.{nat_tests}
 use Rattle.std.proofs.lemmas.List.{length-map}
 use Rattle.std.proofs.lemmas.List.Sums.{count_by-le-length}
@@ -39,10 +40,6 @@ use Rattle.workload.specs.declared.numbers.Numbers.{Numbers}
 le_of : (n m : ℕ) → nat_le n m ≡ true → n ≤ m
 le_of n m h = grind (arith, nat_tests)
 
-first_passes : (a b : Bool) → (a && b) ≡ true → a ≡ true
-first_passes true b h = refl
-first_passes false b h = h
-
 differ : (a b : ℕ) → not (a == b) ≡ true → a ≡ b → ⊥
 differ a b h e =
     let t : not true ≡ true = ap not (sym (eq-eqb a b e)) ∙ h in
@@ -64,7 +61,7 @@ named_is generation (Some s) k e = within (s.generation == generation) refl e
 
 retained_from : (n : ℕ) (o : Option ℕ) → option_map_or (λ k. is_retained n k) o false ≡ true → (k : ℕ) × (o ≡ Some k) × (k ≤ n)
 retained_from n None e = cc
-retained_from n (Some k) e = (k, refl, le_of k n (first_passes (nat_le k n) _ e))
+retained_from n (Some k) e = (k, refl, le_of k n (and_parts (nat_le k n) _ e).0)
 
 known_state : (known : Bool) → cond (not known) (Some CannotCalculateChanges) None ≡ None → known ≡ true
 known_state true e = refl

@@ -1,5 +1,6 @@
 -- A run in which nothing fails does its work.
 use Rattle.std.proofs.Common.{◌≡◌, ◌+◌, ◌≤◌, ℕ, List, [], ◌∷◌, Bool, true, false, Option, Some, None, Ok, inl, inr, length, take, refl, sym, ap, ◌∙◌, subst, arith}
+use Rattle.std.proofs.lemmas.Option.{same_Some}
 use Rattle.std.specs.Io.KnownBytes.{Consumes, IsAtEnd}
 use Rattle.std.specs.Prelude.{◌⊎◌, IfSome, if◌then◌else◌, option_and_then}
 use Rattle.account_desk.specs.FreshDesk.{fresh_desk}
@@ -18,7 +19,7 @@ use Rattle.jmapd_run.specs.declared.status.Status.TheVariants.{Config, Cut, Done
 use Rattle.command_line.specs.Commands.{Command, batch, listen, stdio, workload}
 use Rattle.jmapd_run.proofs.Connecting.{few_calls, same_desk}
 use Rattle.jmapd_run.proofs.Reading.{all_read}
-use Rattle.jmapd_run.proofs.StartLemmas.{batch_start, listen_start, site_of, some_same, start_is, start_of_command, stdio_start, user_is}
+use Rattle.jmapd_run.proofs.StartLemmas.{batch_start, listen_start, site_of, start_is, start_of_command, stdio_start, user_is}
 use Rattle.jmapd_run.specs.Completes.{FaultlessRunsWork, GivesStatus, HasUser, IsAccepted, NothingFailed, connection_status}
 use Rattle.jmapd_run.specs.Headline.{AnswersInput, Surroundings}
 use Rattle.jmapd_run.specs.Runs.{BatchEnds, RunsFrom, RunsStdio, WorkloadEnds, status_of, with_desk}
@@ -80,10 +81,10 @@ module _ {x x' : Surroundings} {o o' : OpenerShown} (fine : NothingFailed x x' o
       record { read = fine.read; wrote = fine.wrote; may_call = omega (arith, few, e) }
 
   pub wants_memory : r.served.end ≡ end.NoMemory → status ≡ NoMemory
-  wants_memory e = some_same status NoMemory (sym r.ended ∙ ap status_of e)
+  wants_memory e = same_Some status NoMemory (sym r.ended ∙ ap status_of e)
 
   status_is : {bytes : List ℕ} {ms : List Message} (e : EndsSo MAX_MESSAGES bytes ms r.served.end) → status ≡ connection_status e.ending e.left
-  status_is e = some_same status (connection_status e.ending e.left) (sym r.ended ∙ (ap status_of e.is ∙ status_by e.ending e.left))
+  status_is e = same_Some status (connection_status e.ending e.left) (sym r.ended ∙ (ap status_of e.is ∙ status_by e.ending e.left))
 
   by_bytes : (config : List ℕ) (input : Option (List ℕ)) {bytes : List ℕ} {ms : List Message} → IfSome input (λ told. bytes ≡ told) → (r.served.end ≡ end.NoMemory) ⊎ EndsSo MAX_MESSAGES bytes ms r.served.end
       → (status ≡ NoMemory) ⊎ GivesStatus (stdio config) input status

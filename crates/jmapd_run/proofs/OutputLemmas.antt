@@ -1,5 +1,6 @@
 -- Runs that are given the same write the same.
 use Rattle.std.proofs.Common.{◌≡◌, ◌≢◌, ◌+◌, ◌++◌, ◌∷◌, [], ℕ, ℤ, List, Option, Some, Bool, true, false, inl, inr, take, refl, sym, ap, ◌∙◌, subst}
+use Rattle.std.proofs.lemmas.Option.{same_Some}
 use Rattle.std.specs.Io.KnownBytes.{Consumes}
 use Rattle.std.specs.Prelude.{◌⊎◌, if◌then◌else◌}
 use Rattle.account_desk.proofs.FreshLaws.{fresh_connections_determined, fresh_replies_determined}
@@ -30,7 +31,7 @@ use Rattle.conn_serve.specs.Complete.{IsFaultless, IsUnharmed}
 use Rattle.jmapd_run.proofs.Completing.{unharmed, wants_memory, workload_works}
 use Rattle.jmapd_run.proofs.Connecting.{same_desk}
 use Rattle.jmapd_run.proofs.Reading.{all_read, first_told}
-use Rattle.jmapd_run.proofs.StartLemmas.{some_same, start_is}
+use Rattle.jmapd_run.proofs.StartLemmas.{start_is}
 use Rattle.jmapd_run.specs.Completes.{NothingFailed}
 use Rattle.jmapd_run.specs.Determined.{IsFinished, OutputsAreDetermined}
 use Rattle.jmapd_run.specs.Runs.{BatchEnds, Runs, RunsFrom, RunsStdio, WorkloadEnds, status_of, with_desk}
@@ -170,7 +171,7 @@ module _ (site : Site) (input : List ℕ) (clock : ℕ → ℤ) where
   same_connections {s = s} {t = t} k l fine well a b m n =
       let same = faultless_determined MAX_MESSAGES input _ _ a.served.end b.served.end (faultless site input clock k fine a m) (faultless site input clock l well b n) in
       let bytes = fresh_connections_determined site MAX_MESSAGES clock a.serves.exchanges b.serves.exchanges (serves_alone site input clock k fine a m) (serves_alone site input clock l well b n) same.0 in (
-        some_same s t (sym a.ended ∙ (ap status_of same.1 ∙ b.ended)),
+        same_Some s t (sym a.ended ∙ (ap status_of same.1 ∙ b.ended)),
         text_is site input clock k fine a m ∙ ((λ i. bytes i ++ closing (same.1 i)) ∙ sym (text_is site input clock l well b n)),
       )
 
@@ -235,7 +236,7 @@ module _ (x x' : Surroundings) where
   no_configuration field index Cut h = absurd h
 
 nothing_written : {x x' : Surroundings} {input : List ℕ} {clock : ℕ → ℤ} {text : List ℕ} → Known x x' input clock text → x' ≡ x → text ≡ []
-nothing_written {text = text} k same = some_same text [] (sym k.written ∙ (ap (λ (y : Surroundings). y.output.holds) same ∙ k.empty))
+nothing_written {text = text} k same = same_Some text [] (sym k.written ∙ (ap (λ (y : Surroundings). y.output.holds) same ∙ k.empty))
 
 unbegun : {x x' y y' : Surroundings} {input : List ℕ} {clock : ℕ → ℤ} {text other : List ℕ} {s t u : Status} → Known x x' input clock text → Known y y' input clock other
     → (s ≡ u) × (x' ≡ x) → (t ≡ u) × (y' ≡ y) → (s ≡ t) × (text ≡ other)

@@ -2,7 +2,8 @@
 use Rattle.std.proofs.Common.{◌≡◌, ◌+◌, ◌<◌, ◌≤◌, ℕ, Bool, true, false, List, Option, Some, None, Result, Ok, Err, inl, inr, length, take, refl, sym, ap, ◌∙◌, subst, arith, option_map}
 use Rattle.std.proofs.lemmas.Bool.Decides.{nat_tests}
 use Rattle.std.proofs.lemmas.List.{length-take-le, take_all}
-use Rattle.std.specs.Prelude.{IfSome, if◌then◌else◌, nat_le, option_and_then, unwrap_or}
+use Rattle.std.proofs.lemmas.Option.{same_Some}
+use Rattle.std.specs.Prelude.{IfSome, if◌then◌else◌, nat_le, option_and_then}
 use Rattle.io_edge.specs.Outside.{IsMissing, OpenerShown, Rose, file_named}
 use Rattle.spec_json.specs.Json.{reading}
 use Rattle.spec_site.specs.Configuration.{Fault, Site, built_in, configured, site_read, user_named}
@@ -10,9 +11,6 @@ use Rattle.spec_site.specs.declared.field.Field.TheVariants.{Json}
 use Rattle.spec_site.specs.declared.limits.TheConstants.{MAX_CONFIGURATION_BYTES}
 use Rattle.command_line.specs.Commands.{Command, Listen, batch, listen, stdio, workload}
 use Rattle.jmapd_run.specs.Starts.{HasConfiguration, IsLoaded, IsNotOpened, IsSite, IsStart, IsUser, Start, batch_for, configuration_named, configuration_of, misconfigured, not_opened, stdio_of, usage, workers_for, workload_by}
-
-pub some_same : {X : Type 0} (x y : X) → Some x ≡ Some y → x ≡ y
-some_same x y e = ap (λ o. unwrap_or o x) e
 
 -- ---- the bytes that are loaded of a configuration come to what all of them come to
 
@@ -85,7 +83,7 @@ user_is site (Some name) user u = ap (by_user site) u
 
 prefix_is : (bytes : Option (List ℕ)) (some : List ℕ) (what : Result Site Fault) → option_map (take (MAX_CONFIGURATION_BYTES + 1)) bytes ≡ Some some → configured some ≡ what → loaded bytes ≡ Some what
 prefix_is None some what e f = cc
-prefix_is (Some all) some what e f = ap (λ r. Some r) (sym (configured_taken all) ∙ (ap configured (some_same (take (MAX_CONFIGURATION_BYTES + 1) all) some e) ∙ f))
+prefix_is (Some all) some what e f = ap (λ r. Some r) (sym (configured_taken all) ∙ (ap configured (same_Some (take (MAX_CONFIGURATION_BYTES + 1) all) some e) ∙ f))
 
 loaded_is : (o o' : OpenerShown) (name : List ℕ) (bytes : Option (List ℕ)) (what : Result Site Fault) → HasConfiguration (Some name) o bytes → IsLoaded o o' name what → loaded bytes ≡ Some what
 loaded_is o o' name bytes what has l =

@@ -1,6 +1,7 @@
 -- A workload has one output.
 use Rattle.std.proofs.Common.{◌≡◌, ℕ, ℤ, List, [], ◌∷◌, ◌++◌, Some, None, codes, inl, inr, map, sym, ap, ap₂, ◌∙◌, subst}
-use Rattle.std.specs.Prelude.{◌⊎◌, sum, unwrap_or}
+use Rattle.std.proofs.lemmas.Option.{same_Some}
+use Rattle.std.specs.Prelude.{◌⊎◌, sum}
 use Rattle.spec_calls.specs.declared.call.Call.{Call}
 use Rattle.spec_calls.specs.declared.call.Reply.{Reply}
 use Rattle.spec_history.specs.Base.{Base}
@@ -10,14 +11,11 @@ use Rattle.workload.specs.Counts.{count_of_ids, line, next_page_state}
 use Rattle.workload.specs.Work.{ArePages, IsOutput}
 
 module _ (answer : Base → List Entry → Call → ℤ → Reply) (added : Base → List Entry → Call → Stamp → List Entry) (base : Base) where
-  some_same : {X : Type 0} (x y : X) → Some x ≡ Some y → x ≡ y
-  some_same x y e = ap (λ o. unwrap_or o x) e
-
   abbrev Goes : List Entry → Reply → List Reply → Type 0
   Goes h r rs = ((state : List ℕ) × (next_page_state r ≡ Some state) × ArePages answer added base h state rs) ⊎ ((next_page_state r ≡ None) × (rs ≡ []))
 
   same_rest : (h : List Entry) (ps qs : List Reply) (r : Reply) → ((since : List ℕ) → ArePages answer added base h since ps → ArePages answer added base h since qs → ps ≡ qs) → Goes h r ps → Goes h r qs → ps ≡ qs
-  same_rest h ps qs r same (inl a) (inl b) = same a.0 a.2 (subst (λ (state : List ℕ). ArePages answer added base h state qs) (some_same b.0 a.0 (sym b.1 ∙ a.1)) b.2)
+  same_rest h ps qs r same (inl a) (inl b) = same a.0 a.2 (subst (λ (state : List ℕ). ArePages answer added base h state qs) (same_Some b.0 a.0 (sym b.1 ∙ a.1)) b.2)
   same_rest h ps qs r same (inl a) (inr b) = let bad : Some a.0 ≡ None = sym a.1 ∙ b.0 in cc
   same_rest h ps qs r same (inr a) (inl b) = let bad : Some b.0 ≡ None = sym b.1 ∙ a.0 in cc
   same_rest h ps qs r same (inr a) (inr b) = a.1 ∙ sym b.1

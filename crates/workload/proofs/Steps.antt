@@ -2,6 +2,7 @@
 use Rattle.std.proofs.Common.{◌≡◌, ◌≤◌, ◌<◌, ◌+◌, ◌-◌, ℕ, suc, ℤ, pos, List, [], ◌∷◌, Bool, true, false, cond, arith, refl, sym, ap, ◌∙◌, subst}
 use mir.Val.{bool_byte}
 use Rattle.std.specs.Prelude.{count_by}
+use Rattle.std.proofs.lemmas.Bool.{cond_both}
 use Rattle.std.proofs.lemmas.List.Sums.{sum_by-cons}
 use Rattle.spec_calls.specs.declared.call.Call.{Call}
 use Rattle.spec_calls.specs.declared.call.Reply.{Reply}
@@ -84,10 +85,6 @@ pub as_number : (b : Bool) → bool_byte b ≡ cond b 1 0
 as_number true = refl
 as_number false = refl
 
-one_at_most : (b : Bool) → cond b 1 0 ≤ 1
-one_at_most true = omega arith
-one_at_most false = omega arith
-
 -- at most one is counted of each
 pub counts_one : (n one done : ℕ) (b : Bool) → n ≤ done → one ≡ cond b 1 0 → n + one ≤ done + 1
-counts_one n one done b few is = let o = one_at_most b in omega (arith, few, is, o)
+counts_one n one done b few is = let o = cond_both b 1 0 (λ n. n ≤ 1) (λ h. omega arith) (λ h. omega arith) in omega (arith, few, is, o)

@@ -4,10 +4,11 @@ use Rattle.std.proofs.lemmas.Iterator.Adapters.{YieldsList-from_vec}
 use Rattle.std.proofs.lemmas.Iterator.Consumers.{YieldsList-turn, YieldsList-end}
 use Rattle.std.proofs.lemmas.List.{map-append}
 use Rattle.std.proofs.lemmas.List.Elements.{All-push}
+use Rattle.std.proofs.lemmas.Slice.Zip.{seconds-zip}
 use Rattle.std.specs.Arc.{arc_value}
 use Rattle.std.specs.Prelude.{All}
 use Rattle.jmapd_listen.proofs.JobLemmas.{unused_of_same}
-use Rattle.jmapd_listen.proofs.ZipLemmas.{seconds_again, zip_length, zip_second, zip_seconds}
+use Rattle.jmapd_listen.proofs.ZipLemmas.{seconds_again, zip_length, zip_second}
 use Rattle.jmapd_listen.specs.Listens.{IsUnused}
 use Rattle.jmapd_listen.specs.declared.job.WorkerJob.{WorkerJob}
 use Rattle.jmapd_listen.proofs.listen.jobs_of.Goals as goal
@@ -36,14 +37,15 @@ loop-listener-preserved g c =
     let longer = length-append c.loop-listener.yielded ((c.in-Some.listener, c.in-Some.desk) ∷ []) in
     let Job : Type 0 = WorkerJob g.row.L.Denot g.row.C.Denot g.row.D.Denot g.D.Desk in
     let desk_of : Job → g.row.D.Denot = λ job. job.desk in
-    let P : Job → Type 0 = λ job. job.connections ≡ c.args.connections in
+    let P : Job → Type 0 = λ job. (job.connections ≡ c.args.connections) × (arc_value job.site ≡ c.args.site) in
+    let site : arc_value c.in_ok-try_clone.field-0 ≡ c.args.site = search rules in
     record {
       desks =
           ap (map desk_of) items ∙ (map-append desk_of c.loop-listener.jobs.items _ ∙ (ap (λ (ds : List g.row.D.Denot). ds ++ c.in-Some.desk ∷ []) i.desks
           ∙ sym (map-append (λ (p : g.row.L.Denot × g.row.D.Denot). p.1) c.loop-listener.yielded ((c.in-Some.listener, c.in-Some.desk) ∷ []))));
       count = search rules;
       room = search rules;
-      all = subst (All P) (sym items) (All-push P c.loop-listener.jobs.items _ i.all refl);
+      all = subst (All P) (sym items) (All-push P c.loop-listener.jobs.items _ i.all (refl, site));
     }
 
 pub returns-clause-desks : goal.returns-clause-desks
@@ -53,4 +55,4 @@ returns-clause-desks g c =
     let all = YieldsList-from_zip {s = c.into_iter-listener-iterator.result} (YieldsList-from_vec {s = c.into_iter-listener-iterator.result.a} ls (search rules) (search rules)) (YieldsList-from_vec {s = c.into_iter-listener-iterator.result.b} ds (search rules) (search rules)) in
     let end = YieldsList-end all c.loop-listener.yielded c.loop-listener.listener-iterator c.loop-listener.yielded_by c.next.result c.next.new.self c.in-None.is c.next.ensures.steps in
     let second = ap (map (λ (p : g.row.L.Denot × g.row.D.Denot). p.1)) end.0 in
-    c.loop-listener.invariant.desks ∙ (seconds_again c.loop-listener.yielded ∙ (second ∙ zip_seconds ls ds c.requires.workers))
+    c.loop-listener.invariant.desks ∙ (seconds_again c.loop-listener.yielded ∙ (second ∙ seconds-zip ls ds c.requires.workers))

@@ -1,26 +1,56 @@
-use Rattle.std.proofs.Common.{◌≡◌, ℕ, subst, sym}
-use Rattle.std.specs.Prelude.{All}
+use Rattle.std.proofs.Common.{◌≡◌, map, sym, ap, ◌∙◌}
+use Rattle.std.proofs.lemmas.List.{length-map}
+use Rattle.std.specs.Arc.{arc_value}
+use Rattle.std.specs.List.{list_all}
+use mathlib.Core.List.{map-map}
 use denote.Exit.{no}
 use denote.Param.Send.{arg_send, param_send}
-use Rattle.jmapd_listen.specs.declared.job.WorkerJob.{WorkerJob}
-use Rattle.listen_workers.specs.Crew.{Ends}
+use Rattle.command_line.specs.Shown.{listen_shown}
+use Rattle.jmapd_listen.proofs.EndedLemmas.{have_ended}
 use Rattle.jmapd_listen.proofs.Sending.{back_sent, job_sent}
+use Rattle.jmapd_listen.proofs.ServeLemmas.{all_served, not_all}
+use Rattle.jmapd_listen.specs.Listens.{SpawnerShown}
+use Rattle.jmapd_listen.specs.declared.job.WorkerBack.{WorkerBack}
+use Rattle.jmapd_listen.specs.declared.job.WorkerJob.{WorkerJob}
+use Rattle.listen_workers.specs.Crew.{is_all}
 use Rattle.jmapd_listen.proofs.listen.serve_site.Goals as goal
 
-pub start_all-requires-send-J : goal.start_all-requires-send-J
-start_all-requires-send-J g c κs within = param_send _ _ (arg_send _ no _ (job_sent _ _ _ _ c.type_bounds.send-H-L c.type_bounds.send-C c.type_bounds.send-D))
+pub run_all-requires-send-J : goal.run_all-requires-send-J
+run_all-requires-send-J g c κs within = param_send _ _ (arg_send _ no _ (job_sent _ _ _ _ c.type_bounds.send-H-L c.type_bounds.send-C c.type_bounds.send-D))
 
-pub start_all-requires-send-J-Back : goal.start_all-requires-send-J-Back
-start_all-requires-send-J-Back g c κs within = param_send _ _ (arg_send _ no _ (back_sent _ _ _ c.type_bounds.send-H-L c.type_bounds.send-C c.type_bounds.send-D))
+pub run_all-requires-send-J-Back : goal.run_all-requires-send-J-Back
+run_all-requires-send-J-Back g c κs within = param_send _ _ (arg_send _ no _ (back_sent _ _ _ c.type_bounds.send-H-L c.type_bounds.send-C c.type_bounds.send-D))
 
-pub join_all-requires-send-J : goal.join_all-requires-send-J
-join_all-requires-send-J g c κs within = param_send _ _ (arg_send _ no _ (job_sent _ _ _ _ c.type_bounds.send-H-L c.type_bounds.send-C c.type_bounds.send-D))
+pub returns-then-all_served : goal.returns-then-all_served
+returns-then-all_served g c =
+    let Job : Type 0 = WorkerJob g.row.H-L.Denot g.row.C.Denot g.row.D.Denot g.D.Desk in
+    let Back : Type 0 = WorkerBack g.row.H-L.Denot g.row.C.Denot g.row.D.Denot in
+    let desks = map g.D.Desk.shown c.args.desks.items in
+    let s : SpawnerShown = record { faults = g.S.Spawner.faults c.args.spawner.now; served = g.S.Spawner.served c.args.spawner.now } in
+    let s' : SpawnerShown = record { faults = g.S.Spawner.faults c.run_all.new.spawner; served = g.S.Spawner.served c.run_all.new.spawner } in
+    let jobs = c.in-Ok-jobs_of.jobs.items in
+    let backs = c.in-Ok-run_all.backs.items in
+    let ended = have_ended {J = Job} {K = Back} c.args.site c.args.asked.now.connections (λ job. arc_value job.site) (λ job. job.connections) (λ job. g.H.L.Listener.shown job.listener)
+    (λ job. record { clock = g.C.Clock.moments job.clock; desk = g.D.Desk.shown job.desk }) (λ back. g.H.L.Listener.shown back.listener)
+    (λ back. record { clock = g.C.Clock.moments back.clock; desk = g.D.Desk.shown back.desk }) (λ back. back.done) desks s s' jobs backs c.in-Ok-run_all.ensures.each c.in-Ok-jobs_of.ensures.each
+    (sym (map-map g.D.Desk.shown (λ (job : Job). job.desk) jobs) ∙ ap (map g.D.Desk.shown) c.in-Ok-jobs_of.ensures.desks) c.in-Ok-run_all.ensures.faults c.in-Ok-run_all.ensures.served in
+    let all : c.all_served.result ≡ list_all (λ (back : Back). is_all back.done.end) backs = c.all_served.ensures ∙ ap (list_all (λ (back : Back). is_all back.done.end)) c.deref.ensures.value in
+    all_served c.args.site desks (listen_shown c.args.asked.now) (g.H.Host.shown c.args.host.now) (g.H.Host.shown c.open_listeners.new.host) c.in-Ok.ensures.how s s'
+    (length-map c.args.desks.items g.D.Desk.shown ∙ c.requires.workers) ended.0 ended.1 (ended.2 ∙ (sym all ∙ c.if-all_served.true))
 
-pub join_all-requires-send-J-Back : goal.join_all-requires-send-J-Back
-join_all-requires-send-J-Back g c κs within = param_send _ _ (arg_send _ no _ (back_sent _ _ _ c.type_bounds.send-H-L c.type_bounds.send-C c.type_bounds.send-D))
-
-pub join_all-requires-clause-ends : goal.join_all-requires-clause-ends
-join_all-requires-clause-ends g c κs within k d inside back works =
-    let P : WorkerJob g.row.H-L.Denot g.row.C.Denot g.row.D.Denot g.D.Desk → Type 0 = λ job. job.connections ≡ c.args.asked.now.connections in
-    let all = subst (All P) (sym c.in-Ok-start_all.ensures.started) c.in-Ok-jobs_of.ensures.connections in
-    subst (λ (n : ℕ). Ends n back.done) (all k d inside) works.1
+pub returns : goal.returns
+returns g c =
+    let Job : Type 0 = WorkerJob g.row.H-L.Denot g.row.C.Denot g.row.D.Denot g.D.Desk in
+    let Back : Type 0 = WorkerBack g.row.H-L.Denot g.row.C.Denot g.row.D.Denot in
+    let desks = map g.D.Desk.shown c.args.desks.items in
+    let s : SpawnerShown = record { faults = g.S.Spawner.faults c.args.spawner.now; served = g.S.Spawner.served c.args.spawner.now } in
+    let s' : SpawnerShown = record { faults = g.S.Spawner.faults c.run_all.new.spawner; served = g.S.Spawner.served c.run_all.new.spawner } in
+    let jobs = c.in-Ok-jobs_of.jobs.items in
+    let backs = c.in-Ok-run_all.backs.items in
+    let ended = have_ended {J = Job} {K = Back} c.args.site c.args.asked.now.connections (λ job. arc_value job.site) (λ job. job.connections) (λ job. g.H.L.Listener.shown job.listener)
+    (λ job. record { clock = g.C.Clock.moments job.clock; desk = g.D.Desk.shown job.desk }) (λ back. g.H.L.Listener.shown back.listener)
+    (λ back. record { clock = g.C.Clock.moments back.clock; desk = g.D.Desk.shown back.desk }) (λ back. back.done) desks s s' jobs backs c.in-Ok-run_all.ensures.each c.in-Ok-jobs_of.ensures.each
+    (sym (map-map g.D.Desk.shown (λ (job : Job). job.desk) jobs) ∙ ap (map g.D.Desk.shown) c.in-Ok-jobs_of.ensures.desks) c.in-Ok-run_all.ensures.faults c.in-Ok-run_all.ensures.served in
+    let all : c.all_served.result ≡ list_all (λ (back : Back). is_all back.done.end) backs = c.all_served.ensures ∙ ap (list_all (λ (back : Back). is_all back.done.end)) c.deref.ensures.value in
+    not_all c.args.site desks (listen_shown c.args.asked.now) (g.H.Host.shown c.args.host.now) (g.H.Host.shown c.open_listeners.new.host) c.in-Ok.ensures.how s s'
+    (length-map c.args.desks.items g.D.Desk.shown ∙ c.requires.workers) ended.0 ended.1 (ended.2 ∙ (sym all ∙ c.if-all_served.false))

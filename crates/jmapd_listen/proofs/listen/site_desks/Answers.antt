@@ -1,10 +1,11 @@
-use Rattle.std.proofs.Common.{map, subst}
+use Rattle.std.proofs.Common.{◌≡◌, length, map, subst}
 use Rattle.std.proofs.lemmas.List.{map-id}
 use Rattle.std.proofs.lemmas.Result.{IfOk-weaker}
 use Rattle.std.specs.Prelude.{All}
 use Rattle.account_desk.specs.SharedDesk.{shown_by_passes}
+use Rattle.jmapd_listen.proofs.DeskLemmas.{are_desks, ok_both}
 use Rattle.jmapd_listen.proofs.JobLemmas.{all_unused}
-use Rattle.jmapd_listen.specs.Listens.{IsUnused}
+use Rattle.jmapd_listen.specs.Listens.{AreDesksOf, IsUnused}
 use Rattle.listen_workers.specs.Passes.{ShareAccounts}
 use Rattle.jmapd_listen.proofs.listen.site_desks.Goals as goal
 
@@ -14,3 +15,10 @@ returns-clause-unused g c =
     let accounts = c.in_ok-fresh_accounts.field-0.items in
     IfOk-weaker c.open_desks.result (λ desks. ShareAccounts (map (λ a. a) accounts) desks.items) (λ desks. All (λ desk. IsUnused site (shown_by_passes desk)) desks.items)
     (λ desks share. all_unused site accounts desks.items c.in_ok-fresh_accounts.ensures.fresh (subst (λ these. ShareAccounts these desks.items) (map-id accounts) share)) c.open_desks.ensures.fresh
+
+pub returns-clause-of_site : goal.returns-clause-of_site
+returns-clause-of_site g c =
+    let site = c.args.site.now in
+    let accounts = c.in_ok-fresh_accounts.field-0.items in
+    ok_both c.open_desks.result (λ desks. length desks.items ≡ c.args.workers) (λ desks. ShareAccounts (map (λ a. a) accounts) desks.items) (λ desks. AreDesksOf site c.args.workers (map shown_by_passes desks.items))
+    (λ desks many share. are_desks site c.args.workers accounts desks.items c.in_ok-fresh_accounts.ensures.fresh many (subst (λ these. ShareAccounts these desks.items) (map-id accounts) share)) c.open_desks.ensures.workers c.open_desks.ensures.fresh
