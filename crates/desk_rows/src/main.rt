@@ -4,6 +4,7 @@
 mod accounts;
 mod batches;
 mod connections;
+mod openings;
 mod pair_desk;
 
 use row_table::line::{tree_in, unrolled};
@@ -13,9 +14,12 @@ use spec_json::tree::Tree;
 use std::alloc::{AllocError, Global};
 use std::io;
 
-/// What comes of a row, where it can be read: a `request` is answered after those `before` it, and an `input` is served as a connection, each on a
+/// What comes of a row, where it can be read: an account opens at `entries`, each so many times as it says, or doesn't; or a `request` is answered after those `before` it, and an `input` is served as a connection, each on a
 /// desk that makes `most` calls.
 fn came(alloc: Global, asked: &Tree) -> Result<Option<String>, AllocError> {
+    if let Some(entries) = asked.list_at("entries") {
+        return openings::told(alloc, entries);
+    }
     let Some(most) = asked.number_at("most") else {
         return Ok(None);
     };

@@ -6,7 +6,7 @@ use crate::connections::runs::{RunOutcome, Way, outcome_of};
 use row_table::files::Files;
 use std::alloc::{AllocError, Global};
 
-/// The most bytes of an input whose takes and gives fail one after the other.
+/// The most bytes of an input that is cut after each, and whose takes and gives fail one after the other.
 const MAX_FAILING: usize = 1500;
 
 /// What a run is to come to.
@@ -17,8 +17,8 @@ struct Wanted<'a> {
     responses: usize,
 }
 
-/// What first came otherwise than wanted, in one piece, in pieces of one byte and of seven bytes, and, of a connection, with one `take` after the
-/// other failing, and one `give` after the other.
+/// What first came otherwise than wanted, in one piece, in pieces of one byte and of seven bytes, and, of a connection, cut after each byte, with one `take`
+/// after the other failing, and one `give` after the other.
 pub fn other_than_wanted(
     alloc: Global,
     case: &Case,
@@ -27,6 +27,10 @@ pub fn other_than_wanted(
     let input = case.input(alloc)?;
     let other = other_in_pieces(alloc, case, files, &input)?;
     if other.is_some() || !case.is_connection() || input.len() > MAX_FAILING {
+        return Ok(other);
+    }
+    let other = other_at_cuts(alloc, case, files, &input)?;
+    if other.is_some() {
         return Ok(other);
     }
     match other_at_takes(alloc, case, files, &input)? {
@@ -82,6 +86,37 @@ fn other_than(
     let written = String::from_utf8_lossy(alloc, written)?;
     let status = &outcome.status;
     Ok(Some(format!(in alloc; "{status}, {written:?}")?))
+}
+
+/// The input is cut after each byte in turn: the messages before are answered, and nothing else.
+fn other_at_cuts(
+    alloc: Global,
+    case: &Case,
+    files: &Files,
+    input: &[u8],
+) -> Result<Option<String>, AllocError> {
+    let ends = ends_of(alloc, &case.messages)?;
+    let closes = is_closing(case);
+    for left in 0..input.len() {
+        let way = Way::in_pieces(alloc, usize::MAX);
+        let outcome = outcome_of(alloc, case, files, &input[..left], way)?;
+        let whole = whole_within(&ends, left).min(case.responses.len());
+        let is_over = closes && whole == case.responses.len();
+        let wanted = Wanted {
+            status: if is_over {
+                case.status.as_str()
+            } else if left == 0 || ends.contains(&left) {
+                "Done"
+            } else {
+                "Cut"
+            },
+            responses: whole,
+        };
+        if let Some(other) = other_than(alloc, case, &outcome, &wanted)? {
+            return Ok(Some(format!(in alloc; "cut after {left} bytes, {other}")?));
+        }
+    }
+    Ok(None)
 }
 
 /// Each take fails in turn, and the input is given in pieces of one byte: the messages before that byte are answered, and nothing else.
