@@ -17,6 +17,11 @@ def weekly(start, **rule):
     return {"start": start, "seconds": 3600, "rules": [{"frequency": "weekly", **rule}]}
 
 
+def forward(start, **rule):
+    """Monthly, where a date that a month lacks is moved to the first day of the next."""
+    return {"start": start, "seconds": 3600, "rules": [{"frequency": "monthly", "skip": "forward", **rule}]}
+
+
 def yearly(start, **rule):
     return {"start": start, "seconds": 3600, "rules": [{"frequency": "yearly", **rule}]}
 
@@ -46,6 +51,8 @@ PAIRS = {
     "two weekly rules at other times": ({"a": weekly("2024-01-01T09:00:00"), "b": weekly("2024-01-01T10:00:00")}, "none", 20_000, 20),
     "two daily rules that meet": ({"a": daily("2024-01-01T09:00:00", interval=3), "b": daily("2024-01-02T09:00:00", interval=4)}, "day 19732 second 32400", 20_000, 50),
     "two daily rules that never meet": ({"a": daily("2024-01-01T09:00:00", interval=2), "b": daily("2024-01-02T09:00:00", interval=2)}, "none", 20_000, 50),
+    "two monthly rules by forward that meet": ({"a": forward("2024-01-31T09:00:00"), "b": forward("2024-01-30T09:00:00")}, "day 19783 second 32400", 51, 5_000),
+    "two monthly rules by forward that never meet": ({"a": forward("2024-01-31T09:00:00", interval=2), "b": forward("2024-04-30T09:00:00", interval=2)}, "none", 51, 5_000),
     "every 997 and every 991 years": ({"a": yearly("2024-01-01T09:00:00", interval=997), "b": yearly("2025-01-01T09:00:00", interval=991)}, "day 300804957 second 32400", 21, 20_000),
     "January and February": ({"a": daily("2024-01-01T09:00:00", interval=997, byMonth=["1"]), "b": daily("2024-02-01T09:00:00", interval=991, byMonth=["2"])}, "none", 21, 20_000),
     "four yearly rules each": ({"a": crowded("2024-01-09T09:00:00", 1, 6), "b": crowded("2024-07-09T09:00:00", 7, 12)}, "none", 11, 2_000_000),

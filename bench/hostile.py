@@ -111,8 +111,9 @@ def told(row, ends):
         return "nothing", False
     error = re.search(rb'\["error",\{"type":"(\w+)"', ends) or re.search(rb'"type":"urn:ietf:params:jmap:error:(\w+)"', ends)
     if error:
-        return error[1].decode(), row.may_refuse
-    return ("answer", True) if row.wanted in ends else ("otherwise", False)
+        name = error[1].decode()
+        return name, name == row.error if row.error else row.may_refuse
+    return ("answer", True) if row.wanted in ends and not row.error else ("otherwise", False)
 
 
 def spent(binary, row, most):

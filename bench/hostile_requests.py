@@ -33,12 +33,18 @@ class Hostile:
     created: Callable = dict  # the created ids that the request gives
     beside: str = ""  # the request of which it may take twice the time
     may_refuse: bool = True  # an error is as good an answer
+    error: str = ""  # the one that has to come
     zones: list = field(default_factory=list)  # of the configuration, beside its own
 
 
 def goal(name, fill_account, calls, wanted, seconds, megabytes=300, **more):
     """One that has to be answered, and has goals of its own."""
     return Hostile(name, fill_account, calls, wanted, seconds, megabytes, may_refuse=False, **more)
+
+
+def too_large(name, fill_account, calls, seconds, megabytes=300):
+    """One of which a call has to be refused as too large."""
+    return Hostile(name, fill_account, calls, seconds=seconds, megabytes=megabytes, error="requestTooLarge")
 
 
 # Events.
@@ -105,6 +111,11 @@ def crowded(number):
 def of_bytes(size, make=event):
     """Events whose titles have so many bytes and begin alike."""
     return lambda number: make(number) | {"title": "a" * (size - 6) + f"{number:06}"}
+
+
+def described(size):
+    """Daily events whose descriptions have so many bytes."""
+    return lambda number: daily(number, description="d" * size)
 
 
 def booking(series):
@@ -256,6 +267,17 @@ def doubling(value):
     return [["Core/echo", {"a": value}]] + [["Core/echo", {"#a": it, "#b": it}] for it in twice]
 
 
+def all_before(value):
+    """An echo, and others of which each refers to the whole of each one before."""
+    return [["Core/echo", {"a": value}]] + [["Core/echo", {f"#k{before}": refers_to(f"c{before}", "") for before in range(number)}] for number in range(1, 16)]
+
+
+def many_references(count, value, calls=1):
+    """An echo, and calls of which each refers to it so often."""
+    refers = {f"#k{number:05}": refers_to("c0", "/a") for number in range(count)}
+    return [["Core/echo", {"a": value}]] + [["Core/echo", refers]] * calls
+
+
 # Creation ids in `calendarIds`, or in a patch of it.
 
 
@@ -305,7 +327,12 @@ CALLS = [
     Hostile("15 references to a filter of 40,000 uids", events(event, 5_000), lambda: by_reference(any_of([{"uid": "q"}] * 40_000))),
     Hostile("15 references to an echo of 4 MB", nothing, lambda: echoes_of_one([0] * 2_000_000)),
     Hostile("15 echoes, each of twice the one before", nothing, lambda: doubling("q" * 1_000)),
+    Hostile("15 echoes, each of all before", nothing, lambda: all_before("q" * 1_000)),
+    too_large("80,000 references to 4.8 MB in a call", nothing, lambda: many_references(80_000, "q" * 4_800_000), 0.5),
+    too_large("15 calls of 16 references to 9.9 MB", nothing, lambda: many_references(16, "q" * 9_900_000, 15), 3.0),
     Hostile("16 gets of 500 events of 30,000 bytes", large(of_bytes(30_000), 500), lambda: [get_of()] * 16),
+    too_large("250 occurrences of an event of 100,000 bytes", large(described(100_000), 1), lambda: [get_of(ids=occurrences(250))], 0.5),
+    too_large("16 gets of 190 occurrences of such an event", large(described(100_000), 1), lambda: [get_of(ids=occurrences(190))] * 16, 1.0),
 ]
 
 FILTERS = [

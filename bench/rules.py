@@ -1,5 +1,5 @@
 #!/usr/bin/env python3
-"""Measures how long `next_from` and `last_day` take, and the same expansions by python3-dateutil.
+"""Measures how long `next_from`, `next_until` and `last_day` take, and the same expansions by python3-dateutil.
 
 Build the program first, by `rt run < stdin` in crates/rule_rows. Times are of the processor, the best of three.
 """
@@ -23,7 +23,10 @@ RULES = {
         {"frequency": "monthly", "byDay": [{"day": "mo", "nthOfPeriod": 2}]},
         {"freq": rrule.MONTHLY, "byweekday": rrule.MO(2)},
     ),
+    "monthly, 31st, forward": ({"frequency": "monthly", "byMonthDay": [31], "skip": "forward"}, None),
+    "monthly, 31st, backward": ({"frequency": "monthly", "byMonthDay": [31], "skip": "backward"}, None),
     "yearly": ({"frequency": "yearly"}, {"freq": rrule.YEARLY}),
+    "yearly, 60th day": ({"frequency": "yearly", "byYearDay": [60]}, {"freq": rrule.YEARLY, "byyearday": 60}),
 }
 NEVER = {"byMonth": ["2"], "byMonthDay": [30]}
 # After 2320-02-29 the next such day lies 241,768 years on, more than half of a cycle of 400 years' days in phase.
@@ -41,8 +44,8 @@ def spent(rows):
     return min(times)
 
 
-def each(rule, year, times):
-    row = {"start": "2024-01-15T09:00:00", "from": "%d-01-15T09:00:00" % year, "rules": [rule]}
+def each(rule, year, times, **more):
+    row = {"start": "2024-01-15T09:00:00", "from": "%d-01-15T09:00:00" % year, "rules": [rule], **more}
     return (spent([dict(row, times=times)]) - spent([dict(row, times=0)])) / times
 
 
@@ -56,10 +59,14 @@ def by_dateutil(words, times):
 
 def main():
     for name, (rule, words) in RULES.items():
-        here = ["%.0f ns" % (each(rule, year, 100_000) * 1e9) for year in (2024, 2500, 9000)]
-        print(f"{name}: from 2024, 2500, 9000 {', '.join(here)}; dateutil {by_dateutil(words, 2000) * 1e9:.0f} ns")
+        here = ["%.0f ns" % (each(rule, year, 1_000_000) * 1e9) for year in (2024, 2500, 9000)]
+        # dateutil has no dates that are moved
+        theirs = "none" if words is None else "%.0f ns" % (by_dateutil(words, 2000) * 1e9)
+        print(f"{name}: from 2024, 2500, 9000 {', '.join(here)}; dateutil {theirs}")
     for frequency in ("daily", "weekly", "monthly", "yearly"):
         print(f"{frequency}, never again: {each(dict(NEVER, frequency=frequency), 2024, 20) * 1e3:.2f} ms")
+        in_a_night = each(dict(NEVER, frequency=frequency), 2024, 100_000, to="2024-01-16T09:00:00")
+        print(f"{frequency}, not in a night: {in_a_night * 1e9:.0f} ns")
     row = {"start": "2320-02-29T00:00:00", "rules": [FAR]}
     print(f"241,768 years on: {(spent([dict(row, times=20)]) - spent([dict(row, times=0)])) / 20 * 1e3:.2f} ms")
     for name, (rule, _) in RULES.items():

@@ -1,5 +1,8 @@
 #!/usr/bin/env python3
-"""Times objects with their versions and pages of changes, behind a short and a long history; README.md tells what it prints."""
+"""Times objects with their versions and pages of changes, behind a short and a long history; README.md tells what it prints.
+
+With --gate it holds one thing alone, and ends with 1 where it isn't so: an old version is found in few steps. A lookup of a state far back may take at most so many
+times what one near takes, in the same run and by the least of some rounds, so a loaded machine changes both."""
 
 import argparse
 import os
@@ -28,6 +31,9 @@ CALLS = (
     ("changes", 1_000, BACK, "none", 1_000_000),
     ("changes", 1, BACK, "none", 1_000_000),
 )
+# Of an object with as many versions as LONG: a state near the last, one far back, and how often the time of the one may go into that of the other.
+# By skips it does a few times, since the far one takes twice the steps and reads more memory; step by step some 1,000 times.
+NEAR, FAR, MOST_TIMES = 16, 32_768, 60
 
 
 def nanoseconds(chosen, call, entries, ids, back, most):
@@ -67,11 +73,23 @@ def tell_memory(chosen):
     print(f"journal: {each('journal') - entries:.0f} bytes an entry beside the entries, which take {entries:.0f}")
 
 
+def gate(chosen):
+    near = nanoseconds(chosen, "get_at", LONG, 1, NEAR, "none")
+    far = nanoseconds(chosen, "get_at", LONG, 1, FAR, "none")
+    times = far / max(near, 1)
+    is_met = times <= MOST_TIMES
+    print(f"an object of {LONG:,} versions: {near:,} ns for the state {NEAR} back, {far:,} ns for {FAR:,} back, {times:.1f} times (at most {MOST_TIMES}: {'met' if is_met else 'missed'})")
+    return 0 if is_met else 1
+
+
 def main():
     parser = argparse.ArgumentParser(description=__doc__)
+    parser.add_argument("--gate", action="store_true", help="hold the steps of a lookup alone")
     parser.add_argument("binary", nargs="?", default="crates/store_rows/out/store_rows")
     parser.add_argument("--rounds", type=int, default=5)
     chosen = parser.parse_args()
+    if chosen.gate:
+        sys.exit(gate(chosen))
     tell_times(chosen)
     tell_memory(chosen)
 
