@@ -31,10 +31,15 @@ RESTATED = {
     ),
     "spec_bookings/BookedResources": ("bookings_clash_where_two_would_cover_a_second", "clash_in first_clash_in clash_of_event"),
     "spec_bookings/HistoryBookings": ("bookings_are_of_live_events", "booking_of bookings_at"),
+    "spec_recurrence/RulesOf": (
+        "rules_are_their_parts",
+        "is_interval has_by_parts ends_within repeats_within weeks_start_within is_within_limits IsWithinLimits limits_of rule_by rule_where rule_by_parts",
+    ),
     "spec_recurrence/SeriesOf": ("events_have_one_series", ""),
     "spec_windows/Overlaps": ("overlaps_are_found", "has_passing has_overlapping"),
     "spec_availability/BusyInstants": ("events_take_up_their_occurrences", "is_occupied"),
     "spec_availability/Runs": ("runs_are_of_the_test", ""),
+    "spec_history/History": ("states_show_objects", "object_from live_object with_id ids_from ids_at"),
     "spec_history/Pages": ("pages_are_longest", "greatest page_end"),
     "property_table/Table": ("failing_names_are_exact", "failing"),
 }
