@@ -4,6 +4,7 @@ use Rattle.clap.specs.Words.{App, HasMatchesOf, first_of, first_value, found_of,
 use Rattle.clap.specs.declared.ArgMatches.{ArgMatches}
 use Rattle.clap.proofs.WalkLemmas.{first_value-rows}
 use Rattle.clap.proofs.OnLiterals.{clap_on_literals}
+use Rattle.command_line.specs.KeptWords.{kept_app, kept_options, kept_with}
 use Rattle.command_line.specs.Commands.{batch, batch_app, batch_of, listen_app, listen_of, listen_with, stdio, stdio_app, stdio_of, workload_app, workload_of, workload_with, accepts, value_of}
 
 pub batch_is_simple : is_simple batch_app ≡ true
@@ -88,4 +89,24 @@ listen_found app words m config port workers connections is taken h c p w n =
     let all = listen_with (value (codes "config")) (value (codes "port")) (value (codes "workers")) (value (codes "connections")) in
     let same : listen_with config port workers connections ≡ all =
     (λ i. listen_with (found (codes "config") config c i) (found (codes "port") port p i) (found (codes "workers") workers w i) (found (codes "connections") connections n i)) in
+    same ∙ sym (ap (λ b. cond b all None) (ap (λ (a : App). accepts a words) (sym is) ∙ taken))
+
+pub kept_is_simple : is_simple kept_app ≡ true
+unfolding kept_app clap_on_literals
+kept_is_simple = refl
+
+pub kept_is_free : is_simple_and_free kept_app ≡ true
+unfolding kept_app clap_on_literals
+kept_is_free = refl
+
+pub kept_found : (app : App) (words : List (List ℕ)) (m : ArgMatches) (config journal user : Option (List ℕ)) → app ≡ kept_app
+    → accepts app words ≡ true → HasMatchesOf app words m
+    → config ≡ first_value (found_of m) (codes "config") → journal ≡ first_value (found_of m) (codes "journal") → user ≡ first_value (found_of m) (codes "user")
+    → kept_with config journal user ≡ kept_options words
+kept_found app words m config journal user is taken h c j u =
+    let value = λ (name : List ℕ). value_of kept_app words name in
+    let found : (name : List ℕ) (o : Option (List ℕ)) → o ≡ first_value (found_of m) name → o ≡ value_of kept_app words name =
+    λ name o e. e ∙ value_found app kept_app words m name is kept_is_simple h in
+    let all = kept_with (value (codes "config")) (value (codes "journal")) (value (codes "user")) in
+    let same : kept_with config journal user ≡ all = (λ i. kept_with (found (codes "config") config c i) (found (codes "journal") journal j i) (found (codes "user") user u i)) in
     same ∙ sym (ap (λ b. cond b all None) (ap (λ (a : App). accepts a words) (sym is) ∙ taken))

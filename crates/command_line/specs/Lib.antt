@@ -1,2 +1,3 @@
 pub mod Commands
+pub mod KeptWords
 pub mod Shown

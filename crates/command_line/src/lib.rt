@@ -3,6 +3,7 @@
 
 pub mod command;
 mod counts;
+pub mod kept;
 pub mod listen;
 mod options;
 pub mod workload;

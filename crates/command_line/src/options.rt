@@ -2,6 +2,7 @@
 
 ghost use Rattle.std.specs.Prelude.{◌≡◌, IfNone, IfOk, IfSome, false, map, string_bytes, true};
 ghost use Rattle.clap.specs.Words.{HasMatchesOf, app_of, is_simple_and_free, rule_of};
+ghost use Rattle.command_line.specs.KeptWords.{kept_app};
 ghost use Rattle.command_line.specs.Commands.{without_flags, batch_app, listen_app, option_named, stdio_app, workload_app, accepts};
 
 use clap::error::ErrorKind;
@@ -50,6 +51,20 @@ pub fn listen_command<'a>(alloc: Global) -> Result<Command<'a>, AllocError>
         .arg(port)?
         .arg(workers)?
         .arg(connections)?;
+    Ok(command)
+}
+
+/// `kept --config NAME --journal NAME [--user NAME]`. Takes memory for its options.
+pub fn kept_command<'a>(alloc: Global) -> Result<Command<'a>, AllocError>
+    ensures { IfOk result (λ command. app_of command ≡ kept_app) }
+{
+    let config = option_named(alloc, "config", true);
+    let journal = option_named(alloc, "journal", true);
+    let user = option_named(alloc, "user", false);
+    let command = bare_command(alloc, "kept")
+        .arg(config)?
+        .arg(journal)?
+        .arg(user)?;
     Ok(command)
 }
 
