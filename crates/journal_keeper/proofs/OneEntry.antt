@@ -1,5 +1,6 @@
 -- A text is that of one entry alone.
-use Rattle.std.proofs.Common.{◌≡◌, ◌∙◌, ℕ, ℤ, List, [], ◌∷◌, Option, Some, None, ap, refl, subst, sym, unwrap_or}
+use Rattle.std.proofs.Common.{◌≡◌, ◌∙◌, ℕ, ℤ, List, [], ◌∷◌, Option, Some, None, ap, refl, subst, sym}
+use Rattle.std.proofs.lemmas.Option.{same_Some}
 use Rattle.journal_keeper.proofs.Finding.{author_found, id_found, kind_found, moment_found, object_found, part_found, turn_found}
 use Rattle.spec_json.proofs.TreeBack.{same_tree}
 use Rattle.journal_keeper.specs.EntryText.{IsEntryText, IsKeepable, IsObjectTree, entry_data, object_data}
@@ -11,9 +12,6 @@ use Rattle.spec_json.specs.Json.{Reading, not_json, not_whole, value}
 use Rattle.spec_json.specs.TreeData.{data_of}
 use Rattle.spec_json.specs.declared.tree.Tree.{Tree}
 use Rattle.spec_json.specs.declared.tree.Tree.TheVariants.{Null}
-
-some_back : {X : Type 0} (a b : X) → Some a ≡ Some b → a ≡ b
-some_back a b e = ap (λ o. unwrap_or o a) e
 
 abbrev data_in : Reading → Data
 data_in not_json = null
@@ -46,14 +44,14 @@ same_parts e f author turn part moment kind id object =
 same_entry : (d : Data) (e f : Entry) → IsKeepable e → IsKeepable f → d ≡ entry_data e → d ≡ entry_data f → e ≡ f
 same_entry d e f k l is also =
     same_parts e f
-    (some_back e.author f.author (sym (author_found d e k is) ∙ author_found d f l also))
-    (some_back e.turn f.turn (sym (turn_found d e k is) ∙ turn_found d f l also))
-    (some_back e.part f.part (sym (part_found d e k is) ∙ part_found d f l also))
-    (some_back e.moment f.moment (sym (moment_found d e is) ∙ moment_found d f also))
-    (some_back e.change.kind f.change.kind (sym (kind_found d e is) ∙ kind_found d f also))
-    (some_back e.change.id f.change.id (sym (id_found d e k is) ∙ id_found d f l also))
+    (same_Some e.author f.author (sym (author_found d e k is) ∙ author_found d f l also))
+    (same_Some e.turn f.turn (sym (turn_found d e k is) ∙ turn_found d f l also))
+    (same_Some e.part f.part (sym (part_found d e k is) ∙ part_found d f l also))
+    (same_Some e.moment f.moment (sym (moment_found d e is) ∙ moment_found d f also))
+    (same_Some e.change.kind f.change.kind (sym (kind_found d e is) ∙ kind_found d f also))
+    (same_Some e.change.id f.change.id (sym (id_found d e k is) ∙ id_found d f l also))
     (same_object e.change.object f.change.object k.object l.object
-    (some_back (object_data e.change.object) (object_data f.change.object) (sym (object_found d e is) ∙ object_found d f also)))
+    (same_Some (object_data e.change.object) (object_data f.change.object) (sym (object_found d e is) ∙ object_found d f also)))
 
 pub one_entry : (e f : Entry) (bytes : List ℕ) → IsEntryText e bytes → IsEntryText f bytes → e ≡ f
 one_entry e f bytes is also =
