@@ -4,6 +4,8 @@ use Rattle.std.proofs.lemmas.Slice.Eq.{bytes_eq-Decides}
 use Rattle.std.specs.Cmp.Lexicographic.{slice_cmp}
 use Rattle.std.specs.Ordering.{nat_cmp, is_lt}
 use Rattle.std.specs.Str.{bytes_eq}
+use mathlib.Core.Bool.{or_assoc}
+use Rattle.spec_json.proofs.Booleans.{or_nothing}
 use Rattle.spec_json.proofs.EditLemmas.{below_else, lookup_below, with_below}
 use Rattle.spec_json.proofs.KeyOrder.{above_later, both}
 use Rattle.spec_json.specs.Data.{Data, Pair, lookup}
@@ -33,12 +35,8 @@ unlike_back : (n k : List ℕ) → bytes_eq k n ≡ false → (b : Bool) → byt
 unlike_back n k e true h = absurd (let is : k ≡ n = sym ((bytes_eq-Decides n k).0 h) in let same : bytes_eq k n ≡ true = (bytes_eq-Decides k n).1 is in cc)
 unlike_back n k e false h = refl
 
-or_false : (a b : Bool) → b ≡ false → a ≡ (a || b)
-or_false true b e = refl
-or_false false b e = sym e
-
 same_other : (f : List ℕ → Bool) (n k : List ℕ) → bytes_eq k n ≡ false → f k ≡ or_name f n k
-same_other f n k e = or_false (f k) (bytes_eq n k) (unlike_back n k e (bytes_eq n k) refl)
+same_other f n k e = or_nothing (f k) (bytes_eq n k) (unlike_back n k e (bytes_eq n k) refl)
 
 passes_name : (f : List ℕ → Bool) (n k : List ℕ) → bytes_eq n k ≡ true → (a : Bool) → f k ≡ a → (a || bytes_eq n k) ≡ true
 passes_name f n k e true h = refl
@@ -101,23 +99,15 @@ member_at f n ps r true t =
 member_at f n ps r false t =
     ap (λ there. put_missing n there (lookup n ps) (kept f ps)) (not_kept f n ps r t) ∙ put_one f n t ps r (lookup n ps) refl
 
-or_three : (a b c : Bool) → ((a || b) || c) ≡ (a || (b || c))
-or_three true b c = refl
-or_three false b c = refl
-
 -- the name is one of these or passes
 abbrev or_names : (List ℕ → Bool) → List (List ℕ) → List ℕ → Bool
 or_names f ns k = f k || has_name ns k
 
-or_none : (a : Bool) → a ≡ (a || false)
-or_none true = refl
-or_none false = refl
-
 members_put : (f : List ℕ → Bool) (ns : List (List ℕ)) (ps : List Pair) → keys_rise ps ≡ true → with_each_member ns ps (kept f ps) ≡ kept (or_names f ns) ps
-members_put f [] ps r = same_kept f (or_names f []) (λ k. or_none (f k)) ps
+members_put f [] ps r = same_kept f (or_names f []) (λ k. or_nothing (f k) false refl) ps
 members_put f (n ∷ ns) ps r =
     ap (with_each_member ns ps) (member_at f n ps r (f n) refl) ∙ members_put (or_name f n) ns ps r
-    ∙ same_kept (or_names (or_name f n) ns) (or_names f (n ∷ ns)) (λ k. or_three (f k) (bytes_eq n k) (has_name ns k)) ps
+    ∙ same_kept (or_names (or_name f n) ns) (or_names f (n ∷ ns)) (λ k. or_assoc (f k) (bytes_eq n k) (has_name ns k)) ps
 
 -- all that is needed is kept
 pub all_needed_put : (firsts : List (List ℕ)) (ps : List Pair) → keys_rise ps ≡ true → with_each_member firsts ps (with_each_member always_needed ps []) ≡ kept (is_needed firsts) ps

@@ -1,7 +1,6 @@
 -- A changed event is valid where its part that the changes look at is, and what fails in the event lies in that part; then both are at the same time.
 use Rattle.std.proofs.Common.{◌≡◌, ℕ, pos, List, [], ◌∷◌, ◌++◌, ◌&&◌, ◌||◌, ◌==◌, Bool, true, false, not, Option, Some, None, codes, length, option_and_then, unwrap_or, if◌then◌else◌, refl, sym, ap, ◌∙◌}
-use Rattle.std.proofs.lemmas.Bool.{and_from}
-use Rattle.std.proofs.lemmas.Slice.Eq.{bytes_eq-Decides}
+use Rattle.std.proofs.lemmas.Bool.{and_from, or_left, or_right}
 use Rattle.std.specs.List.{list_all}
 use Rattle.std.specs.Option.{option_map_or}
 use Rattle.std.specs.Str.{bytes_eq}
@@ -20,7 +19,7 @@ use Rattle.spec_series.specs.declared.exception.Span.{Span}
 use Rattle.spec_site.specs.TimeZones.{ZoneText}
 use Rattle.spec_time.specs.Durations.{duration_in, length_of}
 use Rattle.spec_time.specs.LocalTimes.{local_in}
-use Rattle.property_table.proofs.NameLemmas.{has_append}
+use Rattle.property_table.proofs.NameLemmas.{has_append, has_head}
 use Rattle.property_table.proofs.TableLemmas.{lookup_filter, rises_filter, value_kept}
 use Rattle.property_table.specs.Names.{has_name}
 use Rattle.property_table.specs.Table.{failing, given, required_names}
@@ -30,21 +29,10 @@ use Rattle.overrides.proofs.TablePartLemmas.{tested_by_part}
 use Rattle.overrides.specs.Parts.{IsPartOf, IsTestedByPart, all_begin_in, always_needed, are_all_needed, begins_in, begins_out, first_part, firsts_of, is_needed, kept, none_begins_in, object_of, part_with}
 
 -- The first parts of a patch's keys are needed.
-is_first : (n : List ℕ) → has_name (n ∷ []) n ≡ true
-is_first n = rw ((bytes_eq-Decides n n).1 refl) refl
-
 first_in : (f : List ℕ → Bool) (found : Option (List (List ℕ))) → ((n : List ℕ) → has_name (some_of (first_part found)) n ≡ true → f n ≡ true) → option_map_or (begins_in f) found true ≡ true
 first_in f None h = refl
 first_in f (Some []) h = refl
-first_in f (Some (p ∷ ps)) h = h p (is_first p)
-
-or_left : (a b : Bool) → a ≡ true → (a || b) ≡ true
-or_left true b e = refl
-or_left false b e = cc
-
-or_right : (a b : Bool) → b ≡ true → (a || b) ≡ true
-or_right true b e = refl
-or_right false b e = e
+first_in f (Some (p ∷ ps)) h = h p (has_head p [])
 
 in_front : (xs ys : List (List ℕ)) (n : List ℕ) → has_name xs n ≡ true → has_name (xs ++ ys) n ≡ true
 in_front xs ys n h = has_append xs ys n ∙ or_left (has_name xs n) (has_name ys n) h

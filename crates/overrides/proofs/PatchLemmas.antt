@@ -1,11 +1,12 @@
 -- A patch does to the members below which its keys lie what it does to all, and leaves the others alone.
-use Rattle.std.proofs.Common.{◌≡◌, ℕ, List, [], ◌∷◌, Bool, true, false, Option, Some, None, length, take, not, suc, ◌-◌, ◌||◌, option_and_then, if◌then◌else◌, arith, refl, sym, ap, ◌∙◌}
+use Rattle.std.proofs.Common.{◌≡◌, ℕ, List, [], ◌∷◌, Bool, true, false, Option, Some, None, length, take, not, suc, ◌-◌, ◌||◌, option_and_then, if◌then◌else◌, arith, refl, sym, ap, ap₂, ◌∙◌}
 use Rattle.std.proofs.lemmas.Slice.Eq.{bytes_eq-Decides}
 use Rattle.std.specs.Cmp.Lexicographic.{slice_cmp}
 use Rattle.std.specs.List.{list_any}
 use Rattle.std.specs.Option.{option_map_or}
 use Rattle.std.specs.Ordering.{nat_cmp, is_lt}
 use Rattle.std.specs.Str.{bytes_eq}
+use Rattle.std.proofs.lemmas.Bool.{not-true}
 use Rattle.spec_json.proofs.EditLemmas.{below_else, rises_with, rises_without, with_below}
 use Rattle.spec_json.proofs.KeyOrder.{above_later, both}
 use Rattle.spec_json.specs.Data.{Data, Pair, null, truth, whole, text, list, object, field, lookup, pairs_back}
@@ -26,7 +27,7 @@ above_filter f k (p ∷ ps) h r =
     let rise = both (is_above p.0 ps) (keys_rise ps) r in
     above_at f k p ps (f p.0) refl h (above_filter f k ps (above_later k p ps h rise.0) rise.1)
 
-same_key : (f : List ℕ → Bool) (j k : List ℕ) → bytes_eq j k ≡ true → f k ≡ true → f j ≡ true
+same_key : (f : List ℕ → Bool) (j k : List ℕ) {b : Bool} → bytes_eq j k ≡ true → f k ≡ b → f j ≡ b
 same_key f j k e t = ap f ((bytes_eq-Decides j k).0 e) ∙ t
 
 without_at : (f : List ℕ → Bool) (k : List ℕ) → f k ≡ true → (p : Pair) (ps : List Pair) → kept f (without k ps) ≡ without k (kept f ps) → (same keeps : Bool) → bytes_eq p.0 k ≡ same → f p.0 ≡ keeps
@@ -154,12 +155,6 @@ parent_at f (p ∷ (q ∷ rest)) ms r t =
     let n : length (p ∷ (q ∷ rest)) - 1 ≡ suc (length rest) = omega arith in
     rw n (ap (λ found. option_map_or is_object (option_and_then (λ e. value_at (take (length rest) (q ∷ rest)) e) found) false) (field_kept f p t ms r))
 
-choose : (a b : Bool) (k x y : Option (List ℕ)) → a ≡ b → x ≡ y → (if a then k else x) ≡ (if b then k else y)
-choose true true k x y e h = refl
-choose false false k x y e h = h
-choose true false k x y e h = cc
-choose false true k x y e h = cc
-
 fails_at : (f : List ℕ → Bool) (earlier : List (List (List ℕ))) (found : Option (List (List ℕ))) (ms : List Pair) → keys_rise ms ≡ true → option_map_or (begins_in f) found true ≡ true → fails (object_of ms) earlier found ≡ fails (object_of (kept f ms)) earlier found
 fails_at f earlier None ms r t = refl
 fails_at f earlier (Some qs) ms r t = ap (λ b. list_any (λ e. is_prefix e qs) earlier || not b) (parent_at f qs ms r t)
@@ -168,14 +163,11 @@ pub same_failing : (f : List ℕ → Bool) (earlier : List (List (List ℕ))) (p
 same_failing f earlier [] ms r t = refl
 same_failing f earlier (p ∷ patch) ms r t =
     let ts = both (option_map_or (begins_in f) (parts p.0) true) (all_begin_in f patch) t in
-    choose (fails (object_of ms) earlier (parts p.0)) (fails (object_of (kept f ms)) earlier (parts p.0)) (Some p.0) (first_failing (object_of ms) (noted earlier (parts p.0)) patch) (first_failing (object_of (kept f ms)) (noted earlier (parts p.0)) patch) (fails_at f earlier (parts p.0) ms r ts.0) (same_failing f (noted earlier (parts p.0)) patch ms r ts.1)
-
-unlike_key : (f : List ℕ → Bool) (j k : List ℕ) → bytes_eq j k ≡ true → f k ≡ false → f j ≡ false
-unlike_key f j k e t = ap f ((bytes_eq-Decides j k).0 e) ∙ t
+    ap₂ (λ b later. if b then Some p.0 else later) (fails_at f earlier (parts p.0) ms r ts.0) (same_failing f (noted earlier (parts p.0)) patch ms r ts.1)
 
 without_out_at : (f : List ℕ → Bool) (k : List ℕ) → f k ≡ false → (p : Pair) (ps : List Pair) → kept f (without k ps) ≡ kept f ps → (same keeps : Bool) → bytes_eq p.0 k ≡ same → f p.0 ≡ keeps
     → kept f (if same then ps else p ∷ without k ps) ≡ (if keeps then p ∷ kept f ps else kept f ps)
-without_out_at f k t p ps h true true e g = absurd (let s = unlike_key f p.0 k e t in cc)
+without_out_at f k t p ps h true true e g = absurd (let s = same_key f p.0 k e t in cc)
 without_out_at f k t p ps h true false e g = refl
 without_out_at f k t p ps h false true e g = rw g (ap (λ qs. p ∷ qs) h)
 without_out_at f k t p ps h false false e g = rw g h
@@ -188,7 +180,7 @@ with_out_at : (f : List ℕ → Bool) (k : List ℕ) (v : Data) → f k ≡ fals
     → kept f (if below then p ∷ with_pair k v ps else if same then (k, v) ∷ ps else (k, v) ∷ p ∷ ps) ≡ (if keeps then p ∷ kept f ps else kept f ps)
 with_out_at f k v t p ps h true same true e g = rw g (ap (λ qs. p ∷ qs) h)
 with_out_at f k v t p ps h true same false e g = rw g h
-with_out_at f k v t p ps h false true true e g = absurd (let s = unlike_key f p.0 k e t in cc)
+with_out_at f k v t p ps h false true true e g = absurd (let s = same_key f p.0 k e t in cc)
 with_out_at f k v t p ps h false true false e g = rw t refl
 with_out_at f k v t p ps h false false true e g = rw (t, g) refl
 with_out_at f k v t p ps h false false false e g = rw (t, g) refl
@@ -209,14 +201,10 @@ found_out : (f : List ℕ → Bool) (k : List ℕ) (g : Data → Data) → f k �
 found_out f k g t ps None = refl
 found_out f k g t ps (Some d) = with_out f k (g d) t ps
 
-is_out : (b : Bool) → not b ≡ true → b ≡ false
-is_out true h = cc
-is_out false h = refl
-
 placed_out : (f : List ℕ → Bool) (qs : List (List ℕ)) (v : Data) (ps : List Pair) → begins_out f qs ≡ true → kept f (placed_in qs v ps) ≡ kept f ps
 placed_out f [] v ps t = refl
-placed_out f (p ∷ []) v ps t = put_out f p v (is_out (f p) t) ps
-placed_out f (p ∷ (q ∷ rest)) v ps t = found_out f p (on_members (λ ns. placed_in (q ∷ rest) v ns)) (is_out (f p) t) ps (lookup p ps)
+placed_out f (p ∷ []) v ps t = put_out f p v (not-true (f p) t) ps
+placed_out f (p ∷ (q ∷ rest)) v ps t = found_out f p (on_members (λ ns. placed_in (q ∷ rest) v ns)) (not-true (f p) t) ps (lookup p ps)
 
 step_out : (f : List ℕ → Bool) (found : Option (List (List ℕ))) (v : Data) (ms : List Pair) → option_map_or (begins_out f) found true ≡ true → kept f (step found v ms) ≡ kept f ms
 unfolding step

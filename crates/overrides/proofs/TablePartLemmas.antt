@@ -1,19 +1,17 @@
 -- What fails in a whole, by a part of it.
 use Rattle.std.proofs.Common.{◌≡◌, ℕ, List, [], ◌∷◌, ◌&&◌, ◌||◌, Bool, true, false, not, None, is_some, refl, sym, ap, ◌∙◌}
-use Rattle.std.proofs.lemmas.Bool.{and_from}
+use Rattle.std.proofs.lemmas.Bool.{and_from, or_right}
 use Rattle.std.proofs.lemmas.Slice.Eq.{bytes_eq-Decides}
 use Rattle.std.specs.List.{list_all}
 use Rattle.std.specs.Str.{bytes_eq}
+use mathlib.Core.Bool.{or-false}
 use Rattle.spec_json.proofs.KeyOrder.{both}
 use Rattle.spec_json.specs.Data.{Pair, lookup}
-use Rattle.property_table.proofs.NameLemmas.{has_append, has_filter, has_keys}
+use Rattle.property_table.proofs.NameLemmas.{has_append, has_filter, has_head, has_keys}
 use Rattle.property_table.proofs.TableLemmas.{all_failing}
 use Rattle.property_table.specs.Names.{has_name}
 use Rattle.property_table.specs.Table.{Table, failing, fails_at, keys_of, names_of, required_names, test_at}
 use Rattle.overrides.specs.Parts.{IsPartOf, IsTestedByPart}
-
-has_first : (n : List ℕ) (ns : List (List ℕ)) → has_name (n ∷ ns) n ≡ true
-has_first n ns = rw ((bytes_eq-Decides n n).1 refl) refl
 
 has_failing : (t : Table) (ps : List Pair) (n : List ℕ) → has_name (failing t ps) n ≡ ((has_name (names_of t.rows) n || is_some (lookup n ps)) && not (test_at t n (lookup n ps)))
 has_failing t ps n =
@@ -26,28 +24,20 @@ same_at t ps qs n e =
     ∙ ap (λ found. (has_name (names_of t.rows) n || is_some found) && not (test_at t n found)) e
     ∙ sym (has_failing t qs n)
 
-or_false : (a b : Bool) → ((a || false) && b) ≡ (a && b)
-or_false true b = refl
-or_false false b = refl
-
 none_at : (t : Table) (ps : List Pair) (n : List ℕ) → lookup n ps ≡ None → has_name (failing t ps) n ≡ has_name (required_names t) n
 none_at t ps n e =
     has_failing t ps n
     ∙ ap (λ found. (has_name (names_of t.rows) n || is_some found) && not (test_at t n found)) e
-    ∙ or_false (has_name (names_of t.rows) n) (not (test_at t n None))
+    ∙ ap (λ b. b && not (test_at t n None)) (or-false (has_name (names_of t.rows) n))
     ∙ sym (has_filter (λ m. not (test_at t m None)) (names_of t.rows) n)
 
 nothing : (xs : List (List ℕ)) → ((n : List ℕ) → has_name xs n ≡ false) → xs ≡ []
 nothing [] h = refl
-nothing (x ∷ xs) h = absurd (let e = h x in let some : has_name (x ∷ xs) x ≡ true = has_first x xs in cc)
-
-or_right : (a b : Bool) → b ≡ true → (a || b) ≡ true
-or_right true b e = refl
-or_right false b e = e
+nothing (x ∷ xs) h = absurd (let e = h x in let some : has_name (x ∷ xs) x ≡ true = has_head x xs in cc)
 
 all_of : (f : List ℕ → Bool) (xs : List (List ℕ)) → ((n : List ℕ) → has_name xs n ≡ true → f n ≡ true) → list_all f xs ≡ true
 all_of f [] h = refl
-all_of f (x ∷ xs) h = and_from _ _ (h x (has_first x xs)) (all_of f xs (λ n e. h n (or_right (bytes_eq x n) (has_name xs n) e)))
+all_of f (x ∷ xs) h = and_from _ _ (h x (has_head x xs)) (all_of f xs (λ n e. h n (or_right (bytes_eq x n) (has_name xs n) e)))
 
 each_at : (f : List ℕ → Bool) (x n : List ℕ) (xs : List (List ℕ)) → f x ≡ true → (has_name xs n ≡ true → f n ≡ true) → (same : Bool) → bytes_eq x n ≡ same → (same || has_name xs n) ≡ true → f n ≡ true
 each_at f x n xs t h true e o = sym (ap f ((bytes_eq-Decides x n).0 e)) ∙ t
