@@ -1,19 +1,15 @@
 -- Texts in ASCII with their case folded.
-use Rattle.std.proofs.Common.{◌≡◌, ◌∙◌, ℕ, List, [], ◌∷◌, ◌<◌, map, IsAscii, ap, arith, encode_utf8_all, chars, refl, sym, length, true}
-use Rattle.std.proofs.lemmas.Bool.Decides.{nat_tests}
+use Rattle.std.proofs.Common.{◌≡◌, ◌∙◌, ℕ, List, [], ◌∷◌, map, IsAscii, ap, encode_utf8_all, chars, refl, sym, length, true}
 use Rattle.std.proofs.lemmas.Str.{chars-IsAscii, encodes-IsAscii}
-use Rattle.std.proofs.lemmas.Str.Ascii.{IsAscii-map}
+use Rattle.std.proofs.lemmas.Str.Ascii.{IsAscii-map, lowercase_ascii}
 use Rattle.std.specs.Char.{to_ascii_lowercase}
 use Rattle.caseless.proofs.CaselessLemmas.{All-chars, default_case_fold-ascii}
 use Rattle.folded_text.specs.Contains.{begins, contains, folded, stands_in}
 
-small_ascii : (c : ℕ) → c < 128 → to_ascii_lowercase c < 128
-small_ascii c h = grind (arith, nat_tests)
-
 pub folded_ascii : (s : List ℕ) → IsAscii s → folded s ≡ map to_ascii_lowercase s
 folded_ascii s h =
     ap encode_utf8_all (default_case_fold-ascii (chars s) (All-chars s h) ∙ ap (map to_ascii_lowercase) (chars-IsAscii s h))
-    ∙ encodes-IsAscii (map to_ascii_lowercase s) (IsAscii-map to_ascii_lowercase s small_ascii h)
+    ∙ encodes-IsAscii (map to_ascii_lowercase s) (IsAscii-map to_ascii_lowercase s lowercase_ascii h)
 
 pub ascii_contains : (text needle : List ℕ) → IsAscii text → IsAscii needle → stands_in (map to_ascii_lowercase needle) (map to_ascii_lowercase text) ≡ contains text needle
 ascii_contains text needle t n = rw (folded_ascii text t, folded_ascii needle n) refl

@@ -6,13 +6,11 @@ use Rattle.std.specs.Option.{option_map_or}
 use Rattle.std.specs.Str.{bytes_eq}
 use Rattle.spec_filters.specs.Filters.{FilterMeaning, Sought, count_parts, counting, holding, holds, is_found, meaning_of, operator_holds, said, said_at, said_items, said_list, some_true}
 use Rattle.spec_filters.specs.Members.{given_at}
+use Rattle.spec_json.proofs.Booleans.{by_bool}
+use Rattle.spec_json.proofs.DataLemmas.{items_forth}
 use Rattle.spec_json.specs.Data.{Data, null, truth, whole, text, list, object, Items, no_items, item, Pair, list_of, pairs_back, lookup, items_of, members_of, depth, items_depth, members_depth}
 use Rattle.spec_json.specs.Parts.{as_list, as_text}
 use Rattle.query_filter.specs.Conditions.{conditions_in}
-
-by_bool : {Q : Type 0} (b : Bool) → (b ≡ true → Q) → (b ≡ false → Q) → Q
-by_bool true f g = f refl
-by_bool false f g = g refl
 
 -- What stands at a key is no deeper than the object's members.
 
@@ -22,16 +20,12 @@ lookup_falls k (p ∷ ps) d h = by_bool (bytes_eq p.0 k)
     (λ t. let x = rw t at h in let e : p.1 ≡ d = cc in omega (arith, ap depth e))
     (λ f. let x = rw f at h in omega (arith, lookup_falls k ps d x))
 
-listed : (is : Items) → items_of (list_of is) ≡ is
-listed no_items = refl
-listed (item d is) = ap (item d) (listed is)
-
 list_falls : (d : Data) (ds : List Data) → as_list d ≡ Some ds → items_depth (items_of ds) < depth d
 list_falls null ds h = cc
 list_falls (truth b) ds h = cc
 list_falls (whole n) ds h = cc
 list_falls (text s) ds h = cc
-list_falls (list is) ds h = let e : list_of is ≡ ds = cc in omega (arith, ap (λ x. items_depth (items_of x)) e, ap items_depth (listed is))
+list_falls (list is) ds h = let e : list_of is ≡ ds = cc in omega (arith, ap (λ x. items_depth (items_of x)) e, ap items_depth (items_forth is))
 list_falls (object ms) ds h = cc
 
 conditions_fall_by : (ps : List Pair) (o : Option Data) (ds : List Data) → lookup (codes "conditions") ps ≡ o → option_and_then as_list o ≡ Some ds → items_depth (items_of ds) < members_depth (members_of ps)

@@ -3,21 +3,19 @@ use Rattle.std.proofs.Common.{◌≡◌, ◌∙◌, ℕ, List, [], ◌∷◌, �
 use Rattle.std.specs.Prelude.{codes, unwrap_or}
 use Rattle.std.specs.Option.{option_map_or}
 use Rattle.std.specs.Str.{bytes_eq}
+use Rattle.std.proofs.lemmas.Bool.{not-true, or_parts}
+use Rattle.std.proofs.lemmas.Slice.Eq.{bytes_eq-Decides}
 use Rattle.jiff_tz.specs.PosixText.{TzText}
 use Rattle.spec_filters.specs.Filters.{asks_time, holding, holds, operator_holds, said_at}
 use Rattle.spec_filters.specs.Matches.{asks, has_uid, instants_asked, is_in_calendar, meets_condition, overlaps_by, times_meet}
 use Rattle.spec_filters.specs.Members.{given_at, has_other_than, text_given}
+use Rattle.spec_json.proofs.Booleans.{by_bool}
 use Rattle.spec_json.specs.Data.{Data, null, truth, whole, text, list, object, Pair, pairs_of}
 use Rattle.spec_json.specs.Parts.{as_text, is_null, members_in}
 use Rattle.spec_series.specs.declared.series.Series.{Series}
 use Rattle.property_table.specs.Names.{has_name}
-use Rattle.query_filter.proofs.ClockLemmas.{same_text}
 use Rattle.query_filter.specs.KeptTimes.{condition_times, has_ids, object_times, others_meet, texts_meet, time_names, times_of}
 use Rattle.query_filter.specs.declared.times.Times.{Times}
-
-by_bool : {Q : Type 0} (b : Bool) → (b ≡ true → Q) → (b ≡ false → Q) → Q
-by_bool true f g = f refl
-by_bool false f g = g refl
 
 -- What is kept is that of a condition.
 
@@ -83,16 +81,12 @@ null_text (text s) false h n = cc
 null_text (list ds) named h n = refl
 null_text (object ms) named h n = refl
 
-neither : (a b : Bool) → (a || b) ≡ false → (a ≡ false) × (b ≡ false)
-neither true b h = cc
-neither false b h = (refl, h)
-
 left_out : (names : List (List ℕ)) (key : List ℕ) (ps : List Pair) → has_other_than names ps ≡ false → has_name names key ≡ false → text_given key ps ≡ None
 left_out names key [] h n = refl
 left_out names key (p ∷ ps) h n =
-    let parts = neither (not (is_null p.1) && not (has_name names p.0)) (has_other_than names ps) h in
+    let parts = or_parts (not (is_null p.1) && not (has_name names p.0)) (has_other_than names ps) h in
     by_bool (bytes_eq p.0 key)
-    (λ e. rw e (null_text p.1 (has_name names p.0) parts.0 (ap (has_name names) (same_text p.0 key e) ∙ n)))
+    (λ e. rw e (null_text p.1 (has_name names p.0) parts.0 (ap (has_name names) ((bytes_eq-Decides p.0 key).0 e) ∙ n)))
     (λ e. rw e (left_out names key ps parts.1 n))
 
 none_more : (event : Data) (ps : List Pair) → has_other_than time_names ps ≡ false → others_meet event ps ≡ true
@@ -106,14 +100,10 @@ none_more event ps h =
       left_out time_names (codes "participationStatus") ps h refl,
     ) refl
 
-not_not : (b : Bool) → not b ≡ true → b ≡ false
-not_not true h = cc
-not_not false h = refl
-
 pub alone_meet : (clock : TzText) (event filter : Data) (t : Times) → times_of clock filter ≡ Some t → t.are_all ≡ true → others_meet event (members_in filter) ≡ true
 alone_meet clock event filter t h all =
     let k = object_kept clock (members_in filter) t h in
-    none_more event (members_in filter) (not_not (has_other_than time_names (members_in filter)) (ap (λ x. x.are_all) k.1.1 ∙ all))
+    none_more event (members_in filter) (not-true (has_other_than time_names (members_in filter)) (ap (λ x. x.are_all) k.1.1 ∙ all))
 
 -- What comes of a filter by whether its times hold.
 module _ (clock : TzText) (series : Option Series) (rule : Option TzText) (event filter : Data) (t : Times) (h : times_of clock filter ≡ Some t) where

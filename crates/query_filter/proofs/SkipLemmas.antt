@@ -1,14 +1,17 @@
 -- Events that a filter skips before the rule of their zone is known.
-use Rattle.std.proofs.Common.{◌≡◌, ◌∙◌, ℕ, ◌+ℤ◌, ◌≤ℤ◌, ℤ, pos, inl, inr, List, [], ◌∷◌, length, slice_get, ◌&&◌, ◌||◌, Bool, true, false, not, int_lt, Option, Some, None, refl, sym, ap, arith, subst, ◌*◌}
+use Rattle.std.proofs.Common.{◌≡◌, ◌∙◌, ℕ, ◌+ℤ◌, ◌≤ℤ◌, ℤ, pos, inl, inr, List, [], ◌∷◌, length, ◌&&◌, true, false, not, int_lt, Option, Some, None, refl, sym, ap, arith, subst, ◌*◌}
 use Rattle.std.specs.Prelude.{◌==◌, unwrap_or, codes}
 use Rattle.std.specs.Option.{option_map_or}
 use Rattle.std.specs.Str.{bytes_eq}
 use Rattle.std.proofs.lemmas.Bool.Decides.{Decides-int_eq, nat_tests}
+use Rattle.std.proofs.lemmas.Bool.{eqb-true, not-false, or_parts}
+use Rattle.std.proofs.lemmas.Option.{slice_get_within}
 use Rattle.jiff_core.proofs.SignedLemmas.{signed_arith}
 use Rattle.jiff_tz.specs.PosixText.{TzText}
 use Rattle.spec_events.specs.Events.{time_zone_in}
 use Rattle.spec_events.specs.Values.{is_showing}
 use Rattle.spec_filters.specs.Matches.{matches_by, overlaps_by}
+use Rattle.spec_json.proofs.Booleans.{by_bool}
 use Rattle.spec_json.specs.Data.{Data}
 use Rattle.spec_series.proofs.Occurrences.{kinds}
 use Rattle.spec_series.specs.Occurrences.{IsOccurrence, is_day}
@@ -36,10 +39,6 @@ use Rattle.rule_expand.proofs.Sets.{both_and, not_true}
 use Rattle.zone_instants.proofs.Bounds.{HasNearOffsets, instant_near}
 use Rattle.zone_instants.proofs.Offsets.{text_near}
 use Rattle.zone_instants.proofs.Readings.{instant-none}
-
-by_bool : {Q : Type 0} (b : Bool) → (b ≡ true → Q) → (b ≡ false → Q) → Q
-by_bool true f g = f refl
-by_bool false f g = g refl
 
 -- The rules of zones have offsets of less than 26 hours.
 
@@ -95,31 +94,20 @@ at_start [] start w h r =
     omega (arith, signed_arith)
 at_start (x ∷ rs) start w h r = absurd (omega (arith, h))
 
-no_item : {A : Type 0} (xs : List A) (k : ℕ) (x : A) → length xs ≡ 0 → slice_get xs k ≡ Some x → ⊥
-no_item [] k x h e = cc
-no_item (y ∷ ys) k x h e = omega (arith, h)
-
-is_zero : (n : ℕ) → (n == 0) ≡ true → n ≡ 0
-is_zero n h = grind (arith, nat_tests)
-
 alone_at : (s : Series) (o : Occurrence) → is_alone s ≡ true → IsOccurrence s o → (o.start ≡ s.start) × (o.length ≡ s.length)
 alone_at s o alone m =
     let parts = and_both (length s.rules == 0) (length s.exceptions == 0) alone in
     elim (kinds s o m) [
-      | inl own ↦ (own.start ∙ at_start s.rules s.start o.rid (is_zero (length s.rules) parts.0) own.rid, own.length)
-      | inr put ↦ absurd (no_item s.exceptions put.0 put.1.0 (is_zero (length s.exceptions) parts.1) put.1.1.0)
+      | inl own ↦ (own.start ∙ at_start s.rules s.start o.rid (eqb-true (length s.rules) 0 parts.0) own.rid, own.length)
+      | inr put ↦ absurd (omega (arith, slice_get_within s.exceptions put.0 put.1.0 put.1.1.0, eqb-true (length s.exceptions) 0 parts.1))
     ]
-
-neither : (a b : Bool) → (not a || b) ≡ false → (a ≡ true) × (b ≡ false)
-neither true b h = (refl, h)
-neither false b h = cc
 
 alone_missed : (s : Series) (tz : TzText) (w : Window) → HasNearOffsets tz → may_overlap (Some s) w ≡ false → has_overlapping s (instant_in tz) w ≡ false
 alone_missed s tz w near h =
-    let parts = neither (is_alone s) _ h in
+    let parts = or_parts (not (is_alone s)) _ h in
     not_true (has_overlapping s (instant_in tz) w) (λ met.
     let o = (overlapping_is s tz w).0 met in
-    let at = alone_at s o.0 parts.0 o.1.0 in
+    let at = alone_at s o.0 (not-false (is_alone s) parts.0) o.1.0 in
     let wide = met_widest (instant_in tz) w o.0 (near_instants tz near) o.1.1 in
     let same : keeps_limits w (widest s.start (wall_seconds s.length)) ≡ true = ap (λ x. keeps_limits w (widest x (wall_seconds s.length))) (sym at.0) ∙ ap (λ l. keeps_limits w (widest o.0.start (wall_seconds l))) (sym at.1) ∙ wide in
     let no = parts.1 in

@@ -1,23 +1,17 @@
 -- Filters that don't ask when an event is.
-use Rattle.std.proofs.Common.{◌≡◌, List, [], ◌∷◌, ◌||◌, Bool, true, false, Option, Some, None, refl, ap}
+use Rattle.std.proofs.Common.{◌≡◌, List, [], ◌∷◌, ◌||◌, Bool, false, Option, Some, None, refl, ap}
 use Rattle.std.specs.Prelude.{codes, unwrap_or}
 use Rattle.std.specs.Option.{option_map_or}
 use Rattle.std.specs.Str.{bytes_eq}
+use Rattle.std.proofs.lemmas.Bool.{or_parts}
 use Rattle.jiff_tz.specs.PosixText.{TzText}
 use Rattle.spec_filters.specs.Filters.{asks_time, has_time, holding, meaning_of, operator_holds, said, said_at, said_items, said_list, some_true, time}
 use Rattle.spec_filters.specs.Matches.{matches_by, meets_condition}
 use Rattle.spec_filters.specs.Members.{given_at}
+use Rattle.spec_json.proofs.Booleans.{by_bool}
 use Rattle.spec_json.specs.Data.{Data, null, truth, whole, text, list, object, Items, no_items, item, Members, no_members, member, Pair, pairs_of}
 use Rattle.spec_json.specs.Parts.{as_text}
 use Rattle.spec_series.specs.declared.series.Series.{Series}
-
-by_bool : {Q : Type 0} (b : Bool) → (b ≡ true → Q) → (b ≡ false → Q) → Q
-by_bool true f g = f refl
-by_bool false f g = g refl
-
-neither : (a b : Bool) → (a || b) ≡ false → (a ≡ false) × (b ≡ false)
-neither true b h = cc
-neither false b h = (refl, h)
 
 -- Two tests that agree on conditions without times.
 module _ (t u : List Pair → Bool) (same : (ps : List Pair) → asks_time ps ≡ false → t ps ≡ u ps) where
@@ -52,7 +46,7 @@ module _ (t u : List Pair → Bool) (same : (ps : List Pair) → asks_time ps �
     items_same : (is : Items) → some_true (said_items (meaning_of time) is) ≡ false → said_items (holding t) is ≡ said_items (holding u) is
     items_same no_items h = refl
     items_same (item d is) h =
-        let parts = neither (said (meaning_of time) d) (some_true (said_items (meaning_of time) is)) h in
+        let parts = or_parts (said (meaning_of time) d) (some_true (said_items (meaning_of time) is)) h in
         λ i. data_same d parts.0 i ∷ items_same is parts.1 i
 
 condition_same : (clock : TzText) (s t : Option Series) (r q : Option TzText) (event : Data) (ps : List Pair) → asks_time ps ≡ false → meets_condition clock s r event ps ≡ meets_condition clock t q event ps
