@@ -1,5 +1,5 @@
 -- Arguments, taken apart: their keys rise, and they tell what the arguments come to.
-use Rattle.std.proofs.Common.{◌≡◌, ◌≤◌, ℕ, List, [], ◌∷◌, ◌==◌, Bool, true, false, Option, Some, None, Result, Ok, Err, IfErr, IfSome, IsErrAnd, nat_lt, option_map, option_and_then, filter, map, drop, refl, sym, ap, ◌∙◌, subst}
+use Rattle.std.proofs.Common.{◌≡◌, ◌≤◌, ℕ, List, [], ◌∷◌, ◌==◌, Bool, true, false, Option, Some, None, IfSome, nat_lt, option_map, option_and_then, filter, map, drop, refl, sym, ap, ◌∙◌, subst}
 use Rattle.std.proofs.lemmas.Bool.{and_from, eqb-true, and_parts, le-ltb}
 use Rattle.std.specs.Cmp.Lexicographic.{slice_cmp}
 use Rattle.std.specs.List.{list_any}
@@ -107,8 +107,3 @@ reports_bad BothForms rs arguments references f h r n = absurd n
 reports_bad BadReference rs arguments references f h r n = resolution_of_parts rs arguments f h ∙ ap (λ found. with_referred arguments found) (ap (λ ps. all_some (λ q. with_value rs q) ps) (sym r) ∙ n)
 reports_bad (TooLarge size) rs arguments references f h r n = absurd n
 reports_bad NoMemory rs arguments references f h r n = tt
-
--- an error that is passed on says the same
-pub passed_on : {X : Type 0} (r : Result X ReferenceError) (e : ReferenceError) (P : ReferenceError → Type 0) → IsErrAnd r (λ error. error ≡ e) → P e → IfErr r P
-passed_on (Ok x) e P h p = tt
-passed_on (Err error) e P h p = subst P (sym h) p

@@ -1,11 +1,11 @@
 use Rattle.std.proofs.Common.{◌≡◌, false, arith, refl}
 use Rattle.std.proofs.lemmas.Grind.{common_steps}
 use Rattle.std.specs.List.{list_any}
-use Rattle.spec_batch.specs.References.{has_both_forms, has_too_many, resolution}
-use Rattle.result_refs.proofs.PartedLemmas.{passed_on, reports_bad, resolved_by_parts}
+use Rattle.std.proofs.lemmas.Result.{err_from_is_err_and}
+use Rattle.spec_batch.specs.References.{has_both_forms, has_too_many}
+use Rattle.result_refs.proofs.PartedLemmas.{reports_bad, resolved_by_parts}
 use Rattle.result_refs.proofs.ReferredLemmas.{are_small, reports_large}
 use Rattle.result_refs.specs.Parted.{references_in}
-use Rattle.result_refs.specs.Reports.{Reports}
 use Rattle.result_refs.proofs.arguments.resolve.Goals as goal
 
 pub returns-in_err-size-clause-err : goal.returns-in_err-size-clause-err
@@ -13,7 +13,8 @@ returns-in_err-size-clause-err c =
     let few : has_too_many c.args.arguments ≡ false = grind (arith, common_steps) in
     let one_form : list_any (λ p. has_both_forms c.args.arguments p) c.args.arguments ≡ false = grind (arith, common_steps) in
     let bad = reports_bad c.in_err-size.field-0.0 c.args.responses.now c.args.arguments (references_in c.args.arguments) few one_form refl c.in_err-size.ensures.err in
-    passed_on c.from_residual.result c.in_err-size.field-0.0 (λ error. Reports error (resolution c.args.responses.now c.args.arguments)) c.from_residual.ensures.1 bad
+    let passed = err_from_is_err_and c.from_residual.result c.from_residual.ensures.1 in
+    rw (passed.1, passed.2) bad
 
 pub returns-then-size-gt-MAX_REFERRED_BYTES-clause-err : goal.returns-then-size-gt-MAX_REFERRED_BYTES-clause-err
 returns-then-size-gt-MAX_REFERRED_BYTES-clause-err c =
@@ -26,7 +27,8 @@ returns-in_err-values-clause-err c =
     let few : has_too_many c.args.arguments ≡ false = grind (arith, common_steps) in
     let one_form : list_any (λ p. has_both_forms c.args.arguments p) c.args.arguments ≡ false = grind (arith, common_steps) in
     let bad = reports_bad c.in_err-values.field-0.0 c.args.responses.now c.args.arguments c.in_ok-parted.parted.references few one_form c.in_ok-parted.ensures.references c.in_err-values.ensures.err in
-    passed_on c.from_residual-in_err-values.result c.in_err-values.field-0.0 (λ error. Reports error (resolution c.args.responses.now c.args.arguments)) c.from_residual-in_err-values.ensures.1 bad
+    let passed = err_from_is_err_and c.from_residual-in_err-values.result c.from_residual-in_err-values.ensures.1 in
+    rw (passed.1, passed.2) bad
 
 pub returns-clause-ok : goal.returns-clause-ok
 returns-clause-ok c =
