@@ -1,7 +1,7 @@
 -- The rule of the lock's table makes the table a ticket lock.
-use Rattle.std.proofs.Common.{◌≡◌, ℕ, zero, suc, ◌<◌, ◌≤◌, List, [], ◌∷◌, length, sym, refl, ap, ◌∙◌, subst, ⊎_elim, arith, Option, Some, None, slice_get}
+use Rattle.std.proofs.Common.{◌≡◌, ℕ, zero, suc, ◌<◌, ◌≤◌, List, [], ◌∷◌, length, sym, refl, ap, ◌∙◌, subst, ⊎_elim, arith, Option, Some, slice_get}
 use Rattle.std.specs.Prelude.{slice_index_or}
-use Rattle.std.proofs.lemmas.Option.{same_Some}
+use Rattle.std.proofs.lemmas.Option.{none-some, same_Some}
 use mathlib.Core.Option.{some}
 use Rattle.atomic_table.specs.Table.{State}
 use Rattle.spec_history.specs.Base.{Base}
@@ -46,9 +46,6 @@ turns_in_order (e ∷ es) rise zero (suc j) d le less = each_turn_from e.turn es
 turns_in_order (e ∷ es) rise (suc i) zero d le less = absurd (omega arith)
 turns_in_order (e ∷ es) rise (suc i) (suc j) d le less = turns_in_order es rise.1 i j d (omega arith) (omega arith)
 
-some_is_none : {B : Type 0} (b : B) → Some b ≡ None → ⊥
-some_is_none b is = cc
-
 module _ {B : Type 0} (entries : B → List Entry) (base : B → Base) where
   pub ticket_lock : (o : List Entry) (z : Base) (s : State (Option B) PassView) → RuleHolds entries base o z s → IsTicketLock entries base o z (lock_of s)
   ticket_lock o z s r =
@@ -63,14 +60,14 @@ module _ {B : Type 0} (entries : B → List Entry) (base : B → Base) where
         met = λ k low high. let m = r.tickets.met k low high in (m.0, m.1, get m.0 m.1 m.2, m.3, m.4);
         served = λ i v is. r.tickets.served i v (at i v is);
         taken = λ empty. ⊎_elim
-            (λ home. absurd (some_is_none home.0 (sym (ap slot_of home.1) ∙ empty)))
+            (λ home. absurd (none-some home.0 (sym empty ∙ ap slot_of home.1)))
             (λ out. let m = out.1 in (m.0, m.1, get m.0 m.1 m.2, m.3)) r.slot;
         history = r.history;
         known = (let m = r.told.known in (m.0, m.1, get m.0 m.1 m.2, m.3));
         counted = r.told.counted;
         in_slot = λ b full. ⊎_elim
             (λ home. subst (λ (b : B). (base b ≡ z) × (entries b ≡ r.history)) (same_Some home.0 b (sym (ap slot_of home.1) ∙ full)) (home.2, home.3))
-            (λ out. absurd (some_is_none b (sym full ∙ ap slot_of out.0))) r.slot;
+            (λ out. absurd (none-some b (sym (ap slot_of out.0) ∙ full))) r.slot;
         in_hand = λ i v is. r.told.in_hand i v (at i v is);
         seen = λ i v is. let k = r.told.seen i v (at i v is) in (k.0, k.1, ap (λ (a : ℕ). written_by a k.0) (number i v is) ∙ k.2, k.3);
         read = λ i v is. r.told.read i v (at i v is);
