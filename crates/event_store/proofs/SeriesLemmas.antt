@@ -1,7 +1,7 @@
 -- What stands beside an event is its series.
 use Rattle.std.proofs.Common.{◌≡◌, ℕ, zero, suc, Bool, true, false, if◌then◌else◌, List, [], ◌∷◌, ◌++◌, Option, None, Some, map, option_and_then, option_map, slice_get, ap, refl, ◌∙◌}
 use Rattle.std.specs.Option.{option_flatten}
-use Rattle.std.proofs.lemmas.Option.{none-some}
+use Rattle.std.proofs.lemmas.Option.{none-some, slice_get-map}
 use Rattle.account_store.specs.Places.{object_in}
 use Rattle.event_store.specs.SeriesLog.{AreRead}
 use Rattle.spec_bookings.specs.SeriesPut.{series_put}
@@ -15,17 +15,12 @@ use Rattle.spec_recurrence.specs.SeriesOf.{series_in}
 use Rattle.spec_series.specs.declared.series.Series.{Series}
 use Rattle.spec_site.specs.TimeZones.{ZoneText}
 
-change_there : (es : List Entry) (place : ℕ) (e : Entry) → slice_get es place ≡ Some e → slice_get (changes_of es) place ≡ Some e.change
-change_there [] place e h = absurd (none-some e h)
-change_there (x ∷ es) zero e h = ap (option_map (λ (x : Entry). x.change)) h
-change_there (x ∷ es) (suc place) e h = change_there es place e h
-
 module _ (zones : List ZoneText) (es : List Entry) (ss : List (Option Series)) (place : ℕ) (t : Tree) (read : AreRead zones (changes_of es) ss) where
   of_entry : (e : Entry) → slice_get es place ≡ Some e → (b : Bool) → is_kind Event e.change.kind ≡ b → (if b then e.change.object else None) ≡ Some t
       → option_flatten (slice_get ss place) ≡ series_in zones (data_of t)
   of_entry e there false is h = absurd (none-some t h)
   of_entry e there true is h =
-      ap option_flatten (read place e.change (change_there es place e there))
+      ap option_flatten (read place e.change (slice_get-map (λ (x : Entry). x.change) es place ∙ ap (option_map (λ (x : Entry). x.change)) there))
       ∙ ap (λ b. if b then option_and_then (λ (u : Tree). series_in zones (data_of u)) e.change.object else None) is
       ∙ ap (option_and_then (λ (u : Tree). series_in zones (data_of u))) h
 
