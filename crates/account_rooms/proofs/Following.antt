@@ -1,11 +1,13 @@
 -- The rooms of an account after a change that fits.
-use Rattle.std.proofs.Common.{◌≡◌, ◌≤◌, ◌⊎◌, inl, inr, ◌==◌, ◌&&◌, ◌||◌, Bool, true, false, not, cond, ℕ, List, [], ◌∷◌, ◌++◌, Option, None, Some, filter, is_some, length, map, option_and_then, if◌then◌else◌, arith, refl, sym, ap, subst, ◌∙◌, append-nil}
-use Rattle.std.proofs.lemmas.Bool.{false≢true}
-use Rattle.std.proofs.lemmas.List.Elements.{filter-append}
+use Rattle.std.proofs.Common.{◌≡◌, ◌≤◌, ◌⊎◌, inl, inr, ◌==◌, ◌||◌, Bool, true, false, not, cond, ℕ, List, [], ◌∷◌, ◌++◌, Option, None, Some, filter, is_some, length, map, option_and_then, if◌then◌else◌, arith, refl, sym, ap, subst, ◌∙◌, append-nil}
+use Rattle.std.proofs.lemmas.Bool.{and_parts, false≢true, not-false}
+use Rattle.std.proofs.lemmas.List.Elements.{filter-append, filter_agree}
 use Rattle.std.specs.List.{list_all}
+use Rattle.std.proofs.lemmas.Option.{none-some}
+use Rattle.std.proofs.lemmas.List.{map_push}
 use Rattle.account_rooms.proofs.Changes.{calendar_bookings, calendar_now, change, event_bookings, event_leaves_calendars, event_leaves_resources, ids_from-push, is_of_resource, resource_now, with_known, with_new}
 use Rattle.account_rooms.proofs.Counts.{length-with, length-without}
-use Rattle.account_rooms.proofs.Numbers.{any_object, filter_gone, filter_same, filter_without, not_in_filter}
+use Rattle.account_rooms.proofs.Numbers.{any_object, filter_gone, filter_without, not_in_filter}
 use Rattle.account_rooms.specs.RoomChanges.{MayChange, booked_again, booked_with, rooms_after, rooms_by, with_room, without_room}
 use Rattle.account_rooms.specs.Rooms.{AreFree, AreRooms, BookedRoom, bookings_in, has_room, room_at, rooms_at}
 use Rattle.cal_model.specs.EventObject.{has_event, names_missing_calendar}
@@ -69,10 +71,6 @@ rooms_without zones cs id (n ∷ ns) = by_cases (n == id) (rooms_without zones c
     by_cases true h = h
     by_cases false h = ap (λ rs. room_at zones cs n ∷ rs) h
 
-rooms_end : (zones : List ZoneText) (cs : List Change) (id : ℕ) (ns : List ℕ) → map (room_at zones cs) (ns ++ id ∷ []) ≡ map (room_at zones cs) ns ++ room_at zones cs id ∷ []
-rooms_end zones cs id [] = refl
-rooms_end zones cs id (n ∷ ns) = ap (λ rs. room_at zones cs n ∷ rs) (rooms_end zones cs id ns)
-
 live_is_numbered : (cs : List Change) (kind : Kind) (n : ℕ) → is_some (live_object cs kind n) ≡ true → is_in (ids_at cs kind) n ≡ true
 live_is_numbered cs kind n h = numbered_if_live cs kind n None [] (λ e. absurd (false≢true e)) h
 
@@ -105,7 +103,7 @@ module _ (zones : List ZoneText) (cs : List Change) (id : ℕ) (o : Option Tree)
 event_rooms : (zones : List ZoneText) (cs : List Change) (id : ℕ) (o : Option Tree) → map (booked_again id o (put_series zones o)) (rooms_at zones cs) ≡ rooms_at zones (event_after zones cs id o)
 event_rooms zones cs id o =
     rooms_booked zones cs id o (resources_at cs)
-    ∙ ap (map (room_at zones (event_after zones cs id o))) (sym (filter_same (is_resource (event_after zones cs id o)) (is_resource cs) (ids_at cs Calendar) (event_leaves_resources cs id o))
+    ∙ ap (map (room_at zones (event_after zones cs id o))) (sym (filter_agree (is_resource (event_after zones cs id o)) (is_resource cs) (event_leaves_resources cs id o) (ids_at cs Calendar))
     ∙ ap (filter (is_resource (event_after zones cs id o))) (sym (ids_from-push cs [] (change Event id o) Calendar)))
 
 booked_by_cases : (P : List Booking → Type 0) (zones : List ZoneText) (n id : ℕ) (t : Tree) (bs : List Booking)
@@ -131,10 +129,6 @@ event_few zones cs id (Some t) fit n r few =
     rw takes.valid (omega (arith, length-with id takes.series (without_booking id (bookings_of zones cs n)), takes.room)))
     (omega (arith, length-without id (bookings_of zones cs n), few))
 
-and_parts : (a b : Bool) → (a && b) ≡ true → (a ≡ true) × (b ≡ true)
-and_parts true b h = (refl, h)
-and_parts false b h = absurd (false≢true h)
-
 all_of : (p : ℕ → Bool) (ns : List ℕ) (n : ℕ) → list_all p ns ≡ true → is_in ns n ≡ true → p n ≡ true
 all_of p [] n h g = absurd (false≢true g)
 all_of p (m ∷ ns) n h g =
@@ -145,15 +139,11 @@ all_of p (m ∷ ns) n h g =
     by_cases true e r first rest = ap p (sym (same_number m n e)) ∙ first
     by_cases false e r first rest = rest r
 
-not_false : (b : Bool) → not b ≡ false → b ≡ true
-not_false true h = refl
-not_false false h = sym h
-
 -- a calendar that an event is in is live
 named_is_live : (cs : List Change) (t : Tree) (n : ℕ) → names_missing_calendar cs (data_of t) ≡ false → names_calendar n (data_of t) ≡ true → live_object cs Calendar n ≡ None → ⊥
 named_is_live cs t n h named gone =
     let live : is_some (live_object cs Calendar n) ≡ true =
-    all_of (λ m. is_some (live_object cs Calendar m)) (calendars_of (data_of t)) n (not_false (list_all (λ m. is_some (live_object cs Calendar m)) (calendars_of (data_of t))) h) named in
+    all_of (λ m. is_some (live_object cs Calendar m)) (calendars_of (data_of t)) n (not-false (list_all (λ m. is_some (live_object cs Calendar m)) (calendars_of (data_of t))) h) named in
     false≢true (sym (ap is_some gone) ∙ live)
 
 event_none : (zones : List ZoneText) (cs : List Change) (id : ℕ) (o : Option Tree) → IsObjectFit zones cs Event id o → (n : ℕ) → live_object cs Calendar n ≡ None → bookings_of zones cs n ≡ []
@@ -194,10 +184,7 @@ not_booked zones cs n none m = live_booked (booked_in zones n) cs m ∙ by_cases
 
 nothing_booked : (bs : List Booking) → ((m : ℕ) → series_booked m bs ≡ None) → bs ≡ []
 nothing_booked [] h = refl
-nothing_booked (b ∷ bs) h = absurd (some_none (sym (ap (λ t. if t then Some b.series else series_booked b.number bs) (number_same b.number b.number refl)) ∙ h b.number))
-  where
-    some_none : Some b.series ≡ None → ⊥
-    some_none e = cc e
+nothing_booked (b ∷ bs) h = absurd (none-some b.series (sym (h b.number) ∙ ap (λ t. if t then Some b.series else series_booked b.number bs) (number_same b.number b.number refl)))
 
 module _ (cs : List Change) (id : ℕ) (o : Option Tree) where
   abbrev calendar_after : List Change
@@ -209,7 +196,7 @@ module _ (cs : List Change) (id : ℕ) (o : Option Tree) where
 
 resources_after : (cs : List Change) (id : ℕ) (o : Option Tree) → resources_at (calendar_after cs id o) ≡ filter (is_resource_after cs id o) (with_id (ids_at cs Calendar) id)
 resources_after cs id o =
-    filter_same (is_resource (calendar_after cs id o)) (is_resource_after cs id o) (ids_at (calendar_after cs id o) Calendar) (resource_now cs id o)
+    filter_agree (is_resource (calendar_after cs id o)) (is_resource_after cs id o) (resource_now cs id o) (ids_at (calendar_after cs id o) Calendar)
     ∙ ap (filter (is_resource_after cs id o)) (ids_from-push cs [] (change Calendar id o) Calendar)
 
 calendar_rooms : (zones : List ZoneText) (cs : List Change) (id : ℕ) (o : Option Tree) → rooms_at zones (calendar_after cs id o) ≡ map (room_at zones cs) (resources_at (calendar_after cs id o))
@@ -268,7 +255,7 @@ created_rooms zones cs id t none new = by_cases (is_some (zone_of_resource t)) r
         ap (λ z. if z then with_room id (rooms_at zones cs) else rooms_at zones cs) e
         ∙ with_room_by id (rooms_at zones cs) false (no_room zones cs id (no_resource cs id (not_live cs id new)))
         ∙ ap (λ bs. rooms_at zones cs ++ record { calendar = id; bookings = bs } ∷ []) (sym none)
-        ∙ sym (ap (λ ns. map (room_at zones cs) (resources_at cs ++ ns)) (tested id true (number_same id id refl) e) ∙ rooms_end zones cs id (resources_at cs))
+        ∙ sym (ap (λ ns. map (room_at zones cs) (resources_at cs ++ ns)) (tested id true (number_same id id refl) e) ∙ map_push (room_at zones cs) (resources_at cs) id)
     by_cases false e =
         ap (λ z. if z then with_room id (rooms_at zones cs) else rooms_at zones cs) e
         ∙ sym (ap (λ ns. map (room_at zones cs) (resources_at cs ++ ns)) (tested id false (number_same id id refl) e) ∙ ap (map (room_at zones cs)) (append-nil (resources_at cs)))
@@ -285,7 +272,7 @@ updated_rooms zones cs id t known same = by_cases (is_resource cs id) refl ∙ s
     listed =
         resources_after cs id (Some t)
         ∙ ap (filter (is_resource_after cs id (Some t))) (with_known (ids_at cs Calendar) id known)
-        ∙ filter_same (is_resource_after cs id (Some t)) (is_resource cs) (ids_at cs Calendar) tested
+        ∙ filter_agree (is_resource_after cs id (Some t)) (is_resource cs) tested (ids_at cs Calendar)
 
     by_cases : (z : Bool) → is_resource cs id ≡ z → rooms_by Calendar id (Some t) None (rooms_at zones cs) ≡ rooms_at zones cs
     by_cases true e =
@@ -317,12 +304,9 @@ calendar_none : (zones : List ZoneText) (cs : List Change) (id : ℕ) (o : Optio
     → (n : ℕ) → live_object (calendar_after cs id o) Calendar n ≡ None → bookings_of zones (calendar_after cs id o) n ≡ []
 calendar_none zones cs id o none fit n gone = calendar_bookings zones cs id o n ∙ by_cases (n == id) refl (sym (calendar_now cs id o n) ∙ gone)
   where
-    some_none : (t : Tree) → Some t ≡ None → ⊥
-    some_none t e = cc e
-
     removed : (q : Option Tree) → IsObjectFit zones cs Calendar id q → q ≡ None → bookings_of zones cs id ≡ []
     removed None f e = nothing_booked (bookings_of zones cs id) (not_booked zones cs id f)
-    removed (Some t) f e = absurd (some_none t e)
+    removed (Some t) f e = absurd (none-some t (sym e))
 
     by_cases : (same : Bool) → (n == id) ≡ same → (if same then o else live_object cs Calendar n) ≡ None → bookings_of zones cs n ≡ []
     by_cases true e g = ap (bookings_of zones cs) (same_number n id e) ∙ removed o fit g

@@ -1,16 +1,12 @@
 -- Numbers that pass a test.
 use Rattle.std.proofs.Common.{◌≡◌, ◌==◌, ◌||◌, Bool, true, false, not, cond, ℕ, List, [], ◌∷◌, Option, Some, filter, flat_map, if◌then◌else◌, refl, sym, ap, ◌∙◌}
-use Rattle.std.proofs.lemmas.Bool.{false≢true}
+use Rattle.std.proofs.lemmas.Bool.{false≢true, or_right}
 use Rattle.std.proofs.lemmas.List.Folds.{list_any-append}
 use Rattle.std.specs.List.{list_any}
 use Rattle.spec_history.specs.History.{some_object}
 use Rattle.spec_history.specs.Pages.{is_in}
 use Rattle.spec_json.specs.declared.tree.Tree.{Tree}
 use Rattle.spec_bookings.proofs.Tables.{or_false, same_number}
-
-pub filter_same : (p q : ℕ → Bool) (ns : List ℕ) → ((n : ℕ) → p n ≡ q n) → filter p ns ≡ filter q ns
-filter_same p q [] h = refl
-filter_same p q (n ∷ ns) h = rw (h n, filter_same p q ns h) refl
 
 other_test : (p : ℕ → Bool) (b same : Bool) (id n : ℕ) → (n == id) ≡ same → same ≡ false → (if n == id then b else p n) ≡ p n
 other_test p b same id n e f = rw (e, f) refl
@@ -49,10 +45,6 @@ pub any_object : (at : ℕ → Option Tree) (p : Tree → Bool) (ids : List ℕ)
 any_object at p [] id t h e passes = absurd (false≢true h)
 any_object at p (n ∷ ns) id t h e passes = list_any-append p (some_object (at n)) (flat_map (λ n. some_object (at n)) ns) ∙ by_cases (n == id) refl h (λ g. any_object at p ns id t g e passes)
   where
-    or_right : (a b : Bool) → b ≡ true → (a || b) ≡ true
-    or_right true b g = refl
-    or_right false b g = g
-
     by_cases : (same : Bool) → (n == id) ≡ same → (same || is_in ns id) ≡ true → (is_in ns id ≡ true → list_any p (flat_map (λ n. some_object (at n)) ns) ≡ true)
         → (list_any p (some_object (at n)) || list_any p (flat_map (λ n. some_object (at n)) ns)) ≡ true
     by_cases true f g rest = rw (same_number n id f, e, passes) refl

@@ -16,6 +16,7 @@ use Rattle.spec_history.specs.declared.entry.Change.{Change}
 use Rattle.spec_history.specs.History.{next_number}
 use Rattle.spec_history.specs.declared.entry.Kind.{Kind}
 use Rattle.spec_history.specs.declared.entry.Kind.TheVariants.{Calendar, Event}
+use Rattle.spec_json.proofs.Options.{by_option}
 use Rattle.spec_json.specs.Data.{Data, Pair, lookup}
 use Rattle.spec_json.specs.Parts.{members_in}
 use Rattle.spec_json.specs.Patch.{patched}
@@ -28,10 +29,6 @@ use Rattle.spec_bookings.specs.Resources.{resources_of}
 use Rattle.spec_bookings.specs.Clashes.{second_of}
 use Rattle.spec_bookings.specs.declared.clash.Clash.{Clash}
 use Rattle.spec_series.specs.declared.series.Series.{Series}
-
-by_option : {A Q : Type 0} (o : Option A) → (o ≡ None → Q) → ((x : A) → o ≡ Some x → Q) → Q
-by_option None f g = f refl
-by_option (Some x) f g = g x refl
 
 -- ---- The last of the refusals.
 

@@ -1,8 +1,9 @@
 -- The first clash of any series and bookings is the least second that is one, over all days without end.
-use Rattle.std.proofs.Common.{◌≡◌, ℕ, zero, suc, ◌*◌, ◌≤◌, ◌^◌, ℤ, pos, negsuc, ◌+ℤ◌, ◌-ℤ◌, ◌≤ℤ◌, ◌<ℤ◌, inl, inr, Bool, true, false, List, Option, Some, None, MatchOption, option_map, refl, ap, arith, subst, mul_comm, mul-le-mul, if◌then◌else◌}
+use Rattle.std.proofs.Common.{◌≡◌, ℕ, zero, suc, ◌*◌, ◌≤◌, ◌^◌, ℤ, pos, negsuc, ◌+ℤ◌, ◌-ℤ◌, ◌≤ℤ◌, ◌<ℤ◌, inl, inr, Bool, true, false, List, Option, Some, None, MatchOption, option_map, refl, ap, arith, subst, mul_comm, mul-le-mul}
 use Rattle.std.specs.Prelude.{find}
 use Rattle.std.proofs.lemmas.Int.{by_lt_z}
 use Rattle.jiff_core.proofs.SignedLemmas.{signed_arith}
+use Rattle.spec_bookings.proofs.Tables.{by_test}
 use Rattle.spec_bookings.specs.declared.booking.Booking.{Booking}
 use Rattle.spec_bookings.specs.Clashes.{IsClash, clash_at, first_clash, is_clash, second_of}
 use Rattle.spec_series.specs.Occurrences.{Covers, IsOccurrence}
@@ -17,10 +18,6 @@ use Rattle.rule_expand.specs.Least.{IsLeastOf}
 use Rattle.account_rooms.proofs.Earlier.{again, back, bounds, earlier}
 
 -- ---- The search.
-
-by_test : {X : Type 0} (P : X → Type 0) (b : Bool) (x y : X) → (b ≡ true → P x) → (b ≡ false → P y) → P (if b then x else y)
-by_test P true x y f g = f refl
-by_test P false x y f g = g refl
 
 -- the least number from one on, less than another, that passes a test
 abbrev LeastWithin : (ℤ → Bool) → ℤ → ℤ → Option ℤ → Type 0

@@ -1,6 +1,6 @@
 -- Lists of slots, one step after the other.
 use Rattle.std.proofs.Common.{◌≡◌, ◌+◌, ◌<◌, ◌==◌, ◌&&◌, ◌||◌, Bool, true, false, ℕ, zero, suc, List, [], ◌∷◌, ◌++◌, Option, Some, add-one, arith, drop, filter, get_or, length, map, refl, set, subst, sym, take, ap, ◌∙◌}
-use Rattle.std.proofs.lemmas.Bool.{false≢true}
+use Rattle.std.proofs.lemmas.Bool.{false≢true, or_right}
 use Rattle.std.proofs.lemmas.Option.{same_Some}
 use Rattle.std.specs.List.{list_any}
 use Rattle.account_rooms.specs.RoomChanges.{IsShortSeries, booked_again, without_room}
@@ -172,10 +172,6 @@ taken n t series (s ∷ ss) = taken_one n t series s.calendar s.room s.live (nam
 
 abbrev MayBook : List BookedRoom → Tree → Option Series → Type 0
 MayBook rs t series = (n : ℕ) → has_room n rs ≡ true → names_calendar n (data_of t) ≡ true → IsShortSeries series
-
-or_right : (a b : Bool) → b ≡ true → (a || b) ≡ true
-or_right true b h = refl
-or_right false b h = h
 
 short_one : (t : Tree) (series : Option Series) (m : ℕ) (r : RoomView) (lives named there : Bool) (ss : List Slot) → names_calendar m (data_of t) ≡ named → ((lives && named) || there) ≡ true
     → MayBook (rooms_now (slot m r lives ∷ ss)) t series → (MayBook (rooms_now ss) t series → there ≡ true → IsShortSeries series) → IsShortSeries series
