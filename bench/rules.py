@@ -1,7 +1,7 @@
 #!/usr/bin/env python3
 """Measures how long `next_from`, `next_until` and `last_day` take, and the same expansions by python3-dateutil.
 
-Build the program first, by `rt run < stdin` in crates/rule_rows. Times are of the processor, the best of three.
+Build the program first, by `rt run < stdin` in crates/rule_rows. Times are of the processor, the best of three rounds, or of fifty short ones.
 """
 import datetime
 import json
@@ -28,25 +28,39 @@ RULES = {
     "yearly": ({"frequency": "yearly"}, {"freq": rrule.YEARLY}),
     "yearly, 60th day": ({"frequency": "yearly", "byYearDay": [60]}, {"freq": rrule.YEARLY, "byyearday": 60}),
 }
+YEARS = (2024, 2500, 9000)
+ROUNDS = 50
+TIMES = 300_000
 NEVER = {"byMonth": ["2"], "byMonthDay": [30]}
 # After 2320-02-29 the next such day lies 241,768 years on, more than half of a cycle of 400 years' days in phase.
 FAR = {"frequency": "daily", "interval": 970, "byMonth": ["2"], "byMonthDay": [29], "byDay": [{"day": "su"}]}
 
 
-def spent(rows):
+def spent_once(rows):
     """Seconds of the processor that the program takes for these rows."""
     text = "=== rules\n" + "".join(json.dumps(row) + "\nx\n" for row in rows)
-    times = []
-    for _ in range(3):
-        before = resource.getrusage(resource.RUSAGE_CHILDREN).ru_utime
-        subprocess.run([PROGRAM], input=text.encode(), stdout=subprocess.DEVNULL, check=True)
-        times.append(resource.getrusage(resource.RUSAGE_CHILDREN).ru_utime - before)
-    return min(times)
+    before = resource.getrusage(resource.RUSAGE_CHILDREN).ru_utime
+    subprocess.run([PROGRAM], input=text.encode(), stdout=subprocess.DEVNULL, check=True)
+    return resource.getrusage(resource.RUSAGE_CHILDREN).ru_utime - before
+
+
+def spent(rows):
+    return min(spent_once(rows) for _ in range(3))
 
 
 def each(rule, year, times, **more):
     row = {"start": "2024-01-15T09:00:00", "from": "%d-01-15T09:00:00" % year, "rules": [rule], **more}
     return (spent([dict(row, times=times)]) - spent([dict(row, times=0)])) / times
+
+
+def from_years(rule):
+    """Seconds of the next day from each year: the least of many short rounds, in which the years take turns, since the processor's speed changes from one second to the next."""
+    rounds = []
+    for _ in range(ROUNDS):
+        row = {"start": "2024-01-15T09:00:00", "rules": [rule]}
+        asked = [dict(row, **{"from": "%d-01-15T09:00:00" % year}) for year in YEARS]
+        rounds.append([(spent_once([dict(it, times=TIMES)]) - spent_once([dict(it, times=0)])) / TIMES for it in asked])
+    return [min(seconds) for seconds in zip(*rounds)]
 
 
 def by_dateutil(words, times):
@@ -59,10 +73,11 @@ def by_dateutil(words, times):
 
 def main():
     for name, (rule, words) in RULES.items():
-        here = ["%.0f ns" % (each(rule, year, 1_000_000) * 1e9) for year in (2024, 2500, 9000)]
+        seconds = from_years(rule)
+        here = ["%.0f ns" % (it * 1e9) for it in seconds]
         # dateutil has no dates that are moved
         theirs = "none" if words is None else "%.0f ns" % (by_dateutil(words, 2000) * 1e9)
-        print(f"{name}: from 2024, 2500, 9000 {', '.join(here)}; dateutil {theirs}")
+        print(f"{name}: from 2024, 2500, 9000 {', '.join(here)}, ratio {max(seconds) / min(seconds):.2f}; dateutil {theirs}")
     for frequency in ("daily", "weekly", "monthly", "yearly"):
         print(f"{frequency}, never again: {each(dict(NEVER, frequency=frequency), 2024, 20) * 1e3:.2f} ms")
         in_a_night = each(dict(NEVER, frequency=frequency), 2024, 100_000, to="2024-01-16T09:00:00")
