@@ -1,4 +1,5 @@
-use Rattle.std.proofs.Common.{◌≡◌, ◌∙◌, ℤ, pos, ◌-ℤ◌, ◌*ℤ◌, Bool, true, false, Option, Some, None, if◌then◌else◌, refl, ap, arith}
+use Rattle.std.proofs.Common.{◌≡◌, ◌∙◌, ℤ, pos, ◌-ℤ◌, ◌*ℤ◌, Bool, true, false, Option, Some, None, if◌then◌else◌, is_some, refl, sym, ap, arith}
+use Rattle.std.specs.Prelude.{option_map}
 use Rattle.jiff_core.specs.declared.Offset.{Offset}
 use Rattle.jiff_core.specs.declared.civil.datetime.DateTime.{DateTime}
 use Rattle.jiff_core.specs.DateTime.{civil_nanos}
@@ -16,7 +17,7 @@ use Rattle.spec_time.specs.Walls.{day_of_wall}
 use Rattle.civil_days.proofs.JiffLemmas.{IsDateOf_later}
 use Rattle.civil_days.proofs.DateLemmas.{one_date}
 use Rattle.spec_events.specs.Values.{is_showing}
-use Rattle.spec_windows.specs.Clocks.{change_at, reading_behind, reading_ahead, reading_by, reading_at, instant_in, instant_of}
+use Rattle.spec_windows.specs.Clocks.{Once, change_at, reading_behind, reading_ahead, reading_by, reading_at, instant_in, instant_of}
 use Rattle.zone_instants.specs.Offsets.{reading_of}
 
 reading_if : (b : Bool) (x y : AmbiguousOffset) → reading_of (if b then x else y) ≡ (if b then reading_of x else reading_of y)
@@ -64,6 +65,17 @@ instant-is tz dt w r e h s =
     rw s (ap (λ x. Some x) (h ∙ ap (instant_of w) (at-is tz dt)
     ∙ ap (λ y. instant_of w (reading_at (tz_view tz) y (civil_nanos dt))) (year_of_wall dt w e)
     ∙ ap (λ n. instant_of w (reading_at (tz_view tz) (year_of (day_of_wall w)) n)) e))
+
+fixed-reading : (tz : TzText) (y at : ℤ) (o : Option Dst) → tz.dst ≡ option_map dst_view o → is_some o ≡ false → reading_at tz y at ≡ Once tz.std_seconds
+unfolding reading_at
+fixed-reading tz y at None e h = rw e refl
+fixed-reading tz y at (Some d) e h = cc
+
+-- by a rule without daylight saving time
+pub instant-fixed : (tz : TimeZone) (w r : ℤ) → is_some tz.dst ≡ false → r ≡ w -ℤ tz.std_offset.seconds → is_showing w ≡ true → Some r ≡ instant_in (tz_view tz) w
+unfolding instant_in
+instant-fixed tz w r fixed e s =
+    rw s (ap (λ x. Some x) (e ∙ ap (instant_of w) (sym (fixed-reading (tz_view tz) (year_of (day_of_wall w)) (w *ℤ pos 1000000000) tz.dst refl fixed))))
 
 pub instant-none : (tz : TzText) (w : ℤ) → is_showing w ≡ false → instant_in tz w ≡ None
 unfolding instant_in

@@ -7,6 +7,7 @@ ghost use Rattle.spec_events.specs.Values.{is_showing};
 ghost use Rattle.spec_windows.specs.Clocks.{instant_in, instant_of};
 ghost use Rattle.zone_instants.specs.Offsets.{reading_of};
 
+use jiff_core::Offset;
 use jiff_core::civil::DateTime;
 use jiff_tz::AmbiguousOffset;
 use jiff_tz::posix::TimeZone;
@@ -24,11 +25,11 @@ fn datetime_of(wall: i64) -> DateTime
 }
 
 // The instant by an offset.
-fn at_offset(wall: i64, seconds: i32) -> i64
+fn at_offset(wall: i64, offset: Offset) -> i64
     requires { is_showing wall ≡ true }
-    ensures { result ≡ wall -ℤ seconds }
+    ensures { result ≡ wall -ℤ offset.seconds }
 {
-    wall - seconds as i64
+    wall - offset.seconds as i64
 }
 
 // The instant by the offsets that a clock shows.
@@ -37,10 +38,10 @@ fn by_offsets(wall: i64, offsets: AmbiguousOffset) -> i64
     ensures { result ≡ instant_of wall (reading_of offsets) }
 {
     match offsets {
-        AmbiguousOffset::Unambiguous { offset } => at_offset(wall, offset.seconds),
-        AmbiguousOffset::Gap { before, .. } => at_offset(wall, before.seconds),
+        AmbiguousOffset::Unambiguous { offset } => at_offset(wall, offset),
+        AmbiguousOffset::Gap { before, .. } => at_offset(wall, before),
         AmbiguousOffset::Fold { before, after } => {
-            at_offset(wall, before.seconds).min(at_offset(wall, after.seconds))
+            at_offset(wall, before).min(at_offset(wall, after))
         }
     }
 }
@@ -56,6 +57,10 @@ fn instant_of_seconds(rule: &TimeZone, wall: i64) -> Option<i64>
 {
     if !is_showing(wall) {
         return None;
+    }
+    // A clock that is never changed shows one offset, whatever the date.
+    if rule.dst.is_none() {
+        return Some(at_offset(wall, rule.std_offset));
     }
     let offsets = rule.to_ambiguous_offset(datetime_of(wall));
     Some(by_offsets(wall, offsets))
