@@ -1,12 +1,15 @@
 -- The instants that events take up.
-use Rattle.std.proofs.Common.{◌≡◌, ◌&&◌, ◌||◌, ◌⊎◌, ℕ, inl, inr, Bool, true, false, refl, sym, subst, ap, ◌∙◌, ℤ, pos, ◌-ℤ◌, ◌<ℤ◌, Option, Some, None, List}
+use Rattle.std.proofs.Common.{◌≡◌, ◌&&◌, ◌||◌, ◌⊎◌, ℕ, inl, inr, true, subst, ap, ◌∙◌, ℤ, pos, ◌-ℤ◌, ◌<ℤ◌, Option, Some, None, List}
 use Rattle.std.specs.Prelude.{◌↔◌, Result, Ok, Err, IfOk, OnOk}
+use Rattle.std.proofs.lemmas.Bool.{and_right}
+use Rattle.std.proofs.lemmas.Result.{on_ok_weaker}
 use Rattle.jiff_tz.specs.PosixText.{TzText}
 use Rattle.availability_method.proofs.RunLemmas.{busy_in_years, runs_are}
 use Rattle.availability_method.specs.Periods.{AreInYears}
 use Rattle.spec_availability.specs.Runs.{runs_in}
 use Rattle.spec_events.specs.Values.{is_showing}
 use Rattle.spec_availability.specs.BusyInstants.{is_occupied, is_occupied_by, is_taken_up}
+use Rattle.spec_json.proofs.Booleans.{or_nothing}
 use Rattle.spec_json.specs.declared.tree.Tree.{Tree}
 use Rattle.spec_site.specs.TimeZones.{ZoneText}
 use Rattle.spec_series.specs.declared.series.Series.{Series}
@@ -26,21 +29,13 @@ occupied_is s rule u = passing_is (occupies (instant_in rule) u) s (λ o m h.
 
 -- What one event more takes up.
 
-and_false : (l t : Bool) → t ≡ false → (l && t) ≡ false
-and_false true t h = h
-and_false false t h = refl
-
-or_none : (b c : Bool) → c ≡ false → b ≡ (b || c)
-or_none true c h = refl
-or_none false c h = sym h
-
 -- an event without a series takes up nothing
 pub no_series : (w : Period) (ps : List Period) (s : Option Series) (rule : Option TzText) (u : ℤ) → s ≡ None → is_busy ps u ≡ (is_busy ps u || (lies_in u w && is_occupied_by s rule u))
-no_series w ps s rule u e = or_none (is_busy ps u) _ (and_false (lies_in u w) _ (ap (λ x. is_occupied_by x rule u) e))
+no_series w ps s rule u e = or_nothing (is_busy ps u) _ (and_right (lies_in u w) _ (ap (λ x. is_occupied_by x rule u) e))
 
 -- nor does one without a zone
 pub no_rule : (w : Period) (ps : List Period) (s : Series) (rule : Option TzText) (u : ℤ) → rule ≡ None → is_busy ps u ≡ (is_busy ps u || (lies_in u w && is_occupied_by (Some s) rule u))
-no_rule w ps s rule u e = or_none (is_busy ps u) _ (and_false (lies_in u w) _ (ap (λ x. is_occupied_by (Some s) x u) e))
+no_rule w ps s rule u e = or_nothing (is_busy ps u) _ (and_right (lies_in u w) _ (ap (λ x. is_occupied_by (Some s) x u) e))
 
 -- another one takes up what its occurrences do
 pub one_more : (w : Period) (old new : List Period) (s : Series) (rule : TzText)
@@ -56,15 +51,11 @@ one_more w old new s rule f u = same_truth (is_busy new u) (is_busy old u || (li
       | inr here ↦ let b = and_both (lies_in u w) _ here in (f u).1 (inr (b.0, (occupied_is s rule u).0 b.1))
     ])
 
-on_ok : {A E P Q : Type 0} (r : Result A E) → OnOk r P → (P → Q) → OnOk r Q
-on_ok (Ok x) h f = f h
-on_ok (Err e) h f = tt
-
 -- where it has this series and this rule
 pub one_more_by : {A E : Type 0} (r : Result A E) (w : Period) (old new : List Period) (x : Option Series) (y : Option TzText) (s : Series) (rule : TzText) → x ≡ Some s → y ≡ Some rule
     → OnOk r ((u : ℤ) → (is_busy new u ≡ true) ↔ ((is_busy old u ≡ true) ⊎ ((lies_in u w ≡ true) × IsOccupied s (instant_in rule) u)))
     → OnOk r ((u : ℤ) → is_busy new u ≡ (is_busy old u || (lies_in u w && is_occupied_by x y u)))
-one_more_by r w old new x y s rule ex ey h = on_ok r h (λ f u. rw (ex, ey) (one_more w old new s rule f u))
+one_more_by r w old new x y s rule ex ey h = on_ok_weaker r (λ f u. rw (ex, ey) (one_more w old new s rule f u)) h
 
 -- What several events take up: all of them, in the window that was asked for.
 

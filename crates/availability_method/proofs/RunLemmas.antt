@@ -4,6 +4,7 @@ use Rattle.std.specs.Prelude.{filter, find, map, slice_get, unsigned_abs, unwrap
 use Rattle.std.specs.Ordering.{int_eq}
 use Rattle.std.proofs.lemmas.Bool.Decides.{Decides-int_eq}
 use Rattle.std.proofs.lemmas.Int.{by_lt_z, ints}
+use Rattle.std.proofs.lemmas.Bool.{not-false, not-true, not_from_false}
 use Rattle.jiff_core.proofs.SignedLemmas.{signed_arith}
 use Rattle.jiff_core.specs.Calendar.{IsWithin}
 use Rattle.availability.proofs.Determined.{determined}
@@ -11,28 +12,13 @@ use Rattle.availability.proofs.Runs.{run_of}
 use Rattle.availability_method.specs.Periods.{AreInYears, IsInYears}
 use Rattle.spec_availability.specs.Runs.{begins_run, run_at, run_end, runs_in}
 use Rattle.spec_events.specs.Values.{is_showing}
+use Rattle.spec_json.proofs.Booleans.{by_bool}
 use Rattle.spec_series.specs.Numbers.{numbers_from}
 use Rattle.spec_time.specs.Walls.{is_in_years}
 use Rattle.spec_windows.specs.declared.period.Period.{Period}
 use Rattle.spec_windows.specs.BusyPeriods.{are_runs, lies_in, is_busy}
 use Rattle.rule_expand.proofs.Places.{and_both, is_late, late_is}
 use Rattle.rule_expand.proofs.Sets.{both_and, int_le_is, is_int_le, or_cases, or_left, or_right, same_truth}
-
-by_bool : {Q : Type 0} (b : Bool) → (b ≡ true → Q) → (b ≡ false → Q) → Q
-by_bool true f g = f refl
-by_bool false f g = g refl
-
-not_is : (b : Bool) → not b ≡ true → b ≡ false
-not_is true h = sym h
-not_is false h = refl
-
-is_not : (b : Bool) → b ≡ false → not b ≡ true
-is_not true h = sym h
-is_not false h = refl
-
-not_not : (b : Bool) → not b ≡ false → b ≡ true
-not_not true h = refl
-not_not false h = sym h
 
 -- from one instant up to a later one
 reach : (a b : ℤ) → a ≤ℤ b → b ≡ a +ℤ pos (unsigned_abs (b -ℤ a))
@@ -54,14 +40,14 @@ end_is : (p : ℤ → Bool) (high u : ℤ) (n : ℕ) → high ≡ u +ℤ pos n �
 unfolding numbers_from
 end_is p high u zero e = record { behind = omega (arith, signed_arith); within = omega (arith, signed_arith); all = λ x a b. absurd (omega (arith, signed_arith)); over = inl refl }
 end_is p high u (suc n) e = by_bool (not (p u))
-    (λ t. rw t (record { behind = omega (arith, signed_arith); within = omega (arith, signed_arith); all = λ x a b. absurd (omega (arith, signed_arith)); over = inr (not_is (p u) t) }))
+    (λ t. rw t (record { behind = omega (arith, signed_arith); within = omega (arith, signed_arith); all = λ x a b. absurd (omega (arith, signed_arith)); over = inr (not-true (p u) t) }))
     (λ f. rw f (let r = end_is p high (u +ℤ pos 1) n (omega (arith, signed_arith)) in
     record {
       behind = omega (arith, signed_arith, r.behind);
       within = r.within;
       all = λ x a b. by_lt_z u x
           (λ lt. r.all x (omega (arith, signed_arith, lt)) b)
-          (λ ge. let same : x ≡ u = omega (arith, signed_arith, a, ge) in rw same (not_not (p u) f));
+          (λ ge. let same : x ≡ u = omega (arith, signed_arith, a, ge) in rw same (not-false (p u) f));
       over = r.over;
     }))
 
@@ -75,7 +61,7 @@ module _ (p : ℤ → Bool) (w : Period) where
   begun_behind : (u : ℤ) → w.from <ℤ u → begins_run p w u ≡ true → p (u -ℤ pos 1) ≡ false
   begun_behind u lt h = elim (or_cases (int_eq u w.from) _ (and_both (p u) _ h).1) [
     | inl same ↦ let e = (Decides-int_eq u w.from).0 same in absurd (omega (arith, signed_arith, e, lt))
-    | inr fails ↦ not_is (p (u -ℤ pos 1)) fails
+    | inr fails ↦ not-true (p (u -ℤ pos 1)) fails
   ]
 
   -- a run isn't empty
@@ -187,7 +173,7 @@ module _ (p : ℤ → Bool) (w : Period) where
           all = λ y a c. by_lt_z y x (λ lt. r.1.all y a (omega (arith, signed_arith, lt))) (λ ge. let same : y ≡ x = omega (arith, signed_arith, c, ge) in rw same h);
         },
       ))
-      (λ f. (x, starts_here x (omega (arith, signed_arith, e)) h (or_right (int_eq x w.from) _ (is_not (p (x -ℤ pos 1)) f))))
+      (λ f. (x, starts_here x (omega (arith, signed_arith, e)) h (or_right (int_eq x w.from) _ (not_from_false (p (x -ℤ pos 1)) f))))
 
   -- which covers it
   start_covers : (x s : ℤ) → IsStart x s → x <ℤ w.to → x <ℤ run_end p w s

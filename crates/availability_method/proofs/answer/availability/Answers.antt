@@ -1,5 +1,6 @@
-use Rattle.std.proofs.Common.{◌≡◌, ◌&&◌, Bool, true, false, not, Some, refl, sym, ◌∙◌}
+use Rattle.std.proofs.Common.{◌≡◌, ◌&&◌, Bool, true, false, Some, refl, sym, ◌∙◌}
 use Rattle.std.specs.Str.{bytes_eq}
+use Rattle.std.proofs.lemmas.Bool.{not-true}
 use Rattle.event_store.specs.EventsBase.{base_of}
 use Rattle.spec_availability.specs.Availability.{availability_refusal}
 use Rattle.spec_calls.specs.declared.call.AvailabilityArguments.{AvailabilityArguments}
@@ -8,10 +9,6 @@ use Rattle.spec_history.specs.Base.{Base}
 use Rattle.spec_site.specs.TimeZones.{has_zone}
 use Rattle.availability_method.proofs.answer.availability.Goals as goal
 use Rattle.availability_method.proofs.answer.availability.Goals.{then-ne-via-then-ne, then-ne-via-else-ne+then-not-has}
-
-not_is : (b : Bool) → not b ≡ true → b ≡ false
-not_is true h = sym h
-not_is false h = refl
 
 not_all : (a b z : Bool) → z ≡ false → (a && (b && z)) ≡ false
 not_all true true z h = h
@@ -30,7 +27,7 @@ returns-then-ne c =
     let base = base_of c.args.events.now in
     let q = c.args.arguments.now in
     elim c.then-ne.branch [
-      | then-ne-via-then-ne w ↦ other_id base q (rw (c.as_str.ensures, c.as_str-2.ensures) at (not_is _ (sym c.ne.ensures ∙ w.if-ne.true)))
+      | then-ne-via-then-ne w ↦ other_id base q (rw (c.as_str.ensures, c.as_str-2.ensures) at (not-true _ (sym c.ne.ensures ∙ w.if-ne.true)))
       | then-ne-via-else-ne+then-not-has w ↦ no_zone base q (sym w.has.ensures ∙ w.if-not-has.true)
     ]
 
