@@ -5,6 +5,7 @@ use Rattle.std.proofs.lemmas.List.FromFn.{length-range_with_len}
 use Rattle.std.proofs.lemmas.List.Sums.{sum_by-append}
 use Rattle.std.specs.List.{range_with_len}
 use Rattle.account_core.proofs.Numbers.{in_range, next_is, numbers_counted}
+use Rattle.account_store.proofs.GrowthLemmas.{same_kind}
 use Rattle.account_rooms.proofs.Changes.{ids_from-push}
 use Rattle.account_core.specs.Tally.{Tallies, count_created}
 use Rattle.account_core.specs.declared.tally.Tally.{Tally}
@@ -13,7 +14,6 @@ use Rattle.spec_history.specs.History.{ids_at, is_kind, live_object, next_number
 use Rattle.spec_history.specs.Pages.{is_in}
 use Rattle.spec_history.specs.declared.entry.Change.{Change}
 use Rattle.spec_history.specs.declared.entry.Kind.{Kind}
-use Rattle.spec_history.specs.declared.entry.Kind.TheVariants.{Calendar, Event}
 use Rattle.spec_bookings.proofs.Numbered.{numbered_if_live}
 use Rattle.spec_json.specs.declared.tree.Tree.{Tree}
 
@@ -23,12 +23,6 @@ IsNumbered cs c = (c.id ≡ next_number cs c.kind) ⊎ (is_some (live_object cs 
 
 size_more : (cs : List Change) (c : Change) → size_of (cs ++ c ∷ []) ≡ size_of cs + size_of_object c.object
 size_more cs c = sum_by-append _ cs (c ∷ []) ∙ ap (λ n. size_of cs + n) (zero-add (size_of_object c.object))
-
-same_kind : (k q : Kind) → is_kind k q ≡ true → k ≡ q
-same_kind Calendar Calendar e = refl
-same_kind Event Event e = refl
-same_kind Calendar Event e = absurd (false≢true e)
-same_kind Event Calendar e = absurd (false≢true e)
 
 numbers_by : (t u : Tally) (cs : List Change) (c : Change) (k : Kind) (same : Bool) → Tallies t cs → IsNumbered cs c → is_kind k c.kind ≡ same
     → count_created u k ≡ cond same (max (count_created t k) c.id) (count_created t k) → ids_at (cs ++ c ∷ []) k ≡ cond same (range_with_len 1 (max (count_created t k) c.id)) (ids_at cs k) → ids_at (cs ++ c ∷ []) k ≡ range_with_len 1 (count_created u k)

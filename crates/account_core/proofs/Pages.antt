@@ -1,5 +1,6 @@
 -- What a reply tells of a page is what the definition says.
-use Rattle.std.proofs.Common.{◌≡◌, ℕ, [], List, Bool, true, false, Option, Some, option_map, unsigned_abs, refl}
+use Rattle.std.proofs.Common.{◌≡◌, ℕ, [], List, true, false, Option, Some, option_map, unsigned_abs, refl}
+use Rattle.std.proofs.lemmas.Bool.{true_from_ne_false}
 use Rattle.account_core.specs.PageObject.{page_object}
 use Rattle.cal_model.specs.Answer.{answered, changes_answer}
 use Rattle.cal_model.specs.Changes.{page_response}
@@ -19,13 +20,9 @@ page_told : (base : Base) (kind : Kind) (cs : List Change) (since : List ℕ) (k
     → page_object base kind since (count_of_kind cs kind) page ≡ page_response base kind cs since k (page_end (mentions kind cs) k most)
 page_told base kind cs since k most page h = rw (h.created, h.updated, h.destroyed, h.until) refl
 
-not_false : (b : Bool) → (b ≡ false → ⊥) → b ≡ true
-not_false true h = refl
-not_false false h = absurd (h refl)
-
 -- the reply that tells the page of a state that is known
 pub changes_told : (base : Base) (h : List Entry) (q : ChangesArguments) (k : ℕ) (page : Page)
     → is_maximum q.max ≡ true → number_named base.generation q.since ≡ Some k → (is_retained (count_of_kind (changes_of h) q.kind) k ≡ false → ⊥) → IsPage (mentions q.kind (changes_of h)) k (option_map unsigned_abs q.max) page
     → answered h (page_object base q.kind q.since (count_of_kind (changes_of h) q.kind) page) [] ≡ changes_answer base h q
 changes_told base h q k page maximum state retained is =
-    rw (maximum, state, not_false (is_retained (count_of_kind (changes_of h) q.kind) k) retained, page_told base q.kind (changes_of h) q.since k (option_map unsigned_abs q.max) page is) refl
+    rw (maximum, state, true_from_ne_false (is_retained (count_of_kind (changes_of h) q.kind) k) retained, page_told base q.kind (changes_of h) q.since k (option_map unsigned_abs q.max) page is) refl

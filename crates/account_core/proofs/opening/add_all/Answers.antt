@@ -2,7 +2,8 @@ use Rattle.std.proofs.Common.{◌≡◌, ◌++◌, ◌∷◌, ◌∙◌, List, a
 use Rattle.std.proofs.lemmas.Iterator.Adapters.{YieldsList-from_vec}
 use Rattle.std.proofs.lemmas.Iterator.Consumers.{YieldsList-so_far, YieldsList-turn}
 use Rattle.std.proofs.lemmas.List.{map-append}
-use Rattle.account_core.proofs.Opened.{behind, passed_on}
+use Rattle.std.proofs.lemmas.Result.{err_from_is_err_and}
+use Rattle.account_core.proofs.Opened.{behind}
 use Rattle.account_core.specs.Ledger.{base, history, ledger_entries}
 use Rattle.account_core.specs.Opening.{IsRefusal}
 use Rattle.cal_model.specs.Sound.{unsound_place}
@@ -28,4 +29,5 @@ returns-in_err-add-clause-refused c =
     let zones = (base c.args.ledger.now).zones in
     let told = subst (λ cs. IsRefusal (unsound_place zones cs) c.in_err-add.field-0.0) here
     (subst (λ b. IsRefusal (unsound_place b.zones (history c.loop-entry.ledger ++ c.in-Some.entry.change ∷ changes_of rest)) c.in_err-add.field-0.0) c.loop-entry.invariant.base (c.in_err-add.ensures.refused (changes_of rest))) in
-    passed_on c.from_residual.result c.in_err-add.field-0.0 (IsRefusal (unsound_place zones (old ++ changes_of all))) c.from_residual.ensures.1 told
+    let passed = err_from_is_err_and c.from_residual.result c.from_residual.ensures.1 in
+    rw (passed.1, passed.2) told
