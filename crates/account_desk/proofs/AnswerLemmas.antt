@@ -1,7 +1,8 @@
 -- Answers look at the changes of a history and at nothing else of it.
-use Rattle.std.proofs.Common.{◌≡◌, ℕ, ℤ, suc, List, [], ◌∷◌, Option, Some, None, length, map, unwrap_or, refl, sym, ap, ◌∙◌}
+use Rattle.std.proofs.Common.{◌≡◌, ℕ, ℤ, List, [], Option, Some, None, length, unwrap_or, refl, sym, ap, ◌∙◌}
 use Rattle.std.proofs.lemmas.List.{length-map}
-use Rattle.cal_model.specs.Answer.{answer, answer_to, added, availability_answer, changes_answer, changes_by, entries_from, get_answer, ground, query_answer, query_changes_answer, refused, set_answer, unless_error, unless_refused}
+use Rattle.account_core.proofs.Committing.{changes_back}
+use Rattle.cal_model.specs.Answer.{answer, answer_to, added, availability_answer, changes_answer, changes_by, get_answer, ground, query_answer, query_changes_answer, refused, set_answer, unless_error, unless_refused}
 use Rattle.cal_model.specs.Changes.{changes_response, changes_refusal}
 use Rattle.cal_model.specs.Gets.{get_response, get_error, ids_not_found, listed}
 use Rattle.cal_model.specs.SetReply.{set_arguments}
@@ -26,11 +27,6 @@ use Rattle.spec_history.specs.declared.stamp.Stamp.{Stamp}
 use Rattle.spec_json.specs.declared.tree.Tree.TheVariants.{Null}
 use Rattle.spec_queries.specs.Queries.{query_changes_refusal, query_changes_response, query_refusal, query_response}
 use Rattle.time_text.specs.State.{number_named}
-
--- the entries of changes have these changes
-changes_of_entries : (s : Stamp) (part : ℕ) (cs : List Change) → changes_of (entries_from s part cs) ≡ cs
-changes_of_entries s part [] = refl
-changes_of_entries s part (c ∷ cs) = ap (λ (l : List Change). c ∷ l) (changes_of_entries s (suc part) cs)
 
 module _ (b : Base) (h h' : List Entry) (same : changes_of h ≡ changes_of h') where
   same_length : length h ≡ length h'
@@ -121,5 +117,5 @@ module _ (b : Base) (h h' : List Entry) (same : changes_of h ≡ changes_of h') 
     -- and the same changes are added
     pub same_added : (s s' : Stamp) → s.moment ≡ s'.moment → changes_of (added b h c s) ≡ changes_of (added b h' c s')
     same_added s s' moments =
-        changes_of_entries s 0 (changes_by b h s.moment c.created c.asks)
-        ∙ (same_changes s.moment c.created c.asks ∙ (ap (λ (n : ℤ). changes_by b h' n c.created c.asks) moments ∙ sym (changes_of_entries s' 0 (changes_by b h' s'.moment c.created c.asks))))
+        changes_back s (changes_by b h s.moment c.created c.asks) 0
+        ∙ (same_changes s.moment c.created c.asks ∙ (ap (λ (n : ℤ). changes_by b h' n c.created c.asks) moments ∙ sym (changes_back s' (changes_by b h' s'.moment c.created c.asks) 0)))

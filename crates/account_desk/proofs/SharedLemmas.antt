@@ -1,6 +1,6 @@
 -- A call through a pass of a shared account is a call on a desk.
 use Rattle.std.proofs.Common.{◌≡◌, ◌≢◌, ℕ, ℤ, zero, suc, ◌+◌, ◌<◌, ◌≤◌, ◌^◌, List, [], ◌∷◌, ◌++◌, All, Result, Ok, Err, Option, Some, IfOk, IfErr, length, map, slice_get, refl, option_map, sym, ap, ◌∙◌, subst, arith, get_or, max, take, set}
-use Rattle.std.proofs.lemmas.List.{length-set, map-set, take_all, take_more}
+use Rattle.std.proofs.lemmas.List.{length-set, take_all, take_more}
 use Rattle.std.specs.List.{AllByRecursion as ByRecursion}
 use Rattle.std.proofs.lemmas.Option.{get_or_from_slice_get, same_Some, slice_get-map, slice_get_within}
 use Rattle.std.proofs.lemmas.List.Elements.{All-from_recursion, All-set}
@@ -52,10 +52,6 @@ lock_at lock state [] ps k l p each at pass = cc
 lock_at lock state (m ∷ ls) [] k l p each at pass = cc
 lock_at {P = P} lock state (m ∷ ls) (q ∷ ps) zero l p each at pass = (let here : (state q).lock ≡ lock m = cc in let one : m ≡ l = same_Some m l at in let other : q ≡ p = same_Some q p pass in ap (λ (x : P). (state x).lock) (sym other) ∙ (here ∙ ap lock one))
 lock_at lock state (m ∷ ls) (q ∷ ps) (suc k) l p each at pass = lock_at lock state ls ps k l p (let rest : map (λ (x : PassState). x.lock) (map state ps) ≡ map lock ls = cc in rest) at pass
-
--- the passes after one of them was used
-pub used : {P : Type 0} (state : P → PassState) (ps : List P) (k : ℕ) (q : P) → set (map state ps) k (state q) ≡ map state (set ps k q)
-used state ps k q = sym (map-set state ps k q)
 
 pub state_at : {P : Type 0} (state : P → PassState) (ps : List P) (k : ℕ) (p : P) → slice_get ps k ≡ Some p → slice_get (map state ps) k ≡ Some (state p)
 state_at state ps k p at = slice_get-map state ps k ∙ ap (option_map state) at

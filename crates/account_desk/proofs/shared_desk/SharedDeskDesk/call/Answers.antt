@@ -1,5 +1,5 @@
 use Rattle.std.proofs.Common.{◌≡◌, ◌<◌, ◌≤◌, ◌+◌, ℕ, List, Result, arith, refl, rules, subst, sym, ap, get_or, length, map, set}
-use Rattle.std.proofs.lemmas.List.{length-map}
+use Rattle.std.proofs.lemmas.List.{length-map, map-set}
 use Rattle.std.proofs.lemmas.Option.{slice_get_read}
 use Rattle.std.specs.Arc.{arc_value}
 use Rattle.account_lock.specs.Passes.{PassState}
@@ -8,7 +8,7 @@ use Rattle.spec_calls.specs.declared.call.Reply.{Reply}
 use Rattle.spec_batch.specs.declared.desk.DeskError.{DeskError}
 use Rattle.spec_history.specs.MostTurns.{most_turns}
 use Rattle.account_desk.specs.SharedDesk.{IsSharedDesk, shown_by_passes, through_pass}
-use Rattle.account_desk.proofs.SharedLemmas.{lock_at, of_all, shared_called, state_at, still_shared, used}
+use Rattle.account_desk.proofs.SharedLemmas.{lock_at, of_all, shared_called, state_at, still_shared}
 use Rattle.account_desk.proofs.shared_desk.SharedDeskDesk.call.Goals as goal
 
 pub call-requires : goal.call-requires
@@ -43,7 +43,7 @@ invariant_of-self g c =
     let at = state_at state d.passes.items c.args.account p (slice_get_read d.passes.items (length d.passes.items) c.args.account p refl there c.index_mut-pass.ensures.value) in
     let still = still_shared passes d.turns c.args.account (state p) (state c.call.new.pass) at c.args.call.now c.args.moment (map g.L.AccountLock.lock (arc_value d.accounts).items) c.call.result
     (record { answers = e.answered; fails = e.failed; spent = e.spent.0 }) few c.self.invariant in
-    subst (λ (ps : List PassState). IsSharedDesk (map g.L.AccountLock.lock (arc_value d.accounts).items) ps (d.turns + 1)) (used state d.passes.items c.args.account c.call.new.pass) still
+    subst (λ (ps : List PassState). IsSharedDesk (map g.L.AccountLock.lock (arc_value d.accounts).items) ps (d.turns + 1)) (sym (map-set state d.passes.items c.args.account c.call.new.pass)) still
 
 pub returns : goal.returns
 returns g c =
@@ -64,7 +64,7 @@ returns g c =
     (record { answers = e.answered; fails = e.failed; spent = e.spent.0 }) few (of_all (λ (y : PassState). y.turns ≤ d.turns) passes c.args.account (state p) c.self.invariant.counted at) in
     let so : Called (shown_by_passes (passes, d.turns)) after c.args.account c.args.call.now c.args.moment (through_pass c.call.result) =
     subst (λ (ps : List PassState). Called (shown_by_passes (passes, d.turns)) (shown_by_passes (ps, d.turns + 1)) c.args.account c.args.call.now c.args.moment (through_pass c.call.result))
-    (used state d.passes.items c.args.account c.call.new.pass) called in
+    (sym (map-set state d.passes.items c.args.account c.call.new.pass)) called in
     record {
       called =
           subst (λ (y : List PassState × ℕ). Called (shown_by_passes y) after c.args.account c.args.call.now c.args.moment c.through_pass.result) c.self.view_is
