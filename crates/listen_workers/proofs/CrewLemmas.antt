@@ -1,7 +1,6 @@
 -- What a spawner counts of jobs that it joins one after the other.
-use Rattle.std.proofs.Common.{◌≡◌, ℕ, ◌+◌, ◌<◌, ◌≤◌, List, [], ◌∷◌, ◌++◌, length, refl, ap, ◌∙◌, arith, length-append}
+use Rattle.std.proofs.Common.{◌≡◌, ℕ, ◌+◌, ◌<◌, ◌≤◌, List, [], ◌∷◌, ◌++◌, length, refl, arith}
 use Rattle.std.proofs.lemmas.List.Sums.{sum_by-append}
-use Rattle.std.specs.List.{AllZip}
 use Rattle.std.specs.Prelude.{◌-◌, ◌^◌, sum_by}
 use Rattle.listen_edge.specs.Ending.{counted}
 
@@ -22,16 +21,3 @@ module _ {K : Type 0} (each : K → ℕ) where
 
   pub all_counted : (old new : ℕ) (backs : List K) → 0 < length backs → Counted each old new backs → new ≡ counted old (sum_by each backs)
   all_counted old new backs some c = (let sum = c.sum in let within = c.within some in omega (arith, sum, within))
-
-module _ {J K : Type 0} (R : J → K → Type 0) where
-  pub zip_long : (xs : List J) (ys : List K) → AllZip R xs ys → length ys ≡ length xs
-  zip_long [] [] a = refl
-  zip_long (x ∷ xs) (y ∷ ys) a = (let rest = zip_long xs ys a.1 in omega (arith, rest))
-  zip_long [] (y ∷ ys) a = absurd a
-  zip_long (x ∷ xs) [] a = absurd a
-
-  pub zip_more : (xs : List J) (ys : List K) (x : J) (y : K) → AllZip R xs ys → R x y → AllZip R (xs ++ x ∷ []) (ys ++ y ∷ [])
-  zip_more [] [] x y a one = (one, tt)
-  zip_more (w ∷ xs) (z ∷ ys) x y a one = (a.0, zip_more xs ys x y a.1 one)
-  zip_more [] (z ∷ ys) x y a one = absurd a
-  zip_more (w ∷ xs) [] x y a one = absurd a

@@ -1,5 +1,5 @@
 -- What a host is asked for, one listener after the other.
-use Rattle.std.proofs.Common.{◌≡◌, ℕ, suc, ◌+◌, ◌<◌, ◌≤◌, List, [], ◌∷◌, ◌++◌, Option, Some, None, Result, Err, inl, inr, option_map, refl, sym, ap, ◌∙◌, append_assoc, append-nil, arith}
+use Rattle.std.proofs.Common.{◌≡◌, ℕ, ◌+◌, ◌<◌, ◌≤◌, List, [], ◌∷◌, ◌++◌, Option, Some, None, Result, Err, inl, inr, option_map, refl, sym, ap, ◌∙◌, append_assoc, append-nil, arith, add-one}
 use Rattle.std.specs.Prelude.{◌⊎◌}
 use Rattle.io_edge.specs.Outside.{Rose}
 use Rattle.listen_edge.specs.Listening.{Asks, HostShown}
@@ -18,14 +18,11 @@ behind : (asked : Option (List (ℕ × ℕ))) (xs : List (ℕ × ℕ)) (x : ℕ 
 behind None xs x = refl
 behind (Some pairs) xs x = ap Some (append_assoc pairs xs (x ∷ []))
 
-after : (n : ℕ) → n + 1 ≡ suc n
-after n = omega arith
-
 pub asked_more : (h h1 h2 : HostShown) (port n : ℕ) → AskedFor h h1 port n → Asks h1 h2 port n → AskedFor h h2 port (n + 1)
 asked_more h h1 h2 port n before asks =
     asks
     ∙ (ap (option_map (λ (pairs : List (ℕ × ℕ)). pairs ++ (port, n) ∷ [])) before
-    ∙ (behind h.asked (workers_of port n) (port, n) ∙ ap (λ (m : ℕ). option_map (λ (pairs : List (ℕ × ℕ)). pairs ++ workers_of port m) h.asked) (sym (after n))))
+    ∙ (behind h.asked (workers_of port n) (port, n) ∙ ap (λ (m : ℕ). option_map (λ (pairs : List (ℕ × ℕ)). pairs ++ workers_of port m) h.asked) (sym (add-one n))))
 
 -- the host made no listener for worker n
 module _ (h h1 h2 : HostShown) (port n workers : ℕ) (before : AskedFor h h1 port n) (few : n < workers) (later : h.faults ≤ h1.faults) where
