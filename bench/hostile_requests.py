@@ -267,9 +267,9 @@ def doubling(value):
     return [["Core/echo", {"a": value}]] + [["Core/echo", {"#a": it, "#b": it}] for it in twice]
 
 
-def all_before(value):
-    """An echo, and others of which each refers to the whole of each one before."""
-    return [["Core/echo", {"a": value}]] + [["Core/echo", {f"#k{before}": refers_to(f"c{before}", "") for before in range(number)}] for number in range(1, 16)]
+def four_before(value):
+    """An echo, and others of which each refers to the whole of each of the four before it."""
+    return [["Core/echo", {"a": value}]] + [["Core/echo", {f"#k{before}": refers_to(f"c{before}", "") for before in range(max(0, number - 4), number)}] for number in range(1, 16)]
 
 
 def many_references(count, value, calls=1):
@@ -325,11 +325,13 @@ CALLS = [
     Hostile("16 times 366 days expanded", events(daily, 2_000), lambda: [expanded("start")] * 16),
     Hostile("16 times a year's busy periods, no two touch", events(apart, 2_000), lambda: [busy()] * 16),
     Hostile("15 references to a filter of 40,000 uids", events(event, 5_000), lambda: by_reference(any_of([{"uid": "q"}] * 40_000))),
-    Hostile("15 references to an echo of 4 MB", nothing, lambda: echoes_of_one([0] * 2_000_000)),
+    Hostile("15 references to an echo of 4 MB", nothing, lambda: echoes_of_one([0] * 2_000_000), megabytes=260),
+    Hostile("a reference to an echo of 9.9 MB of lists", nothing, lambda: echoes_of_one([[0]] * 2_475_000)[:3], megabytes=490),
     Hostile("15 echoes, each of twice the one before", nothing, lambda: doubling("q" * 1_000)),
-    Hostile("15 echoes, each of all before", nothing, lambda: all_before("q" * 1_000)),
+    Hostile("15 echoes, each of the four before", nothing, lambda: four_before("q" * 1_000)),
     too_large("80,000 references to 4.8 MB in a call", nothing, lambda: many_references(80_000, "q" * 4_800_000), 0.5),
-    too_large("15 calls of 16 references to 9.9 MB", nothing, lambda: many_references(16, "q" * 9_900_000, 15), 3.0),
+    too_large("15 calls of 16 references to 9.9 MB", nothing, lambda: many_references(16, "q" * 9_900_000, 15), 0.5),
+    too_large("15 calls of 4 references to 9.9 MB", nothing, lambda: many_references(4, "q" * 9_900_000, 15), 3.0),
     Hostile("16 gets of 500 events of 30,000 bytes", large(of_bytes(30_000), 500), lambda: [get_of()] * 16),
     too_large("250 occurrences of an event of 100,000 bytes", large(described(100_000), 1), lambda: [get_of(ids=occurrences(250))], 0.5),
     too_large("16 gets of 190 occurrences of such an event", large(described(100_000), 1), lambda: [get_of(ids=occurrences(190))] * 16, 1.0),
