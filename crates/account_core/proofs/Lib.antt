@@ -7,5 +7,6 @@ pub mod Rooms
 pub mod Pages
 pub mod SeriesRead
 pub mod LiveEvents
+pub mod InUse
 pub mod AskedLemmas
 pub mod FoundLemmas

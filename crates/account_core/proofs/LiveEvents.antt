@@ -28,7 +28,7 @@ live_before cs ds id none = object_from_append cs ds None Event id ∙ kept_by (
 abbrev pub has_event_from : List Change → ℕ → ℕ → ℕ → Bool
 has_event_from cs calendar a n = list_any (λ t. names_calendar calendar (data_of t)) (flat_map (λ id. some_object (live_object cs Event id)) (range_with_len a n))
 
-first_event : (calendar : ℕ) (o : Option Tree) (ts : List Tree) → list_any (λ t. names_calendar calendar (data_of t)) (some_object o ++ ts) ≡ (is_object_in_calendar calendar o || list_any (λ t. names_calendar calendar (data_of t)) ts)
+pub first_event : (calendar : ℕ) (o : Option Tree) (ts : List Tree) → list_any (λ t. names_calendar calendar (data_of t)) (some_object o ++ ts) ≡ (is_object_in_calendar calendar o || list_any (λ t. names_calendar calendar (data_of t)) ts)
 first_event calendar None ts = refl
 first_event calendar (Some t) ts = refl
 

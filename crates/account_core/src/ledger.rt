@@ -1,8 +1,10 @@
 //! The history of an account with the changes that a call is about to make.
 ghost use Rattle.std.specs.Coded.{codes};
-ghost use Rattle.std.specs.Prelude.{◌≡◌, ◌<◌, ◌≤◌, ◌+◌, ◌^◌, ◌++◌, ◌∷◌, [], None, IfNone, OnErr, OnOk, length, map, option_map, true, vec_capacity, vec_len};
+ghost use Rattle.std.specs.Prelude.{◌≡◌, ◌<◌, ◌≤◌, ◌+◌, ◌^◌, ◌++◌, ◌∷◌, [], None, IfNone, OnErr, OnOk, length, map, option_map, Some, true, vec_capacity, vec_len, ℕ};
 ghost use Rattle.std.specs.Arc.{arc_value};
+ghost use Rattle.std.specs.BTreeSet.{BTreeSet as NumberSet};
 ghost use Rattle.account_core.specs.Tally.{Tallies};
+ghost use Rattle.account_core.specs.Uses.{AreInUse};
 ghost use Rattle.account_rooms.specs.RoomChanges.{MayChange, rooms_after};
 ghost use Rattle.account_rooms.specs.Covered.{AreCoveredOnce};
 ghost use Rattle.account_rooms.specs.Rooms.{AreFree, AreRooms};
@@ -19,7 +21,7 @@ ghost use Rattle.spec_series.specs.Lengths.{IsWeekLong};
 ghost use Rattle.rule_expand.specs.Least.{IsLeastOf};
 
 use crate::tally::Tally;
-use crate::uses::has_event;
+use crate::uses::{calendars_in_use, has_event, still_in_use};
 use account_rooms::Rooms;
 use account_store::Store;
 use cal_model::view::AccountView;
@@ -32,6 +34,7 @@ use spec_json::text::Text;
 use spec_json::tree::Tree;
 use spec_series::series::Series;
 use std::alloc::{AllocError, Global};
+use std::collections::BTreeSet;
 use std::mem;
 use std::sync::Arc;
 use zone_table::Zones;
@@ -57,11 +60,14 @@ pub struct Ledger {
     pub(crate) tally: Tally,
     /// The live resource calendars with their bookings, at the history and the staged changes; it goes back to those at the history.
     pub(crate) rooms: Rooms,
+    /// The calendars that events of the history are in, where they were looked up since an event was changed.
+    pub(crate) in_use: Option<BTreeSet<u64>>,
     ghost kept_told: { Tallies kept (changes_of (entries store)) },
     ghost told: { Tallies tally (changes_of (entries store) ++ staged.items) },
     ghost series_read: { series ≡ map (series_put (arc_value zones)) (changes_of (entries store) ++ staged.items) } by { Prim.hlevel codes },
     ghost kept_rooms: { AreRooms (arc_value zones) (changes_of (entries store)) rooms.kept },
     ghost rooms_now: { AreRooms (arc_value zones) (changes_of (entries store) ++ staged.items) rooms.rooms },
+    ghost used: { (numbers : NumberSet ℕ) → in_use ≡ Some numbers → AreInUse (changes_of (entries store)) numbers },
     ghost kept_sound: { unsound_place (arc_value zones) (changes_of (entries store)) ≡ None },
     ghost sound: { unsound_place (arc_value zones) (changes_of (entries store) ++ staged.items) ≡ None },
 }
@@ -86,6 +92,7 @@ impl Ledger {
             series: SeriesLog::new(alloc),
             tally: Tally::new(),
             rooms: Rooms::new(alloc),
+            in_use: None,
         }
     }
 
@@ -101,6 +108,19 @@ impl Ledger {
             self.generation,
             &self.series,
         )
+    }
+
+    /// Looks up which calendars events are in, unless that is known since an event was changed, so that `has_event` then tells it without
+    /// going over them. Takes memory for the numbers of these calendars.
+    pub(crate) fn look_up_calendars(&mut self) -> Result<(), AllocError>
+        ensures entries { ledger_entries self.new ≡ ledger_entries self.old }
+        ensures staged { staged self.new ≡ staged self.old }
+        ensures base { base self.new ≡ base self.old }
+    {
+        if self.in_use.is_none() {
+            self.in_use = Some(calendars_in_use(self.alloc, &self.store)?);
+        }
+        Ok(())
     }
 
     /// Takes memory for the entries that the staged changes become. After running out of memory nothing is staged.
@@ -129,6 +149,8 @@ impl Ledger {
         ensures base { base self.new ≡ base self.old }
     {
         let staged = mem::replace(&mut self.staged, Vec::new(self.alloc));
+        let known = mem::replace(&mut self.in_use, None);
+        self.in_use = still_in_use(known, &staged);
         push_all(&mut self.store, stamp, first, staged);
         self.kept = self.tally;
         self.rooms.keep();

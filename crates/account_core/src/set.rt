@@ -13,15 +13,44 @@ use crate::reply::{refusal, reply};
 use set_methods::plan::plan;
 use set_methods::planned::PlanError;
 use spec_calls::call::{Reply, SetArguments};
+use spec_history::entry::Kind;
 use spec_history::stamp::Stamp;
 use spec_json::lists::Pairs;
 use spec_time::moment::Moment;
 use std::alloc::AllocError;
 
 /// Answers a set of objects of a kind, and adds its entries. After running out of memory the entries are as before.
-///
-/// The changes are planned and memory is reserved before an entry is added, and nothing can fail then.
 pub fn set(
+    ledger: &mut Ledger,
+    stamp: &Stamp,
+    arguments: &SetArguments,
+    created: &Pairs,
+) -> Result<Reply, AllocError>
+    requires { staged ledger.old ≡ [] }
+    ensures reply { IfOk result (λ r. r ≡ set_answer (base ledger.old) (ledger_entries ledger.old) stamp.now.moment created.now arguments.now) }
+    ensures grown { OnOk result (ledger_entries ledger.new ≡ ledger_entries ledger.old ++ entries_from stamp.now 0 (set_added (base ledger.old) (ledger_entries ledger.old) stamp.now.moment created.now arguments.now)) }
+    ensures unchanged { OnErr result (ledger_entries ledger.new ≡ ledger_entries ledger.old) }
+    ensures staged { staged ledger.new ≡ [] }
+    ensures base { base ledger.new ≡ base ledger.old }
+{
+    look_up(ledger, arguments)?;
+    carry_out(ledger, stamp, arguments, created)
+}
+
+// Where calendars are to be destroyed, looks up at once which of them events are in.
+fn look_up(ledger: &mut Ledger, arguments: &SetArguments) -> Result<(), AllocError>
+    ensures entries { ledger_entries ledger.new ≡ ledger_entries ledger.old }
+    ensures staged { staged ledger.new ≡ staged ledger.old }
+    ensures base { base ledger.new ≡ base ledger.old }
+{
+    match (arguments.kind, &arguments.destroy) {
+        (Kind::Calendar, Some(_)) => ledger.look_up_calendars(),
+        _ => Ok(()),
+    }
+}
+
+// The changes are planned and memory is reserved before an entry is added, and nothing can fail then.
+fn carry_out(
     ledger: &mut Ledger,
     stamp: &Stamp,
     arguments: &SetArguments,

@@ -38,6 +38,7 @@ invariant_of-self c =
           (c.in-Ok.ensures.series ∙ ap (λ s. l.series ++ s ∷ []) c.requires.series);
       kept_rooms = subst (AreRooms zones (history l)) (sym c.follow.ensures.kept) l.kept_rooms;
       rooms_now = one_staged zones (history l) (staged l) c.push_reserved.new.self.items c.args.change l.rooms.rooms c.follow.new.rooms.rooms l.rooms_now c.requires.fit new more after;
+      used = l.used;
       kept_sound = l.kept_sound;
       sound = one_sound zones (history l) (staged l) c.push_reserved.new.self.items c.args.change l.sound c.requires.fit.sound more;
     }

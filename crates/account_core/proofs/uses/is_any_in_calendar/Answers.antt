@@ -4,7 +4,7 @@ use Rattle.account_core.specs.Ledger.{changes}
 use Rattle.account_core.specs.Uses.{is_object_in_calendar}
 use Rattle.spec_history.specs.History.{live_object}
 use Rattle.spec_history.specs.declared.entry.Kind.TheVariants.{Event}
-use Rattle.account_core.proofs.uses.has_event.Goals as goal
+use Rattle.account_core.proofs.uses.is_any_in_calendar.Goals as goal
 
 pub loop-before-preserved : goal.loop-before-preserved
 loop-before-preserved c =
