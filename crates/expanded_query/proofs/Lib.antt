@@ -4,5 +4,6 @@ pub mod Sorted
 pub mod RefusalLemmas
 pub mod PushLemmas
 pub mod OrderLemmas
+pub mod FirstLemmas
 pub mod WindowLemmas
 pub mod SightLemmas

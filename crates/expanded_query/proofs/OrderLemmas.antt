@@ -19,7 +19,7 @@ use Rattle.spec_queries.specs.declared.item.Item.{Item}
 use Rattle.expanded_query.specs.Founds.{found_item, id_at, ranked_result}
 use Rattle.expanded_query.specs.declared.ranked.Ranked.{Ranked}
 
-abbrev ids : List (List ℕ × Item) → List (List ℕ)
+abbrev pub ids : List (List ℕ × Item) → List (List ℕ)
 ids ps = map (λ p. p.0) ps
 
 abbrev items : List (List ℕ × Item) → List Item
@@ -43,10 +43,10 @@ named_back (p ∷ ps) front =
     λ i. (at_front front p ps i, p.1) ∷ (sym same ∙ rest) i
 
 module _ (cs : List Comparator) where
-  abbrev below : List ℕ × Item → List ℕ × Item → Bool
+  abbrev pub below : List ℕ × Item → List ℕ × Item → Bool
   below p q = is_lt (by_all cs p.1 q.1)
 
-  ids_by_places : (ps : List (List ℕ × Item)) → ids_in_order cs ps ≡ ids (in_order below ps)
+  pub ids_by_places : (ps : List (List ℕ × Item)) → ids_in_order cs ps ≡ ids (in_order below ps)
   ids_by_places ps =
       let numbered = enumerate_from 0 (items ps) in
       ap (ids_in_places (ids ps)) (places_is cs (items ps))

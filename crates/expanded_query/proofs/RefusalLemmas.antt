@@ -1,11 +1,10 @@
 -- What a query finds and is refused for, where its criteria aren't refused.
 use Rattle.std.proofs.Common.{◌≡◌, ◌∙◌, ℕ, List, true, None, ap, flat_map, map, refl, subst, sym}
 use Rattle.std.specs.Prelude.{IfErr, IfOk, OnOk, Result, unwrap_or}
-use Rattle.expanded_query.specs.Founds.{found_result, given_by, id_at}
+use Rattle.expanded_query.specs.Founds.{found_result, given_by, ids_put}
 use Rattle.expanded_query.specs.Sights.{all_given, filter_window, looks_for}
 use Rattle.expanded_query.specs.declared.found_occurrence.FoundOccurrence.{FoundOccurrence}
 use Rattle.expanded_query.specs.declared.sight.OccurrenceSight.{OccurrenceSight}
-use Rattle.expanded_query.specs.declared.ranked.Ranked.{Ranked}
 use Rattle.expanded_query.specs.declared.source.Source.{Source}
 use Rattle.spec_calls.specs.declared.call.Criteria.{Criteria}
 use Rattle.spec_calls.specs.declared.call.Paging.{Paging}
@@ -33,12 +32,12 @@ pub ids_same : (zones : List ZoneText) (cs : List Change) (c : Criteria) (s : Oc
 ids_same zones cs c s order ids sight sorted is = is ∙ (λ i. ids_in_order (sorted i) (expanded_matches (sight i).0 (sight i).1.0 (sight i).1.1 cs))
 
 -- so are those of what was found of the events that the sight sees, and put in that order
-pub found_same : (zones : List ZoneText) (cs : List Change) (c : Criteria) (s : OccurrenceSight) (order : List Comparator) (seen sources : List Source) (w : Window) (all found : List FoundOccurrence) (sorted told : List Ranked)
+pub found_same : (zones : List ZoneText) (cs : List Change) (c : Criteria) (s : OccurrenceSight) (order : List Comparator) (seen sources : List Source) (w : Window) (all found : List FoundOccurrence)
     → looks_for s ≡ (zones, (c.time_zone, filter_or_all c.filter)) → order ≡ order_of c → flat_map (given_by (filter_window s)) seen ≡ all_given s cs → sources ≡ seen → w ≡ filter_window s
-    → map found_result all ≡ flat_map (given_by w) sources → found ≡ all → map id_at sorted ≡ ids_in_order order (map found_result found) → told ≡ sorted → map id_at told ≡ expanded_ids zones cs c
-found_same zones cs c s order seen sources w all found sorted told sight ordered given read window each same put kept =
-    ids_same zones cs c s order (map id_at told) sight ordered
-    (ap (map id_at) kept ∙ put ∙ ap (ids_in_order order) (ap (map found_result) same ∙ each ∙ (λ i. flat_map (given_by (window i)) (read i)) ∙ given))
+    → map found_result all ≡ flat_map (given_by w) sources → found ≡ all → ids_put order found ≡ expanded_ids zones cs c
+found_same zones cs c s order seen sources w all found sight ordered given read window each same =
+    ids_same zones cs c s order (ids_put order found) sight ordered
+    (ap (ids_in_order order) (ap (map found_result) same ∙ each ∙ (λ i. flat_map (given_by (window i)) (read i)) ∙ given))
 
 module _ (base : Base) (cs : List Change) (c : Criteria) (p : Paging) (ids : List (List ℕ)) (same : ids ≡ expanded_ids base.zones cs c) (r : Result Tree QueryError) where
   pub replied : IfOk r (λ t. t ≡ expanded_window base cs p ids (unwrap_or (cut_among p ids) no_window)) → IfOk r (λ t. t ≡ query_response base cs (occurrences_asked c p))

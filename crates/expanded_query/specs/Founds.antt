@@ -1,12 +1,15 @@
 -- What occurrences stand for as results, by their events.
-use Rattle.std.specs.Prelude.{ℕ, List, Some}
+use Rattle.std.specs.Prelude.{ℕ, List, Bool, Some, map, not}
 use Rattle.std.specs.Option.{option_map_or}
+use Rattle.std.specs.Ordering.{is_lt}
 use Rattle.expanded_query.specs.declared.found_occurrence.FoundOccurrence.{FoundOccurrence}
 use Rattle.expanded_query.specs.declared.ranked.Ranked.{Ranked}
 use Rattle.expanded_query.specs.declared.source.Source.{Source}
 use Rattle.jiff_tz.specs.PosixText.{tz_view}
 use Rattle.spec_json.specs.TreeData.{data_of}
-use Rattle.spec_queries.specs.Expanded.{result_id, results_by}
+use Rattle.spec_queries.specs.Comparing.{by_all}
+use Rattle.spec_queries.specs.Expanded.{ids_in_order, result_id, results_by}
+use Rattle.spec_queries.specs.declared.comparator.Comparator.{Comparator}
 use Rattle.spec_queries.specs.declared.item.Item.{Item}
 use Rattle.spec_windows.specs.declared.window.Window.{Window}
 
@@ -38,3 +41,11 @@ id_at r = id_of r.found.now
 
 abbrev pub ranked_result : Ranked → List ℕ × Item
 ranked_result r = found_result r.found.now
+
+-- the ids of all that was found, in order
+abbrev pub ids_put : List Comparator → List FoundOccurrence → List (List ℕ)
+ids_put order found = ids_in_order order (map found_result found)
+
+-- an item doesn't stand behind another by its comparators
+abbrev pub is_up_to : List Comparator → Item → Item → Bool
+is_up_to cs last item = not (is_lt (by_all cs last item))

@@ -8,7 +8,6 @@ ghost use Rattle.query_methods.specs.Reports.{Reports};
 
 use crate::all_found::all_found;
 use crate::found::found;
-use crate::order::in_order;
 use crate::sources::sources;
 use crate::terms::read_terms;
 use event_store::StoredEvents;
@@ -21,8 +20,9 @@ use std::alloc::Global;
 /// The arguments of the reply to a query of the events of an account, each of whose occurrences is a result of its own. `Method` tells why
 /// it is refused.
 ///
-/// Takes memory for all results, some 60 bytes for each and for a title where an override names it, and for the ids that are told. Time
-/// grows with the number of events and with that of the results.
+/// Takes memory for all results, some 80 bytes for each and for a title where an override names it, and for the ids that are told. Time
+/// grows with the number of events and with that of the results. Where no anchor is named, results that stand behind the window aren't put
+/// in order.
 pub fn expanded_query(
     alloc: Global,
     events: &StoredEvents<'_>,
@@ -39,6 +39,5 @@ pub fn expanded_query(
     let terms = read_terms(alloc, events.zones, criteria)?;
     let sources = sources(alloc, events, &terms.sight)?;
     let all = all_found(alloc, &sources, terms.sight.window())?;
-    let results = in_order(alloc, &all, &terms.order)?;
-    found(alloc, events, &results, paging)
+    found(alloc, events, &all, &terms.order, paging)
 }

@@ -3,7 +3,7 @@
 use crate::found_occurrence::FoundOccurrence;
 
 /// A result at its place. It refers to what was found, so that a sort moves as little as may be.
-#[derive(Drop)]
+#[derive(Clone, Copy)]
 pub(crate) struct Ranked<'a> {
     pub(crate) found: &'a FoundOccurrence<'a>,
 }
