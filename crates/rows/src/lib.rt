@@ -9,4 +9,6 @@ mod lock;
 mod outside;
 mod reporting_book;
 #[cfg(test)]
+mod sockets;
+#[cfg(test)]
 mod system_files;
