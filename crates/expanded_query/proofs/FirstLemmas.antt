@@ -13,7 +13,7 @@ use Rattle.spec_queries.specs.declared.window.Anchor.{Anchor}
 use Rattle.spec_queries.specs.declared.comparator.Comparator.{Comparator}
 use Rattle.spec_queries.specs.declared.item.Item.{Item}
 use Rattle.expanded_query.proofs.OrderLemmas.{below, ids, ids_by_places}
-use Rattle.expanded_query.specs.Founds.{found_item, found_result, id_at, ids_put, is_up_to, ranked_result}
+use Rattle.expanded_query.specs.Founds.{found_item, found_result, id_at, ordered_ids, is_not_behind, ranked_result}
 use Rattle.expanded_query.specs.declared.found_occurrence.FoundOccurrence.{FoundOccurrence}
 use Rattle.expanded_query.specs.declared.ranked.Ranked.{Ranked}
 
@@ -74,15 +74,15 @@ module _ {X : Type 0} (lt : X → X → Bool) where
   as_long (x ∷ xs) = longer_put x (in_order lt xs) ∙ ap suc (as_long xs)
 
 -- as many ids as results
-pub ids_length : (cs : List Comparator) (found : List FoundOccurrence) → length (ids_put cs found) ≡ length found
+pub ids_length : (cs : List Comparator) (found : List FoundOccurrence) → length (ordered_ids cs found) ≡ length found
 ids_length cs found =
     let ps = map found_result found in
     ap length (ids_by_places cs ps) ∙ length-map (in_order (below cs) ps) (λ p. p.0) ∙ as_long (below cs) ps ∙ length-map found found_result
 
-ids_early : (cs : List Comparator) (last : List ℕ × Item) (n : ℕ) (ps : List (List ℕ × Item)) → n ≤ length (ids_in_order cs (filter (λ p. is_up_to cs last.1 p.1) ps))
-    → take n (ids_in_order cs (filter (λ p. is_up_to cs last.1 p.1) ps)) ≡ take n (ids_in_order cs ps)
+ids_early : (cs : List Comparator) (last : List ℕ × Item) (n : ℕ) (ps : List (List ℕ × Item)) → n ≤ length (ids_in_order cs (filter (λ p. is_not_behind cs last.1 p.1) ps))
+    → take n (ids_in_order cs (filter (λ p. is_not_behind cs last.1 p.1) ps)) ≡ take n (ids_in_order cs ps)
 ids_early cs last n ps l =
-    let some = filter (λ p. is_up_to cs last.1 p.1) ps in
+    let some = filter (λ p. is_not_behind cs last.1 p.1) ps in
     let long = ap length (ids_by_places cs some) ∙ length-map (in_order (below cs) some) (λ p. p.0) in
     ap (take n) (ids_by_places cs some) ∙ take-map (λ p. p.0) n (in_order (below cs) some)
     ∙ ap ids (first_early (below cs) (by_all_ranks cs (λ p. p.1)) last n ps (omega (arith, l, long)))
@@ -90,14 +90,14 @@ ids_early cs last n ps l =
 
 -- the first of all results, where those up to the last are enough
 pub first_ids : (cs : List Comparator) (last : FoundOccurrence) (n : ℕ) (first results : List Ranked)
-    → map id_at first ≡ ids_in_order cs (filter (λ p. is_up_to cs (found_item last) p.1) (map ranked_result results)) → n ≤ length first → take n (map id_at first) ≡ take n (ids_in_order cs (map ranked_result results))
+    → map id_at first ≡ ids_in_order cs (filter (λ p. is_not_behind cs (found_item last) p.1) (map ranked_result results)) → n ≤ length first → take n (map id_at first) ≡ take n (ids_in_order cs (map ranked_result results))
 first_ids cs last n first results is l =
     let long = sym (length-map first id_at) ∙ ap length is in
     ap (take n) is ∙ ids_early cs (found_result last) n (map ranked_result results) (omega (arith, l, long))
 
 -- those of what was found
 pub first_found : (cs : List Comparator) (n : ℕ) (first results : List Ranked) (found : List FoundOccurrence)
-    → map ranked_result results ≡ map found_result found → take n (map id_at first) ≡ take n (ids_in_order cs (map ranked_result results)) → take n (map id_at first) ≡ take n (ids_put cs found)
+    → map ranked_result results ≡ map found_result found → take n (map id_at first) ≡ take n (ids_in_order cs (map ranked_result results)) → take n (map id_at first) ≡ take n (ordered_ids cs found)
 first_found cs n first results found same is = is ∙ ap (λ ps. take n (ids_in_order cs ps)) same
 
 -- the window that a query asks for

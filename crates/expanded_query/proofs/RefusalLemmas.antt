@@ -1,7 +1,7 @@
 -- What a query finds and is refused for, where its criteria aren't refused.
 use Rattle.std.proofs.Common.{◌≡◌, ◌∙◌, ℕ, List, true, None, ap, flat_map, map, refl, subst, sym}
 use Rattle.std.specs.Prelude.{IfErr, IfOk, OnOk, Result, unwrap_or}
-use Rattle.expanded_query.specs.Founds.{found_result, given_by, ids_put}
+use Rattle.expanded_query.specs.Founds.{found_result, given_by, ordered_ids}
 use Rattle.expanded_query.specs.Sights.{all_given, filter_window, looks_for}
 use Rattle.expanded_query.specs.declared.found_occurrence.FoundOccurrence.{FoundOccurrence}
 use Rattle.expanded_query.specs.declared.sight.OccurrenceSight.{OccurrenceSight}
@@ -34,9 +34,9 @@ ids_same zones cs c s order ids sight sorted is = is ∙ (λ i. ids_in_order (so
 -- so are those of what was found of the events that the sight sees, and put in that order
 pub found_same : (zones : List ZoneText) (cs : List Change) (c : Criteria) (s : OccurrenceSight) (order : List Comparator) (seen sources : List Source) (w : Window) (all found : List FoundOccurrence)
     → looks_for s ≡ (zones, (c.time_zone, filter_or_all c.filter)) → order ≡ order_of c → flat_map (given_by (filter_window s)) seen ≡ all_given s cs → sources ≡ seen → w ≡ filter_window s
-    → map found_result all ≡ flat_map (given_by w) sources → found ≡ all → ids_put order found ≡ expanded_ids zones cs c
+    → map found_result all ≡ flat_map (given_by w) sources → found ≡ all → ordered_ids order found ≡ expanded_ids zones cs c
 found_same zones cs c s order seen sources w all found sight ordered given read window each same =
-    ids_same zones cs c s order (ids_put order found) sight ordered
+    ids_same zones cs c s order (ordered_ids order found) sight ordered
     (ap (ids_in_order order) (ap (map found_result) same ∙ each ∙ (λ i. flat_map (given_by (window i)) (read i)) ∙ given))
 
 module _ (base : Base) (cs : List Change) (c : Criteria) (p : Paging) (ids : List (List ℕ)) (same : ids ≡ expanded_ids base.zones cs c) (r : Result Tree QueryError) where

@@ -43,9 +43,9 @@ abbrev pub ranked_result : Ranked → List ℕ × Item
 ranked_result r = found_result r.found.now
 
 -- the ids of all that was found, in order
-abbrev pub ids_put : List Comparator → List FoundOccurrence → List (List ℕ)
-ids_put order found = ids_in_order order (map found_result found)
+abbrev pub ordered_ids : List Comparator → List FoundOccurrence → List (List ℕ)
+ordered_ids order found = ids_in_order order (map found_result found)
 
 -- an item doesn't stand behind another by its comparators
-abbrev pub is_up_to : List Comparator → Item → Item → Bool
-is_up_to cs last item = not (is_lt (by_all cs last item))
+abbrev pub is_not_behind : List Comparator → Item → Item → Bool
+is_not_behind cs last item = not (is_lt (by_all cs last item))

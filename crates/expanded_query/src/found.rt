@@ -4,7 +4,7 @@ ghost use Rattle.std.specs.List.{position};
 ghost use Rattle.std.specs.Str.{bytes_eq};
 ghost use Rattle.account_store.specs.Store.{entries};
 ghost use Rattle.event_store.specs.EventsBase.{base_of};
-ghost use Rattle.expanded_query.specs.Founds.{id_at, ids_put};
+ghost use Rattle.expanded_query.specs.Founds.{id_at, ordered_ids};
 ghost use Rattle.spec_history.specs.History.{changes_of};
 ghost use Rattle.spec_json.specs.Data.{items_of, list, text};
 ghost use Rattle.spec_json.specs.TreeData.{data_of};
@@ -39,9 +39,9 @@ pub(crate) fn found(
     paging: &Paging,
 ) -> Result<Tree, QueryError>
     requires { is_paging paging.now ≡ true }
-    ensures response { IfOk result (λ t. t ≡ expanded_window (base_of events.now) (changes_of (entries events.now.store.now)) paging.now (ids_put order.now all.now) (unwrap_or (cut_among paging.now (ids_put order.now all.now)) no_window)) }
-    ensures found { OnOk result (missing_anchor (cut_among paging.now (ids_put order.now all.now)) ≡ None) }
-    ensures refused { IfErr result (λ e. Reports e (missing_anchor (cut_among paging.now (ids_put order.now all.now)))) }
+    ensures response { IfOk result (λ t. t ≡ expanded_window (base_of events.now) (changes_of (entries events.now.store.now)) paging.now (ordered_ids order.now all.now) (unwrap_or (cut_among paging.now (ordered_ids order.now all.now)) no_window)) }
+    ensures found { OnOk result (missing_anchor (cut_among paging.now (ordered_ids order.now all.now)) ≡ None) }
+    ensures refused { IfErr result (λ e. Reports e (missing_anchor (cut_among paging.now (ordered_ids order.now all.now)))) }
 {
     match paging.anchor {
         Some(_) => found_by_anchor(alloc, events, all, order, paging),
@@ -57,9 +57,9 @@ fn found_by_anchor(
     paging: &Paging,
 ) -> Result<Tree, QueryError>
     requires { is_paging paging.now ≡ true }
-    ensures response { IfOk result (λ t. t ≡ expanded_window (base_of events.now) (changes_of (entries events.now.store.now)) paging.now (ids_put order.now all.now) (unwrap_or (cut_among paging.now (ids_put order.now all.now)) no_window)) }
-    ensures found { OnOk result (missing_anchor (cut_among paging.now (ids_put order.now all.now)) ≡ None) }
-    ensures refused { IfErr result (λ e. Reports e (missing_anchor (cut_among paging.now (ids_put order.now all.now)))) }
+    ensures response { IfOk result (λ t. t ≡ expanded_window (base_of events.now) (changes_of (entries events.now.store.now)) paging.now (ordered_ids order.now all.now) (unwrap_or (cut_among paging.now (ordered_ids order.now all.now)) no_window)) }
+    ensures found { OnOk result (missing_anchor (cut_among paging.now (ordered_ids order.now all.now)) ≡ None) }
+    ensures refused { IfErr result (λ e. Reports e (missing_anchor (cut_among paging.now (ordered_ids order.now all.now)))) }
 {
     let results = in_order(alloc, all, order)?;
     let anchor = anchor_among(alloc, &results, &paging.anchor)?;
@@ -79,9 +79,9 @@ fn found_by_position(
 ) -> Result<Tree, QueryError>
     requires paging { is_paging paging.now ≡ true }
     requires unanchored { paging.now.anchor ≡ None }
-    ensures response { IfOk result (λ t. t ≡ expanded_window (base_of events.now) (changes_of (entries events.now.store.now)) paging.now (ids_put order.now all.now) (unwrap_or (cut_among paging.now (ids_put order.now all.now)) no_window)) }
-    ensures found { OnOk result (missing_anchor (cut_among paging.now (ids_put order.now all.now)) ≡ None) }
-    ensures refused { IfErr result (λ e. Reports e (missing_anchor (cut_among paging.now (ids_put order.now all.now)))) }
+    ensures response { IfOk result (λ t. t ≡ expanded_window (base_of events.now) (changes_of (entries events.now.store.now)) paging.now (ordered_ids order.now all.now) (unwrap_or (cut_among paging.now (ordered_ids order.now all.now)) no_window)) }
+    ensures found { OnOk result (missing_anchor (cut_among paging.now (ordered_ids order.now all.now)) ≡ None) }
+    ensures refused { IfErr result (λ e. Reports e (missing_anchor (cut_among paging.now (ordered_ids order.now all.now)))) }
 {
     let total = all.len() as u64;
     let Some(cut) = cut_asked(paging, total, Anchor::None) else {

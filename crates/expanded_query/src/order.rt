@@ -1,6 +1,6 @@
 //! Found occurrences in the order of a query.
 ghost use Rattle.std.specs.Prelude.{◌≡◌, IfOk, IfSome, OnOk, filter, map, take};
-ghost use Rattle.expanded_query.specs.Founds.{found_item, found_result, id_at, ids_put, is_up_to, ranked_result};
+ghost use Rattle.expanded_query.specs.Founds.{found_item, found_result, id_at, ordered_ids, is_not_behind, ranked_result};
 ghost use Rattle.spec_queries.specs.Comparing.{by_all, by_comparator, by_property};
 ghost use Rattle.spec_queries.specs.Expanded.{ids_in_order};
 
@@ -27,7 +27,7 @@ pub(crate) fn in_order<'a>(
     found: &'a [FoundOccurrence<'a>],
     order: &Order,
 ) -> Result<Vec<Ranked<'a>>, AllocError>
-    ensures { IfOk result (λ v. map id_at v.items ≡ ids_put order.now found.now) }
+    ensures { IfOk result (λ v. map id_at v.items ≡ ordered_ids order.now found.now) }
 {
     let mut results = references(alloc, found)?;
     sort(&mut results, order)?;
@@ -43,7 +43,7 @@ pub(crate) fn first_in_order<'a>(
     order: &Order,
     count: u64,
 ) -> Result<Vec<Ranked<'a>>, AllocError>
-    ensures { IfOk result (λ v. take count (map id_at v.items) ≡ take count (ids_put order.now found.now)) }
+    ensures { IfOk result (λ v. take count (map id_at v.items) ≡ take count (ordered_ids order.now found.now)) }
 {
     let results = references(alloc, found)?;
     match first_among(alloc, &results, order, count)? {
@@ -117,7 +117,7 @@ fn up_to<'a>(
     order: &Order,
     last: &FoundOccurrence<'_>,
 ) -> Result<Vec<Ranked<'a>>, AllocError>
-    ensures { IfOk result (λ v. map id_at v.items ≡ ids_in_order order.now (filter (λ p. is_up_to order.now (found_item last.now) p.1) (map ranked_result results.now))) }
+    ensures { IfOk result (λ v. map id_at v.items ≡ ids_in_order order.now (filter (λ p. is_not_behind order.now (found_item last.now) p.1) (map ranked_result results.now))) }
 {
     let mut first = results_up_to(alloc, results, order.comparators(), last)?;
     sort(&mut first, order)?;
@@ -130,11 +130,11 @@ fn results_up_to<'a>(
     comparators: &[Comparator],
     last: &FoundOccurrence<'_>,
 ) -> Result<Vec<Ranked<'a>>, AllocError>
-    ensures { IfOk result (λ v. v.items ≡ filter (λ r. is_up_to comparators.now (found_item last.now) (found_item r.found.now)) results.now) }
+    ensures { IfOk result (λ v. v.items ≡ filter (λ r. is_not_behind comparators.now (found_item last.now) (found_item r.found.now)) results.now) }
 {
     let mut first = Vec::new(alloc);
     for result in results {
-        if is_up_to(comparators, last, result.found) {
+        if is_not_behind(comparators, last, result.found) {
             first.push(*result)?;
         }
     }
@@ -142,12 +142,12 @@ fn results_up_to<'a>(
 }
 
 // Whether an occurrence doesn't stand behind another.
-fn is_up_to(
+fn is_not_behind(
     comparators: &[Comparator],
     last: &FoundOccurrence<'_>,
     one: &FoundOccurrence<'_>,
 ) -> bool
-    ensures { result ≡ is_up_to comparators.now (found_item last.now) (found_item one.now) }
+    ensures { result ≡ is_not_behind comparators.now (found_item last.now) (found_item one.now) }
 {
     compare(comparators, last, one) != Ordering::Less
 }

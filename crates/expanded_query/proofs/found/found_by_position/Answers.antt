@@ -2,7 +2,7 @@ use Rattle.std.proofs.Common.{◌≡◌, ◌∙◌, Some, ap, map, sym, take, un
 use Rattle.account_store.specs.Store.{entries}
 use Rattle.event_store.specs.EventsBase.{base_of}
 use Rattle.expanded_query.proofs.FirstLemmas.{ids_length, same_cut}
-use Rattle.expanded_query.specs.Founds.{id_at, ids_put}
+use Rattle.expanded_query.specs.Founds.{id_at, ordered_ids}
 use Rattle.spec_history.specs.History.{changes_of}
 use Rattle.spec_queries.specs.Expanded.{anchor_among, cut_among, expanded_window}
 use Rattle.spec_queries.specs.Found.{no_window}
@@ -11,7 +11,7 @@ use Rattle.expanded_query.proofs.found.found_by_position.Goals as goal
 pub returns-clause-response : goal.returns-clause-response
 returns-clause-response c =
     let paging = c.args.paging.now in
-    let ids = ids_put c.args.order.now c.args.all.now in
+    let ids = ordered_ids c.args.order.now c.args.all.now in
     let cut = c.in-Some.cut in
     let total = sym (ids_length c.args.order.now c.args.all.now) in
     let first : take cut.to (map id_at c.deref.result.now) ≡ take cut.to ids = ap (λ rs. take cut.to (map id_at rs)) c.deref.ensures.value ∙ c.in_ok-results.ensures in

@@ -2,7 +2,7 @@ use Rattle.std.proofs.Common.{sym, ◌∙◌}
 use Rattle.account_store.specs.Store.{entries}
 use Rattle.event_store.specs.EventsBase.{base_of}
 use Rattle.expanded_query.proofs.RefusalLemmas.{answered, found_same, refused, replied}
-use Rattle.expanded_query.specs.Founds.{ids_put}
+use Rattle.expanded_query.specs.Founds.{ordered_ids}
 use Rattle.spec_history.specs.History.{changes_of}
 use Rattle.expanded_query.proofs.query.expanded_query.Goals as goal
 
@@ -13,7 +13,7 @@ returns-clause-response c =
     let terms = c.in_ok-terms.terms in
     let same = found_same c.args.events.now.zones.now cs asked terms.sight terms.order c.in_ok-sources.sources.items c.deref.result.now c.window.result c.in_ok-all.all.items c.deref-2.result.now
     c.in_ok-terms.ensures.sight c.in_ok-terms.ensures.order c.in_ok-sources.ensures c.deref.ensures.value c.window.ensures.value c.in_ok-all.ensures c.deref-2.ensures.value in
-    replied (base_of c.args.events.now) cs asked c.args.paging.now (ids_put terms.order c.deref-2.result.now) same c.found.result c.found.ensures.response
+    replied (base_of c.args.events.now) cs asked c.args.paging.now (ordered_ids terms.order c.deref-2.result.now) same c.found.result c.found.ensures.response
 
 pub returns-clause-answered : goal.returns-clause-answered
 returns-clause-answered c =
@@ -22,7 +22,7 @@ returns-clause-answered c =
     let terms = c.in_ok-terms.terms in
     let same = found_same c.args.events.now.zones.now cs asked terms.sight terms.order c.in_ok-sources.sources.items c.deref.result.now c.window.result c.in_ok-all.all.items c.deref-2.result.now
     c.in_ok-terms.ensures.sight c.in_ok-terms.ensures.order c.in_ok-sources.ensures c.deref.ensures.value c.window.ensures.value c.in_ok-all.ensures c.deref-2.ensures.value in
-    answered (base_of c.args.events.now) cs asked c.args.paging.now (ids_put terms.order c.deref-2.result.now) same c.found.result (sym c.is_paging.ensures ∙ c.if-not-is_paging.false) c.in_ok-terms.ensures.known c.found.ensures.found
+    answered (base_of c.args.events.now) cs asked c.args.paging.now (ordered_ids terms.order c.deref-2.result.now) same c.found.result (sym c.is_paging.ensures ∙ c.if-not-is_paging.false) c.in_ok-terms.ensures.known c.found.ensures.found
 
 pub returns-clause-refused : goal.returns-clause-refused
 returns-clause-refused c =
@@ -31,4 +31,4 @@ returns-clause-refused c =
     let terms = c.in_ok-terms.terms in
     let same = found_same c.args.events.now.zones.now cs asked terms.sight terms.order c.in_ok-sources.sources.items c.deref.result.now c.window.result c.in_ok-all.all.items c.deref-2.result.now
     c.in_ok-terms.ensures.sight c.in_ok-terms.ensures.order c.in_ok-sources.ensures c.deref.ensures.value c.window.ensures.value c.in_ok-all.ensures c.deref-2.ensures.value in
-    refused (base_of c.args.events.now) cs asked c.args.paging.now (ids_put terms.order c.deref-2.result.now) same c.found.result (sym c.is_paging.ensures ∙ c.if-not-is_paging.false) c.in_ok-terms.ensures.known c.found.ensures.refused
+    refused (base_of c.args.events.now) cs asked c.args.paging.now (ordered_ids terms.order c.deref-2.result.now) same c.found.result (sym c.is_paging.ensures ∙ c.if-not-is_paging.false) c.in_ok-terms.ensures.known c.found.ensures.refused
