@@ -3,7 +3,7 @@ use Rattle.std.proofs.Common.{◌≡◌, ◌≢◌, ◌<◌, ◌≤◌, ◌+◌,
 use Rattle.std.specs.Io.KnownBytes.{Consumes}
 use Rattle.std.specs.Prelude.{All, IfNone, IfSome}
 use Rattle.io_edge.specs.Outside.{SourceShown}
-use Rattle.line_edge.specs.Reading.{GivesLine, NextIs, Took}
+use Rattle.line_edge.specs.Reading.{GivesLine, NextLineIs, TookMore}
 use Rattle.line_edge.specs.declared.next.NextLine.{NextLine}
 use Rattle.std.proofs.KnownBytes.{Consumes-nil, Consumes-trans}
 use Rattle.std.proofs.lemmas.List.{take-append-drop, get_or-take, get_or_default, length-take-le, take_all}
@@ -78,7 +78,7 @@ pub moved_none : (s : SourceShown) (first : List ℕ) → Came s s first first [
 moved_none s first = record { taken = []; consumed = Consumes-nil s.left; later = omega arith; parts = append-nil first }
 
 -- a piece was taken behind
-pub moved_more : {s t u : SourceShown} {first rest rest' line : List ℕ} → Came s t first rest line → Took t u rest rest' → Came s u first rest' line
+pub moved_more : {s t u : SourceShown} {first rest rest' line : List ℕ} → Came s t first rest line → TookMore t u rest rest' → Came s u first rest' line
 moved_more {s} {t} {u} {first} {rest} {rest'} {line} m k = record {
   taken = m.taken ++ k.taken;
   consumed = Consumes-trans s.left t.left u.left m.taken k.taken m.consumed k.consumed;
@@ -91,10 +91,10 @@ pub moved_all : {s t : SourceShown} {first rest line line' : List ℕ} → Came 
 moved_all {s} {t} {first} {rest} {line} {line'} m is = record { taken = m.taken; consumed = m.consumed; later = m.later; parts = m.parts ∙ (sym is ∙ sym (append-nil line')) }
 
 -- what is told of the bytes of a line is told of those that were left and came
-pub gives : {most : ℕ} {s t : SourceShown} {first rest rest' line : List ℕ} {answer : NextLine} → (m : Came s t first rest line) → NextIs most s t (line ++ rest) rest' answer → GivesLine most s t first rest' answer
+pub gives : {most : ℕ} {s t : SourceShown} {first rest rest' line : List ℕ} {answer : NextLine} → (m : Came s t first rest line) → NextLineIs most s t (line ++ rest) rest' answer → GivesLine most s t first rest' answer
 gives {most} {s} {t} {first} {rest} {rest'} {line} {answer} m how = record {
   taken = m.taken;
   consumed = m.consumed;
   later = m.later;
-  how = subst (λ (l : List ℕ). NextIs most s t l rest' answer) (sym m.parts) how;
+  how = subst (λ (l : List ℕ). NextLineIs most s t l rest' answer) (sym m.parts) how;
 }

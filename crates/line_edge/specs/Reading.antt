@@ -7,21 +7,21 @@ use Rattle.line_edge.specs.declared.next.NextLine.{NextLine}
 use Rattle.line_edge.specs.declared.next.NextLine.TheVariants.{Line, Last, End, TooLong, ReadFault, NoMemory}
 use Rattle.line_edge.specs.declared.rest.Moved.{Moved}
 use Rattle.line_edge.specs.declared.rest.Moved.TheVariants as moved
-use Rattle.line_edge.specs.declared.rest.Stop.{Stop}
-use Rattle.line_edge.specs.declared.rest.Stop.TheVariants as stop
+use Rattle.line_edge.specs.declared.rest.NoMore.{NoMore}
+use Rattle.line_edge.specs.declared.rest.NoMore.TheVariants as no_more
 
 -- some bytes were taken from a source, and stand behind those that were left
-pub record Took (s s' : SourceShown) (left left' : List ℕ) : Type 0 where
+pub record TookMore (s s' : SourceShown) (left left' : List ℕ) : Type 0 where
   pub taken : List ℕ
   pub consumed : Consumes s.left s'.left taken
   pub later : s.faults ≤ s'.faults
   pub grown : left' ≡ left ++ taken
 
 -- why no more came
-abbrev pub StopCause : SourceShown → SourceShown → Stop → Type 0
-StopCause s s' stop.Ended = IsAtEnd s'.left
-StopCause s s' stop.Failed = Rose s.faults s'.faults
-StopCause s s' stop.NoMemory = ⊤
+abbrev pub NoMoreCause : SourceShown → SourceShown → NoMore → Type 0
+NoMoreCause s s' no_more.Ended = IsAtEnd s'.left
+NoMoreCause s s' no_more.Failed = Rose s.faults s'.faults
+NoMoreCause s s' no_more.NoMemory = ⊤
 
 -- what moving a line's next bytes does: to the first line feed, all, or nothing
 abbrev pub MoveHow : ℕ → List ℕ → List ℕ → List ℕ → List ℕ → Moved → Type 0
@@ -38,19 +38,19 @@ MoveFirst count most line rest line' rest' moved.TooLong = IsTooLong most (line 
 MoveFirst count most line rest line' rest' moved.NoMemory = ⊤
 
 -- what the answer says of the bytes that were left and came, and of those that are left now
-abbrev pub NextIs : ℕ → SourceShown → SourceShown → List ℕ → List ℕ → NextLine → Type 0
-NextIs most s s' bytes rest (Line line) = (bytes ≡ line.items ++ 10 ∷ rest) × HasNoFeed line.items × (length line.items ≤ most)
-NextIs most s s' bytes rest (Last line) = (bytes ≡ line.items) × HasNoFeed line.items × (length line.items ≤ most) × (0 < length line.items) × (rest ≡ []) × IsAtEnd s'.left
-NextIs most s s' bytes rest End = (bytes ≡ []) × (rest ≡ []) × IsAtEnd s'.left
-NextIs most s s' bytes rest TooLong = IsTooLong most bytes
-NextIs most s s' bytes rest ReadFault = HasNoFeed bytes × Rose s.faults s'.faults
-NextIs most s s' bytes rest NoMemory = ⊤
+abbrev pub NextLineIs : ℕ → SourceShown → SourceShown → List ℕ → List ℕ → NextLine → Type 0
+NextLineIs most s s' bytes rest (Line line) = (bytes ≡ line.items ++ 10 ∷ rest) × HasNoFeed line.items × (length line.items ≤ most)
+NextLineIs most s s' bytes rest (Last line) = (bytes ≡ line.items) × HasNoFeed line.items × (length line.items ≤ most) × (0 < length line.items) × (rest ≡ []) × IsAtEnd s'.left
+NextLineIs most s s' bytes rest End = (bytes ≡ []) × (rest ≡ []) × IsAtEnd s'.left
+NextLineIs most s s' bytes rest TooLong = IsTooLong most bytes
+NextLineIs most s s' bytes rest ReadFault = HasNoFeed bytes × Rose s.faults s'.faults
+NextLineIs most s s' bytes rest NoMemory = ⊤
 
 pub record GivesLine (most : ℕ) (s s' : SourceShown) (rest rest' : List ℕ) (answer : NextLine) : Type 0 where
   pub taken : List ℕ
   pub consumed : Consumes s.left s'.left taken
   pub later : s.faults ≤ s'.faults
-  pub how : NextIs most s s' (rest ++ taken) rest' answer
+  pub how : NextLineIs most s s' (rest ++ taken) rest' answer
 
 -- what the end of input is behind a line's bytes
 abbrev pub EndedWith : List ℕ → NextLine → Type 0
@@ -59,7 +59,7 @@ EndedWith bytes End = bytes ≡ []
 EndedWith bytes _ = ⊥
 
 -- whether bytes follow those that are left and came
-abbrev pub FollowedHow : SourceShown → SourceShown → List ℕ → Result Bool Stop → Type 0
+abbrev pub FollowedHow : SourceShown → SourceShown → List ℕ → Result Bool NoMore → Type 0
 FollowedHow s s' rest (Ok true) = 0 < length rest
 FollowedHow s s' rest (Ok false) = (rest ≡ []) × IsAtEnd s'.left
-FollowedHow s s' rest (Err e) = (rest ≡ []) × StopCause s s' e
+FollowedHow s s' rest (Err e) = (rest ≡ []) × NoMoreCause s s' e

@@ -1,7 +1,7 @@
 //! The next line of a source.
-ghost use Rattle.line_edge.specs.Reading.{EndedWith, FollowedHow, GivesLine, Took};
+ghost use Rattle.line_edge.specs.Reading.{EndedWith, FollowedHow, GivesLine, TookMore};
 
-use crate::rest::{Moved, Rest, Stop};
+use crate::rest::{Moved, NoMore, Rest};
 use io_edge::source::Source;
 use std::alloc::Global;
 
@@ -32,9 +32,9 @@ pub fn next_line<S: Source>(alloc: Global, source: &mut S, rest: &mut Rest, most
     loop {
         match rest.fill(source) {
             Ok(()) => {}
-            Err(Stop::Ended) => return ended(line),
-            Err(Stop::Failed) => return NextLine::ReadFault,
-            Err(Stop::NoMemory) => return NextLine::NoMemory,
+            Err(NoMore::Ended) => return ended(line),
+            Err(NoMore::Failed) => return NextLine::ReadFault,
+            Err(NoMore::NoMemory) => return NextLine::NoMemory,
         }
         match rest.move_line(&mut line, most) {
             Moved::Line => return NextLine::Line(line),
@@ -56,13 +56,13 @@ fn ended(line: Vec<u8>) -> NextLine
 }
 
 /// Whether more bytes follow, or why that isn't known. Takes memory for a piece, and no byte is lost.
-pub fn is_followed<S: Source>(source: &mut S, rest: &mut Rest) -> Result<bool, Stop>
-    ensures took { Took (S.shown source.old) (S.shown source.new) rest.old rest.new }
+pub fn is_followed<S: Source>(source: &mut S, rest: &mut Rest) -> Result<bool, NoMore>
+    ensures took { TookMore (S.shown source.old) (S.shown source.new) rest.old rest.new }
     ensures how { FollowedHow (S.shown source.old) (S.shown source.new) rest.new result }
 {
     match rest.fill(source) {
         Ok(()) => Ok(true),
-        Err(Stop::Ended) => Ok(false),
+        Err(NoMore::Ended) => Ok(false),
         Err(stop) => Err(stop),
     }
 }

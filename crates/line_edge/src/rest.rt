@@ -1,7 +1,7 @@
 //! Bytes that were taken from a source and not used.
 ghost use Rattle.std.specs.Prelude.{◌≡◌, ◌<◌, ◌≤◌, [], IfErr, IfNone, IfSome, OnOk, drop, length, take};
 ghost use Rattle.line_edge.specs.Lines.{HasNoFeed, IsFirstFeed};
-ghost use Rattle.line_edge.specs.Reading.{MoveFirst, MoveHow, StopCause, Took};
+ghost use Rattle.line_edge.specs.Reading.{MoveFirst, MoveHow, NoMoreCause, TookMore};
 
 use io_edge::source::Source;
 use memchr::memchr;
@@ -34,7 +34,7 @@ impl Model for Rest {
 
 /// Why no more bytes came.
 #[derive(Clone, Copy)]
-pub enum Stop {
+pub enum NoMore {
     /// The input is at its end.
     Ended,
     /// The source failed.
@@ -83,10 +83,10 @@ impl Rest {
     }
 
     /// Takes what a source gives next, where no bytes are left. Takes memory for a piece, the first time, and before the source is asked.
-    pub(crate) fn fill<S: Source>(&mut self, source: &mut S) -> Result<(), Stop>
-        ensures took { Took (S.shown source.old) (S.shown source.new) self.old self.new }
+    pub(crate) fn fill<S: Source>(&mut self, source: &mut S) -> Result<(), NoMore>
+        ensures took { TookMore (S.shown source.old) (S.shown source.new) self.old self.new }
         ensures some { OnOk result (0 < length self.new) }
-        ensures stop { IfErr result (λ stop. (self.new ≡ []) × StopCause (S.shown source.old) (S.shown source.new) stop) }
+        ensures stop { IfErr result (λ stop. (self.new ≡ []) × NoMoreCause (S.shown source.old) (S.shown source.new) stop) }
     {
         if self.as_slice().is_empty() {
             self.refill(source)
@@ -96,11 +96,11 @@ impl Rest {
     }
 
     // Takes what a source gives next, where no bytes are left.
-    fn refill<S: Source>(&mut self, source: &mut S) -> Result<(), Stop>
+    fn refill<S: Source>(&mut self, source: &mut S) -> Result<(), NoMore>
         requires { self.old ≡ [] }
-        ensures took { Took (S.shown source.old) (S.shown source.new) [] self.new }
+        ensures took { TookMore (S.shown source.old) (S.shown source.new) [] self.new }
         ensures some { OnOk result (0 < length self.new) }
-        ensures stop { IfErr result (λ stop. (self.new ≡ []) × StopCause (S.shown source.old) (S.shown source.new) stop) }
+        ensures stop { IfErr result (λ stop. (self.new ≡ []) × NoMoreCause (S.shown source.old) (S.shown source.new) stop) }
     {
         self.bytes.clear();
         self.used = 0;
@@ -108,13 +108,13 @@ impl Rest {
             Ok(()) => {}
             Err(_) => {
                 self.bytes.clear();
-                return Err(Stop::NoMemory);
+                return Err(NoMore::NoMemory);
             }
         }
         match source.take(&mut self.bytes) {
             Ok(0) => {
                 self.bytes.clear();
-                Err(Stop::Ended)
+                Err(NoMore::Ended)
             }
             Ok(count) => {
                 self.bytes.truncate(count);
@@ -122,7 +122,7 @@ impl Rest {
             }
             Err(_) => {
                 self.bytes.clear();
-                Err(Stop::Failed)
+                Err(NoMore::Failed)
             }
         }
     }
