@@ -1,0 +1,12 @@
+pub mod TextLemmas
+pub mod OpenLemmas
+pub mod LineLemmas
+pub mod Clocks
+pub mod LoopLemmas
+pub mod EndLemmas
+pub mod StepLemmas
+pub mod InputLines
+pub mod Faultless
+pub mod GoingOn
+pub mod RunLemmas
+pub mod StartLemmas

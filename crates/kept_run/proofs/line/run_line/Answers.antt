@@ -1,0 +1,41 @@
+use Rattle.std.proofs.Common.{◌≡◌, ◌∙◌, List, ℕ, Err, refl, rules, sym, ap, subst}
+use Rattle.spec_time.specs.Moments.{clamped}
+use Rattle.io_edge.specs.Outside.{Grows, GrowsByPrefix}
+use Rattle.kept_run.proofs.LineLemmas.{line_unkept, line_unwritten, line_written}
+use Rattle.kept_run.proofs.TextLemmas.{grown_within, same_count}
+use Rattle.kept_run.specs.Steps.{AreWithin}
+use Rattle.kept_run.proofs.line.run_line.Goals as goal
+
+pub keep_new-requires-clause-all : goal.keep_new-requires-clause-all
+keep_new-requires-clause-all g c κs within =
+    let t = c.in-Ok-line_text.ensures in
+    same_count c.args.desk.now c.line_text.new.desk t.made t.chain ∙ c.requires.all
+
+pub keep_new-requires-clause-within : goal.keep_new-requires-clause-within
+keep_new-requires-clause-within g c κs within =
+    let t = c.in-Ok-line_text.ensures in
+    subst (λ (places : List ℕ). AreWithin places c.line_text.new.desk.0) (sym (c.deref.ensures.value ∙ c.in-Ok.ensures)) (grown_within c.args.desk.now c.line_text.new.desk t.made t.chain)
+
+pub returns-in-Err-Failed : goal.returns-in-Err-Failed
+returns-in-Err-Failed g c =
+    let kept = c.in-Err-Failed.ensures in
+    let failed = c.in-Err-Failed.field-0-is in
+    let clamps : c.clamped-moment.result ≡ clamped c.now.result = search rules in
+    line_unkept _ _ _ _ _ c.now.result c.clamped-moment.result _ clamps c.in-Ok-line_text.ensures _ (c.deref.ensures.value ∙ c.in-Ok.ensures) (kept.read_back (λ e. let f = failed in cc)) (kept.go_on (λ e. let f = failed in cc))
+    c.now.ensures kept.faults kept.damages (kept.failed (ap Err failed)) (kept.cause (ap Err failed)) refl
+
+pub returns-in-Ok-put_all : goal.returns-in-Ok-put_all
+returns-in-Ok-put_all g c =
+    let kept = c.in-Ok-keep_new.ensures in
+    let put = c.in-Ok-put_all.ensures in
+    let clamps : c.clamped-moment.result ≡ clamped c.now.result = search rules in
+    line_written _ _ _ _ _ c.now.result c.clamped-moment.result _ clamps c.in-Ok-line_text.ensures _ (c.deref.ensures.value ∙ c.in-Ok.ensures) (kept.read_back (λ e. cc)) (kept.go_on (λ e. cc))
+    c.now.ensures kept.faults kept.damages kept.kept (subst (Grows _ _) c.deref-2.ensures.value put.ok) put.cause.later
+
+pub returns : goal.returns
+returns g c =
+    let kept = c.in-Ok-keep_new.ensures in
+    let put = c.in-Err.ensures in
+    let clamps : c.clamped-moment.result ≡ clamped c.now.result = search rules in
+    line_unwritten _ _ _ _ _ c.now.result c.clamped-moment.result _ clamps c.in-Ok-line_text.ensures _ (c.deref.ensures.value ∙ c.in-Ok.ensures) (kept.read_back (λ e. cc)) (kept.go_on (λ e. cc))
+    c.now.ensures kept.faults kept.damages kept.kept (subst (GrowsByPrefix _ _) c.deref-2.ensures.value put.err) put.cause.later put.cause.failed
