@@ -1,6 +1,7 @@
 -- An account may go to another thread.
 use denote.Param.Send.{IsSend, sendable}
-use Rattle.std.proofs.Crossing.{crosses}
+use Rattle.std.proofs.Crossing.{crosses, frees, send}
+use Rattle.std.proofs.MapsCrossingOver.{BTreeSet-send}
 use Rattle.spec_json.proofs.Crossing.{text_sent}
 use Rattle.spec_json.proofs.tree.TreeList.TheLaws.TheKnot as tree
 use Rattle.resource_book.specs.contracts.room.Room as room
@@ -22,4 +23,4 @@ series_sent : IsSend series.the_row
 series_sent = search (crosses, sendable) depth 60 fits 20000
 
 pub account_sent : IsSend account.the_row
-account_sent = search (text_sent, rooms_sent, series_sent, crosses, tree.crosses, sendable) depth 60 fits 20000
+account_sent = search (text_sent, rooms_sent, series_sent, BTreeSet-send, send, frees, crosses, tree.crosses, sendable) depth 60 fits 20000
