@@ -6,7 +6,7 @@ import tempfile
 
 from measure import CAPABILITY, Table, apart, compact, contents, length_of, measured, options, run_program, run_python
 
-COUNTS = (10_000, 100_000)
+COUNTS = (10_000, 50_000)  # a whole answer stays within what the responses of a request may have
 CALLS = 16
 
 
