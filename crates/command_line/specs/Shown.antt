@@ -3,7 +3,7 @@ use Rattle.std.specs.Prelude.{option_map}
 use Rattle.command_line.specs.Commands as commands
 use Rattle.command_line.specs.KeptWords as words
 use Rattle.command_line.specs.declared.command.Command.{Command}
-use Rattle.command_line.specs.declared.kept.Kept.{Kept}
+use Rattle.command_line.specs.declared.kept.KeptCommand.{KeptCommand}
 use Rattle.command_line.specs.declared.listen.Listen.{Listen as Listening}
 use Rattle.command_line.specs.declared.workload.Workload.{Workload as Work}
 use Rattle.command_line.specs.declared.command.Command.TheVariants.{Batch, Listen, Stdio, Workload}
@@ -14,7 +14,7 @@ workload_shown w = commands.workload w.number w.size
 abbrev pub listen_shown : Listening → commands.Listen
 listen_shown l = record { config = l.config.now; port = l.port; workers = l.workers; connections = l.connections }
 
-abbrev pub kept_shown : Kept → words.Kept
+abbrev pub kept_shown : KeptCommand → words.KeptCommand
 kept_shown k = record { config = k.config.now; journal = k.journal.now; user = option_map (λ name. name.now) k.user }
 
 abbrev pub command_shown : Command → commands.Command

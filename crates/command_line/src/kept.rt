@@ -5,7 +5,7 @@ use std::alloc::{AllocError, Global};
 
 /// What `kept` is to do. The names are parts of the words.
 #[derive(Clone, Copy, Debug)]
-pub struct Kept<'a> {
+pub struct KeptCommand<'a> {
     /// The name of the configuration.
     pub config: &'a str,
     /// The name of the journal.
@@ -14,7 +14,7 @@ pub struct Kept<'a> {
     pub user: Option<&'a str>,
 }
 
-impl<'a> Kept<'a> {
+impl<'a> KeptCommand<'a> {
     ghost use Rattle.std.specs.Prelude.{◌≡◌, IfOk, map, option_map, string_bytes};
     ghost use Rattle.command_line.specs.KeptWords.{kept_named, kept_of, kept_options, kept_with};
     ghost use Rattle.command_line.specs.Shown.{kept_shown};
@@ -22,12 +22,12 @@ impl<'a> Kept<'a> {
     /// What the words after the program's name ask for where the first is `kept`, or `None` where they aren't its words.
     ///
     /// Takes memory for what `clap` keeps until the words are read.
-    pub fn read(alloc: Global, words: &'a [String]) -> Result<Option<Kept<'a>>, AllocError>
+    pub fn read(alloc: Global, words: &'a [String]) -> Result<Option<KeptCommand<'a>>, AllocError>
         ensures { IfOk result (λ kept. option_map kept_shown kept ≡ kept_of (map string_bytes words.entry.now)) }
     {
         match words {
             [] => Ok(None),
-            [word, rest @ ..] => Kept::read_named(alloc, word.as_str(), rest),
+            [word, rest @ ..] => KeptCommand::read_named(alloc, word.as_str(), rest),
         }
     }
 
@@ -36,24 +36,24 @@ impl<'a> Kept<'a> {
         alloc: Global,
         name: &str,
         words: &'a [String],
-    ) -> Result<Option<Kept<'a>>, AllocError>
+    ) -> Result<Option<KeptCommand<'a>>, AllocError>
         ensures { IfOk result (λ kept. option_map kept_shown kept ≡ kept_named name.now (map string_bytes words.entry.now)) }
     {
         match name {
-            "kept" => Kept::read_options(alloc, words),
+            "kept" => KeptCommand::read_options(alloc, words),
             _ => Ok(None),
         }
     }
 
     // What the words behind `kept` ask for.
-    fn read_options(alloc: Global, words: &'a [String]) -> Result<Option<Kept<'a>>, AllocError>
+    fn read_options(alloc: Global, words: &'a [String]) -> Result<Option<KeptCommand<'a>>, AllocError>
         ensures { IfOk result (λ kept. option_map kept_shown kept ≡ kept_options (map string_bytes words.entry.now)) }
     {
         let command = kept_command(alloc)?;
         let Some(matches) = matches_in(command, words)? else {
             return Ok(None);
         };
-        Ok(Kept::with(
+        Ok(KeptCommand::with(
             matches.get_str("config"),
             matches.get_str("journal"),
             matches.get_str("user"),
@@ -65,10 +65,10 @@ impl<'a> Kept<'a> {
         config: Option<&'a str>,
         journal: Option<&'a str>,
         user: Option<&'a str>,
-    ) -> Option<Kept<'a>>
+    ) -> Option<KeptCommand<'a>>
         ensures { option_map kept_shown result ≡ kept_with (option_map (λ s. s.now) config.entry) (option_map (λ s. s.now) journal.entry) (option_map (λ s. s.now) user.entry) }
     {
-        Some(Kept {
+        Some(KeptCommand {
             config: config?,
             journal: journal?,
             user,

@@ -5,7 +5,7 @@ use Rattle.std.proofs.lemmas.List.Elements.{All-map}
 use Rattle.std.proofs.lemmas.Option.{same_Some}
 use Rattle.std.specs.Io.KnownBytes.{Consumes, IsAtEnd}
 use Rattle.std.specs.Prelude.{◌⊎◌, All, IfSome}
-use Rattle.command_line.specs.KeptWords.{Kept as KeptCommand}
+use Rattle.command_line.specs.KeptWords.{KeptCommand}
 use Rattle.io_edge.specs.Outside.{IsMissing, OpenerShown, Rose, file_named}
 use Rattle.jmapd_run.proofs.StartLemmas.{configured_taken}
 use Rattle.jmapd_run.specs.Completes.{IsAccepted}

@@ -1,6 +1,6 @@
 -- From the words on.
 use Rattle.std.proofs.Common.{◌≡◌, ◌<◌, ℕ, List, Option, Some, None, Result, Ok, Err, inl, inr, length, refl, sym, ap, ◌∙◌, subst}
-use Rattle.command_line.specs.KeptWords.{Kept as KeptCommand}
+use Rattle.command_line.specs.KeptWords.{KeptCommand}
 use Rattle.io_edge.specs.Outside.{OpenerShown}
 use Rattle.jmapd_run.specs.Shown.{LoadHow}
 use Rattle.jmapd_run.specs.Starts.{IsLoaded, IsUser}

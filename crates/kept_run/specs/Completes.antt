@@ -1,7 +1,7 @@
 -- How a kept run ends where nothing fails, and what it finds when it is begun again.
 use Rattle.std.specs.Prelude.{◌≡◌, ◌≢◌, ◌⊎◌, ◌<◌, ◌++◌, ◌&&◌, ℕ, List, Bool, All, IfSome, Option, Some, None, Ok, length, nat_le, slice_index_or, if◌then◌else◌}
 use Rattle.std.specs.List.{list_all}
-use Rattle.command_line.specs.KeptWords.{Kept as KeptCommand}
+use Rattle.command_line.specs.KeptWords.{KeptCommand}
 use Rattle.io_edge.specs.Outside.{OpenerShown, Rose}
 use Rattle.jmapd_run.specs.Completes.{IsAccepted}
 use Rattle.jmapd_run.specs.Starts.{IsLoaded, IsUser}

@@ -1,7 +1,7 @@
 -- What a kept run does, whatever bytes come and whichever calls of the keeper and of the output fail.
 use Rattle.std.specs.Prelude.{◌≡◌, ◌≢◌, ◌⊎◌, ◌<◌, ◌≤◌, ◌+◌, ℕ, ℤ, List, [], ◌∷◌, ◌++◌, All, Option, Some, None, Ok, Err, length, map, slice_index_or, ⊤}
 use Rattle.std.specs.Io.KnownBytes.{Consumes, IsAtEnd}
-use Rattle.command_line.specs.KeptWords.{Kept as KeptCommand}
+use Rattle.command_line.specs.KeptWords.{KeptCommand}
 use Rattle.io_edge.specs.Outside.{Grows, OpenerShown, Rose, SinkShown, SourceShown}
 use Rattle.jmapd_run.specs.Starts.{IsLoaded, IsNotOpened, IsUser}
 use Rattle.jmapd_run.specs.declared.status.Status.{Status}

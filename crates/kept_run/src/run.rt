@@ -10,7 +10,7 @@ use crate::accounts::open_accounts;
 use crate::lines::run_lines;
 use crate::status::{KeptDone, KeptStatus};
 use account_desk::sole_desk::SoleDesk;
-use command_line::kept::Kept as KeptCommand;
+use command_line::kept::KeptCommand;
 use io_edge::clock::Clock;
 use io_edge::opener::Opener;
 use io_edge::sink::Sink;

@@ -1,7 +1,7 @@
 use Rattle.std.proofs.Common.{ap, ◌∙◌}
 use Rattle.clap.specs.Words.{app_of, is_simple_and_free}
 use Rattle.command_line.proofs.Values.{kept_found, kept_is_free}
-use Rattle.command_line.proofs.kept.Kept.read_options.Goals as goal
+use Rattle.command_line.proofs.kept.KeptCommand.read_options.Goals as goal
 
 pub matches_in-requires : goal.matches_in-requires
 matches_in-requires c = ap is_simple_and_free c.in_ok-command.ensures ∙ kept_is_free
