@@ -1,23 +1,25 @@
 //! What the overrides of an event come to.
 ghost use Rattle.std.specs.Prelude.{◌≡◌, IfErr, IfOk, Some, codes, if◌then◌else◌, None, map, option_map};
-ghost use Rattle.spec_events.specs.Events.{bad_event_properties};
+ghost use Rattle.spec_events.specs.Events.{bad_event_properties, length_in};
 ghost use Rattle.spec_events.specs.Values.{is_showing};
 ghost use Rattle.spec_json.specs.Data.{lookup};
 ghost use Rattle.spec_json.specs.Parts.{all_some, members_in};
 ghost use Rattle.spec_json.specs.TreeData.{data_of, pair_of};
-ghost use Rattle.spec_recurrence.specs.Overrides.{changed_at, changed_span, patch_changes, exception_at, exception_in, exception_of, exceptions_in, few_members, first_refused, is_excluded, overrides_in, overrides_of, recurrence_id_in, replaced_by, single, span_of, valid_span};
+ghost use Rattle.spec_recurrence.specs.Overrides.{changed_at, changed_span, patch_changes, exception_at, exception_in, exception_of, exceptions_in, few_members, first_refused, is_excluded, overrides_in, overrides_of, recurrence_id_in, replaced_by, single, span_in, span_of, valid_span};
 ghost use Rattle.overrides.specs.Reports.{Reports, ReportsAmong};
 ghost use Rattle.overrides.specs.declared.exceptions.OverrideError.TheVariants.{NoMemory};
 
 use crate::fixed::touches_fixed;
 use crate::occurrence::{changed_at, patch_changes, single};
 use crate::part::{are_needed, firsts_of, part_of};
-use single_event::read::{EventError, bad_event_names, read_event};
+use single_event::parts::{given_length, is_occupying, start_of};
+use single_event::read::bad_event_names;
 use spec_events::limits::{FIRST_START, LAST_START};
 use spec_json::text::Text;
 use spec_json::tree::{Member, Tree, TreeObject};
 use spec_recurrence::limits::MAX_OVERRIDES;
 use spec_series::exception::{Exception, Exceptions, Span};
+use spec_time::length::Length;
 use spec_time::wall::Wall;
 use std::alloc::{AllocError, AllocFailed, Global};
 use time_text::read_local;
@@ -233,10 +235,28 @@ fn replacement(
     requires { bad.now ≡ bad_event_properties zones.now (data_of alone.now) }
     ensures { IfOk result (λ r. r ≡ option_map Some (changed_span zones.now key.now (patch_changes patch.now) (members_in (data_of alone.now)))) }
 {
-    let changes = patch_changes(patch)?;
-    match changed_span(alloc, alone, bad, key, &changes, zones)? {
+    match patched_span(alloc, alone, bad, key, patch, zones)? {
         Some(span) => Ok(Some(Some(span))),
         None => Ok(None),
+    }
+}
+
+// Most patches have no `excluded`, and change all that they name: such a one isn't copied.
+#[tactic(auto, using(crate::proofs::OverrideLemmas::no_exclusion))]
+fn patched_span(
+    alloc: Global,
+    alone: &Tree,
+    bad: &[Text],
+    key: &Text,
+    patch: &TreeObject,
+    zones: &Zones,
+) -> Result<Option<Span>, AllocError>
+    requires { bad.now ≡ bad_event_properties zones.now (data_of alone.now) }
+    ensures { IfOk result (λ s. s ≡ changed_span zones.now key.now (patch_changes patch.now) (members_in (data_of alone.now))) }
+{
+    match patch.get("excluded") {
+        None => changed_span(alloc, alone, bad, key, patch, zones),
+        Some(_) => changed_span(alloc, alone, bad, key, &patch_changes(patch)?, zones),
     }
 }
 
@@ -282,17 +302,35 @@ fn span_of(
     }
 }
 
-#[tactic(auto, using(crate::proofs::OverrideLemmas::no_names, crate::proofs::OverrideLemmas::some_names))]
 fn valid_span(alloc: Global, tree: &Tree, zones: &Zones) -> Result<Option<Span>, AllocError>
     ensures { IfOk result (λ s. s ≡ valid_span zones.now (data_of tree.now)) }
 {
-    match read_event(alloc, tree, zones) {
-        Ok(event) => Ok(Some(Span {
-            start: event.start(),
-            length: event.length(),
-            occupying: event.is_occupying(),
-        })),
-        Err(EventError::BadEvent { .. }) => Ok(None),
-        Err(EventError::NoMemory) => Err(AllocError),
+    let bad = bad_event_names(alloc, tree, zones)?;
+    if bad.is_empty() {
+        Ok(Some(span_in(tree)))
+    } else {
+        Ok(None)
+    }
+}
+
+fn span_in(tree: &Tree) -> Span
+    ensures { result ≡ span_in (data_of tree.now) }
+{
+    Span {
+        start: start_of(tree),
+        length: length_in(tree),
+        occupying: is_occupying(tree),
+    }
+}
+
+fn length_in(tree: &Tree) -> Length
+    ensures { result ≡ length_in (data_of tree.now) }
+{
+    match given_length(tree) {
+        Some(length) => length,
+        None => Length {
+            days: 0,
+            seconds: 0,
+        },
     }
 }

@@ -6,7 +6,7 @@ ghost use Rattle.spec_json.specs.TreeData.{data_of};
 ghost use Rattle.spec_recurrence.specs.Overrides.{changed_at, patch_changes, occurrence_in, single};
 ghost use Rattle.overrides.specs.Reports.{IsPatched};
 
-use patch_object::{PatchError, apply};
+use patch_object::{PatchError, apply_to};
 use spec_json::text::Text;
 use spec_json::tree::{Tree, TreeObject};
 use std::alloc::{AllocError, Global};
@@ -76,14 +76,14 @@ pub(crate) fn changed_at(
 {
     let mut moved = alone;
     moved.put(Text::from_str(alloc, "start")?, Tree::Text(key.copy()?))?;
-    patched(alloc, &Tree::Object(moved), changes)
+    patched(alloc, Tree::Object(moved), changes)
 }
 
 // The patched tree, none where a key of the patch fails.
-fn patched(alloc: Global, tree: &Tree, patch: &TreeObject) -> Result<Option<Tree>, AllocError>
-    ensures { IfOk result (λ o. IsPatched o (patched (data_of tree.now) patch.now)) }
+fn patched(alloc: Global, tree: Tree, patch: &TreeObject) -> Result<Option<Tree>, AllocError>
+    ensures { IfOk result (λ o. IsPatched o (patched (data_of tree) patch.now)) }
 {
-    match apply(alloc, tree, patch) {
+    match apply_to(alloc, tree, patch) {
         Ok(tree) => Ok(Some(tree)),
         Err(PatchError::InvalidPatch { .. }) => Ok(None),
         Err(PatchError::NoMemory) => Err(AllocError),

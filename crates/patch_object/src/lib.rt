@@ -8,5 +8,5 @@ mod pointer;
 mod pointer_set;
 mod reader;
 
-pub use patch::{PatchError, apply};
+pub use patch::{PatchError, apply, apply_to};
 pub use pointer::{Pointer, PointerError, lookup};

@@ -1,6 +1,7 @@
 //! Patches of a tree.
-ghost use Rattle.std.specs.Prelude.{◌≡◌, ◌<◌, IfErr, IfOk, Ok, Some, false, length, map};
-ghost use Rattle.spec_json.specs.Patch.{fails, has_parent, on_members, patched};
+ghost use Rattle.std.specs.Prelude.{◌≡◌, ◌<◌, ◌||◌, IfErr, IfOk, List, Ok, Some, false, length, map, ℕ};
+ghost use Rattle.std.specs.List.{list_any};
+ghost use Rattle.spec_json.specs.Patch.{fails, has_parent, is_prefix, on_members, patched};
 ghost use Rattle.spec_json.specs.Pointer.{parts};
 ghost use Rattle.spec_json.specs.TreeData.{data_of};
 ghost use Rattle.patch_object.specs.Edits.{change_of, placed_each};
@@ -55,6 +56,17 @@ pub fn apply(alloc: Global, tree: &Tree, patch: &TreeObject) -> Result<Tree, Pat
     Ok(place(tree.copy()?, &edits, 0)?)
 }
 
+/// Gives a tree with the same members put in or removed as `apply` does, and copies no more of it than what the patch puts in.
+///
+/// The tree is given up, also where a key fails. Takes memory for what is put in.
+pub fn apply_to(alloc: Global, tree: Tree, patch: &TreeObject) -> Result<Tree, PatchError>
+    ensures ok { IfOk result (λ t. patched (data_of tree) patch.now ≡ Ok (data_of t)) }
+    ensures err { IfErr result (λ error. Reports error (patched (data_of tree) patch.now)) }
+{
+    let edits = tested_edits(alloc, &tree, patch)?;
+    Ok(place(tree, &edits, 0)?)
+}
+
 // The edits that a patch asks for, in its order, where none of its keys fails.
 fn tested_edits<'a>(
     alloc: Global,
@@ -67,8 +79,7 @@ fn tested_edits<'a>(
     let mut earlier = PointerSet::new(alloc);
     let mut edits = Vec::new(alloc);
     for member in patch.members() {
-        let pointer = tested_pointer(alloc, tree, &earlier, &member.key)?;
-        earlier.add(alloc, pointer.parts())?;
+        let pointer = tested_pointer(alloc, tree, &mut earlier, &member.key)?;
         edits.push(Edit {
             pointer,
             value: &member.value,
@@ -77,23 +88,24 @@ fn tested_edits<'a>(
     Ok(edits)
 }
 
-// The pointer that a key of a patch is, where the key doesn't fail.
+// The pointer that a key of a patch is, where the key doesn't fail. It is then among the earlier ones.
 fn tested_pointer(
     alloc: Global,
     tree: &Tree,
-    earlier: &PointerSet,
+    earlier: &mut PointerSet,
     key: &Text,
 ) -> Result<Pointer, PatchError>
     ensures pointer { IfOk result (λ pointer. parts key.now ≡ Some pointer) }
-    ensures passes { IfOk result (λ pointer. fails (data_of tree.now) earlier.now (Some pointer) ≡ false) }
-    ensures err { IfErr result (λ error. ReportsKey error key.now (fails (data_of tree.now) earlier.now (parts key.now))) }
+    ensures passes { IfOk result (λ pointer. fails (data_of tree.now) earlier.old (Some pointer) ≡ false) }
+    ensures added { IfOk result (λ pointer. (ps : List (List ℕ)) → list_any (λ e. is_prefix e ps) earlier.new ≡ (is_prefix pointer ps || list_any (λ e. is_prefix e ps) earlier.old)) }
+    ensures err { IfErr result (λ error. ReportsKey error key.now (fails (data_of tree.now) earlier.old (parts key.now))) }
 {
     let pointer = match Pointer::read(alloc, key) {
         Ok(pointer) => pointer,
         Err(PointerError::NoMemory) => return Err(PatchError::NoMemory),
         Err(PointerError::BadEscape) => return Err(PatchError::InvalidPatch { key: key.copy()? }),
     };
-    if !has_parent_object(tree, pointer.parts()) || earlier.has_prefix_of(alloc, pointer.parts())? {
+    if !has_parent_object(tree, pointer.parts()) || earlier.add(alloc, pointer.parts())? {
         return Err(PatchError::InvalidPatch { key: key.copy()? });
     }
     Ok(pointer)

@@ -34,19 +34,15 @@ impl PointerSet {
         }
     }
 
-    /// Adds the pointer with these parts. Takes memory for a copy of them.
-    pub(crate) fn add(&mut self, alloc: Global, parts: &[Text]) -> Result<(), AllocError>
-        ensures { OnOk result ((ps : List (List ℕ)) → list_any (λ e. is_prefix e ps) self.new ≡ (is_prefix parts.now ps || list_any (λ e. is_prefix e ps) self.old)) }
+    /// Adds the pointer with these parts, and tells whether one that was there before is a prefix of it. Takes memory for a copy of them.
+    pub(crate) fn add(&mut self, alloc: Global, parts: &[Text]) -> Result<bool, AllocError>
+        ensures told { IfOk result (λ b. b ≡ list_any (λ e. is_prefix e parts.now) self.old) }
+        ensures added { OnOk result ((ps : List (List ℕ)) → list_any (λ e. is_prefix e ps) self.new ≡ (is_prefix parts.now ps || list_any (λ e. is_prefix e ps) self.old)) }
     {
-        self.paths.insert(strings(alloc, parts)?)?;
-        Ok(())
-    }
-
-    /// Whether one of the pointers is a prefix of these parts. Takes memory for a copy of them.
-    pub(crate) fn has_prefix_of(&self, alloc: Global, parts: &[Text]) -> Result<bool, AllocError>
-        ensures { IfOk result (λ b. b ≡ list_any (λ e. is_prefix e parts.now) self.now) }
-    {
-        Ok(has_prefix(&self.paths, &strings(alloc, parts)?))
+        let path = strings(alloc, parts)?;
+        let is_prefixed = has_prefix(&self.paths, &path);
+        self.paths.insert(path)?;
+        Ok(is_prefixed)
     }
 }
 

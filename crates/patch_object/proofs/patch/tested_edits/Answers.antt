@@ -1,7 +1,5 @@
-use Rattle.std.proofs.Common.{◌≡◌, ◌||◌, ℕ, List, ◌∷◌, ◌+◌, map, drop, arith, sym, ap, refl, ◌∙◌}
+use Rattle.std.proofs.Common.{◌≡◌, ◌∷◌, ◌+◌, map, drop, arith, sym, ap, refl, ◌∙◌}
 use Rattle.std.proofs.lemmas.Grind.{common_steps}
-use Rattle.std.specs.List.{list_any}
-use Rattle.spec_json.specs.Patch.{is_prefix}
 use Rattle.spec_json.specs.TreeData.{data_of, pair_of}
 use Rattle.std.proofs.lemmas.List.{at_drop_more}
 use Rattle.spec_json.specs.declared.tree.Member.{Member}
@@ -23,7 +21,6 @@ loop-member-preserved c =
     let m = c.member-item.result in
     let next : map pair_of (drop c.loop-member.member-index items) ≡ pair_of m ∷ map pair_of (drop (c.loop-member.member-index + 1) items) =
     at_drop_more (map pair_of) items c.loop-member.member-index m c.loop-member-test.true ∙ ap (λ (n : Member). pair_of n ∷ map pair_of (drop (c.loop-member.member-index + 1) items)) (sym c.member-item.is) in
-    let added = λ (ps : List (List ℕ)). c.in_ok-add.ensures ps ∙ ap (λ path. is_prefix path ps || list_any (λ q. is_prefix q ps) c.loop-member.earlier) c.parts.ensures.parts in
-    let all = tested_more (data_of c.args.tree.now) c.loop-member.earlier c.add.new.self c.loop-member.edits.items c.push.new.self.items _ (pair_of m) (map pair_of (drop c.loop-member.member-index items)) (map pair_of (drop (c.loop-member.member-index + 1) items)) c.args.patch.now
-    c.in_ok-push.ensures.items next c.loop-member.invariant.earlier added c.in_ok-pointer.ensures.pointer refl c.in_ok-pointer.ensures.passes c.loop-member.invariant.failing c.loop-member.invariant.placed in
+    let all = tested_more (data_of c.args.tree.now) c.loop-member.earlier c.tested_pointer.new.earlier c.loop-member.edits.items c.push.new.self.items _ (pair_of m) (map pair_of (drop c.loop-member.member-index items)) (map pair_of (drop (c.loop-member.member-index + 1) items)) c.args.patch.now
+    c.in_ok-push.ensures.items next c.loop-member.invariant.earlier c.in_ok-pointer.ensures.added c.in_ok-pointer.ensures.pointer refl c.in_ok-pointer.ensures.passes c.loop-member.invariant.failing c.loop-member.invariant.placed in
     record { failing = all.0; earlier = all.1; placed = all.2 }

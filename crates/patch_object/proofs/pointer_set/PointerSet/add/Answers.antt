@@ -5,9 +5,9 @@ use Rattle.patch_object.specs.Paths.{string_parts}
 use Rattle.patch_object.proofs.PointerLemmas.{any_inserted}
 use Rattle.patch_object.proofs.pointer_set.PointerSet.add.Goals as goal
 
-pub returns : goal.returns
-returns c = λ ps.
+pub returns-clause-added : goal.returns-clause-added
+returns-clause-added c = λ ps.
     ap (λ ks. list_any (λ e. is_prefix e ps) (map string_parts ks)) c.in_ok-insert.ensures.keys
-    ∙ any_inserted (λ e. is_prefix e ps) c.self.inside.paths.keys c.in_ok-strings.field-0
-    ∙ ap (λ path. is_prefix path ps || list_any (λ e. is_prefix e ps) (map string_parts c.self.inside.paths.keys)) c.in_ok-strings.ensures
+    ∙ any_inserted (λ e. is_prefix e ps) c.self.inside.paths.keys c.in_ok-path.path
+    ∙ ap (λ path. is_prefix path ps || list_any (λ e. is_prefix e ps) (map string_parts c.self.inside.paths.keys)) c.in_ok-path.ensures
     ∙ ap (λ es. is_prefix c.args.parts.now ps || list_any (λ e. is_prefix e ps) es) c.self.view_is
