@@ -16,6 +16,7 @@ from shapes import SHAPES
 STRANGE = {"name": "Far/Strange", "rule": "<aaa>24:59:59<bbb>-24:59:59,J1/-167:59:59,J365/167:59:59"}
 YEAR = {"after": "2024-06-01T00:00:00", "before": "2025-06-02T00:00:00"}
 LAST_DAY = b'"utcStart":"2025-06-01T00:00:00Z"'
+LAST_OCCURRENCE = "E1400_20250601T231900"  # by its start, of 2,000 daily events in that year
 NOTHING = b'"ids":[]'
 ALL_BOOKED = b'"notCreated":null'
 
@@ -194,8 +195,8 @@ def query_of(condition, *properties, **arguments):
     return ["CalendarEvent/query", {"accountId": "A1", "filter": condition, "timeZone": "Etc/UTC", **ordered, **arguments}]
 
 
-def expanded(*properties):
-    return query_of(YEAR, *properties, expandRecurrences=True, calculateTotal=True)
+def expanded(*properties, **arguments):
+    return query_of(YEAR, *properties, expandRecurrences=True, calculateTotal=True, **arguments)
 
 
 def changes_of(condition, since):
@@ -323,6 +324,10 @@ GOALS = [
 # Sixteen calls in a request, and references.
 CALLS = [
     Hostile("16 times 366 days expanded", events(daily, 2_000), lambda: [expanded("start")] * 16),
+    Hostile("16 times the last of 366 days expanded", events(daily, 2_000), lambda: [expanded("start", position=-1_000)] * 16),
+    Hostile("16 times 366 days expanded, by an anchor", events(daily, 2_000), lambda: [expanded("start", anchor=LAST_OCCURRENCE)] * 16),
+    Hostile("16 times 366 days expanded, placed days", events(placed_yearly, 2_000), lambda: [expanded("start")] * 16),
+    Hostile("16 times 366 days expanded, 128 overrides each", large(retitled, 2_000), lambda: [expanded("title")] * 16),
     Hostile("16 times a year's busy periods, no two touch", events(apart, 2_000), lambda: [busy()] * 16),
     Hostile("15 references to a filter of 40,000 uids", events(event, 5_000), lambda: by_reference(any_of([{"uid": "q"}] * 40_000))),
     Hostile("15 references to an echo of 4 MB", nothing, lambda: echoes_of_one([0] * 2_000_000), megabytes=260),
