@@ -1,6 +1,6 @@
 //! Rows of runs of the program.
 mod case;
-mod runs;
+pub mod runs;
 mod trials;
 
 use case::Case;

@@ -3,6 +3,7 @@
 
 mod batches;
 mod connections;
+mod kept_runs;
 
 use io_edge::memory_clock::StillClock;
 use row_table::files::Files;
@@ -26,7 +27,7 @@ struct ConnectionRows {
 impl Trial for ConnectionRows {
     ghost use Rattle.std.specs.Prelude.{◌||◌, bytes_eq, codes};
 
-    ghost knows = { λ name. bytes_eq name (codes "batches") || bytes_eq name (codes "connections") };
+    ghost knows = { λ name. bytes_eq name (codes "batches") || bytes_eq name (codes "connections") || bytes_eq name (codes "kept_runs") };
 
     fn other_than(
         &mut self,
@@ -37,6 +38,7 @@ impl Trial for ConnectionRows {
         match table {
             "batches" => batches::other_than(alloc, row),
             "connections" => connections::other_than(alloc, row, &mut self.files),
+            "kept_runs" => kept_runs::other_than(alloc, row, &mut self.files),
             _ => unless_unrolled(alloc, None, row),
         }
     }

@@ -3,6 +3,8 @@ use Rattle.std.specs.Prelude.{ℕ, List, ◌++◌, Option, Some, None, codes}
 use Rattle.std.specs.Fmt.{decimal}
 use Rattle.jmapd_run.specs.declared.status.Status.{Status}
 use Rattle.jmapd_run.specs.declared.status.Status.TheVariants.{Config, Cut, Done, NoMemory, OpenFault, ReadFault, Refused, Usage, WriteFault}
+use Rattle.kept_run.specs.declared.status.KeptStatus.{KeptStatus}
+use Rattle.kept_run.specs.declared.status.KeptStatus.TheVariants.{Plain, KeepFault, Damaged, BadJournal}
 use Rattle.spec_site.specs.Configuration.{field_name}
 
 -- there is one of every status but `Done`; of a configuration it names the first bad field and the place of its first bad item
@@ -16,3 +18,14 @@ error_line WriteFault = Some (codes "jmapd: write fault")
 error_line OpenFault = Some (codes "jmapd: open fault")
 error_line NoMemory = Some (codes "jmapd: out of memory")
 error_line Cut = Some (codes "jmapd: connection cut")
+
+-- what is told of a place in the journal of an account
+abbrev pub place_line : List ℕ → List ℕ → ℕ → List ℕ
+place_line front account place = front ++ account ++ codes " " ++ decimal place
+
+-- of a kept run: it never tells of an object what it holds
+abbrev pub kept_error_line : KeptStatus → Option (List ℕ)
+kept_error_line (Plain status) = error_line status
+kept_error_line KeepFault = Some (codes "jmapd: keep fault")
+kept_error_line (Damaged account place text) = Some (place_line (codes "jmapd: damaged entry: ") account place)
+kept_error_line (BadJournal account place) = Some (place_line (codes "jmapd: bad journal: ") account place)

@@ -2,11 +2,13 @@
 ghost use Rattle.std.specs.Prelude.{◌≡◌, ◌++◌, IfOk, codes, option_map, string_bytes};
 ghost use Rattle.std.specs.Fmt.{decimal};
 ghost use Rattle.std.specs.Process.{exit_status as ends_with};
-ghost use Rattle.jmapd.specs.Messages.{error_line};
+ghost use Rattle.jmapd.specs.Messages.{error_line, kept_error_line, place_line};
 ghost use Rattle.jmapd_run.specs.Statuses.{exit_status};
+ghost use Rattle.kept_run.specs.Statuses.{kept_exit_status};
 ghost use Rattle.spec_site.specs.Configuration.{field_name};
 
 use jmapd_run::status::Status;
+use kept_run::status::KeptStatus;
 use spec_site::field::Field;
 use std::alloc::{AllocError, Global};
 use std::process::ExitCode;
@@ -19,6 +21,21 @@ pub fn finish(rt: &HostRuntime, status: Status) -> ExitCode
         let _ = rt.eprintln(line.as_str());
     }
     exit_code(status)
+}
+
+/// Tells on standard error how a kept run ended, where memory suffices for the line, and gives what the process ends with.
+pub fn finish_kept(rt: &HostRuntime, status: KeptStatus) -> ExitCode
+    ensures { ends_with result ≡ kept_exit_status status }
+{
+    if let Ok(Some(line)) = kept_message(rt.alloc(), &status) {
+        let _ = rt.eprintln(line.as_str());
+    }
+    match status {
+        KeptStatus::Plain(status) => exit_code(status),
+        KeptStatus::KeepFault => ExitCode::from(9),
+        KeptStatus::Damaged { .. } => ExitCode::from(10),
+        KeptStatus::BadJournal { .. } => ExitCode::from(11),
+    }
 }
 
 /// What the process ends with.
@@ -66,5 +83,34 @@ fn configuration_line(alloc: Global, field: Field, index: u32) -> Result<String,
     line.push_str(field.name())?;
     line.push(' ')?;
     line.push_str(index.to_string(alloc)?.as_str())?;
+    Ok(line)
+}
+
+/// The line on standard error that tells of the status of a kept run. Takes memory for it.
+fn kept_message(alloc: Global, status: &KeptStatus) -> Result<Option<String>, AllocError>
+    ensures { IfOk result (λ line. option_map string_bytes line ≡ kept_error_line status.now) }
+{
+    match status {
+        KeptStatus::Plain(status) => message(alloc, *status),
+        KeptStatus::KeepFault => Ok(Some(String::from_str(alloc, "jmapd: keep fault")?)),
+        KeptStatus::Damaged { account, place, .. } => {
+            let line = place_line(alloc, "jmapd: damaged entry: ", account.as_str(), *place)?;
+            Ok(Some(line))
+        }
+        KeptStatus::BadJournal { account, place } => {
+            let line = place_line(alloc, "jmapd: bad journal: ", account.as_str(), *place)?;
+            Ok(Some(line))
+        }
+    }
+}
+
+/// The line that tells of a place in the journal of an account. Takes memory for it.
+fn place_line(alloc: Global, front: &str, account: &str, place: u64) -> Result<String, AllocError>
+    ensures { IfOk result (λ line. string_bytes line ≡ place_line front.now account.now place) }
+{
+    let mut line = String::from_str(alloc, front)?;
+    line.push_str(account)?;
+    line.push(' ')?;
+    line.push_str(place.to_string(alloc)?.as_str())?;
     Ok(line)
 }

@@ -2,14 +2,18 @@
 #![tactic(auto)]
 
 mod ending;
+mod journal;
 mod words;
 
-use crate::ending::finish;
+use crate::ending::{finish, finish_kept};
+use crate::journal::run_journal;
 use crate::words::program_words;
+use command_line::kept::KeptCommand;
 use io_edge::streams::{ReaderSource, WriterSink};
 use io_edge::system_clock::SystemClock;
 use io_edge::system_files::SystemFiles;
 use jmapd_listen::program::run_program;
+use jmapd_run::status::Status;
 use listen_edge::real_threads::RealThreads;
 use listen_edge::tcp_host::TcpHost;
 use std::io;
@@ -20,6 +24,11 @@ fn main(rt: HostRuntime) -> ExitCode {
         Ok(words) => words,
         Err(status) => return finish(&rt, status),
     };
+    match KeptCommand::read(rt.alloc(), &words) {
+        Ok(Some(asked)) => return finish_kept(&rt, run_journal(rt, asked)),
+        Ok(None) => {}
+        Err(_) => return finish(&rt, Status::NoMemory),
+    }
     let status = run_program(
         rt.alloc(),
         rt,

@@ -119,7 +119,8 @@ pub fn outcome_of(
     })
 }
 
-fn copied(alloc: Global, files: &Files) -> Result<Files, AllocError> {
+/// A copy of files. Takes memory for it.
+pub fn copied(alloc: Global, files: &Files) -> Result<Files, AllocError> {
     let mut copies = Vec::new(alloc);
     for (name, bytes) in files {
         copies.push((name.clone()?, bytes.as_slice().to_vec(alloc)?))?;
@@ -128,7 +129,7 @@ fn copied(alloc: Global, files: &Files) -> Result<Files, AllocError> {
 }
 
 /// The name of a status, with the field and the place where a configuration is refused.
-fn status_name(alloc: Global, status: Status) -> Result<String, AllocError> {
+pub fn status_name(alloc: Global, status: Status) -> Result<String, AllocError> {
     match status {
         Status::Config { field, index } => {
             let field = field.name();
