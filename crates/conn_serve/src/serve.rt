@@ -8,10 +8,10 @@ ghost use Rattle.conn_serve.specs.Ending.{IsRefusalEnd};
 
 use crate::answer::answer;
 use http_edge::bytes::Bytes;
+use http_edge::held::HeldBytes;
 use http_edge::message::Message;
 use http_edge::next::{Next, next_message};
 use http_edge::response::{Response, response_bytes};
-use http_edge::rest::Rest;
 use io_edge::clock::Clock;
 use io_edge::sink::{Sink, put_all};
 use io_edge::source::Source;
@@ -54,7 +54,7 @@ fn serve_at_most<S: Source, K: Sink, D: Desk, C: Clock>(
         (record { source = S.shown source.old; sink = K.shown sink.old; clock = C.moments clock.old; desk = D.shown desk.old })
         (record { source = S.shown source.new; sink = K.shown sink.new; clock = C.moments clock.new; desk = D.shown desk.new }) result }
 {
-    let mut kept = Rest::new(alloc);
+    let mut kept = HeldBytes::new(alloc);
     let mut fronts = Vec::new(alloc);
     for requests in 0..most {
         let message = match next_message(alloc, source, &mut kept) {

@@ -13,8 +13,8 @@ use Rattle.http_edge.specs.Reading.{AskedWhile, IsHeadRefusal, Says, Took, StopC
 use Rattle.http_edge.specs.declared.head.Head.{Head}
 use Rattle.http_edge.specs.declared.head.HeadError.{HeadError}
 use Rattle.http_edge.specs.declared.head.HeadError.TheVariants as head_error
-use Rattle.http_edge.specs.declared.rest.Stop.{Stop}
-use Rattle.http_edge.specs.declared.rest.Stop.TheVariants as stop
+use Rattle.http_edge.specs.declared.held.Stop.{Stop}
+use Rattle.http_edge.specs.declared.held.Stop.TheVariants as stop
 use Rattle.http_edge.specs.declared.message.Message.{Message}
 use Rattle.http_edge.specs.declared.next.Next.{Next}
 use Rattle.http_edge.specs.declared.next.Next.TheVariants as next

@@ -6,8 +6,8 @@ use Rattle.http_edge.specs.Reading.{AskedWhile, Took, StopCause}
 use Rattle.std.proofs.lemmas.List.{take-append-le}
 use Rattle.http_edge.specs.Searches.{IsSearched}
 use Rattle.http_edge.specs.declared.search.SearchState.{SearchState}
-use Rattle.http_edge.specs.declared.rest.Stop.{Stop}
-use Rattle.http_edge.specs.declared.rest.Stop.TheVariants.{Ended, Failed, NoMemory}
+use Rattle.http_edge.specs.declared.held.Stop.{Stop}
+use Rattle.http_edge.specs.declared.held.Stop.TheVariants.{Ended, Failed, NoMemory}
 
 pub took_none : (s : SourceShown) (kept : List ℕ) → Took s s kept kept
 took_none s kept = record { taken = []; consumed = Consumes-nil s.left; later = omega arith; grown = sym (append-nil kept) }

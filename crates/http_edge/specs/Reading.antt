@@ -16,8 +16,8 @@ use Rattle.http_edge.specs.declared.fields.ContentLength.TheVariants as length_i
 use Rattle.http_edge.specs.declared.head.Head.{Head}
 use Rattle.http_edge.specs.declared.head.HeadError.{HeadError}
 use Rattle.http_edge.specs.declared.head.HeadError.TheVariants as head_error
-use Rattle.http_edge.specs.declared.rest.Stop.{Stop}
-use Rattle.http_edge.specs.declared.rest.Stop.TheVariants as stop
+use Rattle.http_edge.specs.declared.held.Stop.{Stop}
+use Rattle.http_edge.specs.declared.held.Stop.TheVariants as stop
 use Rattle.http_edge.specs.declared.message.Message.{Message}
 use Rattle.http_edge.specs.declared.next.HeadEnd.{HeadEnd}
 use Rattle.http_edge.specs.declared.next.HeadEnd.TheVariants as head_end

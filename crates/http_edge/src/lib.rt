@@ -4,9 +4,9 @@
 pub mod bytes;
 mod fields;
 mod head;
+pub mod held;
 pub mod laws;
 pub mod message;
 pub mod next;
 pub mod response;
-pub mod rest;
 mod search;

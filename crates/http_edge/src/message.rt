@@ -3,7 +3,7 @@ ghost use Rattle.std.specs.Prelude.{◌≡◌, ◌+◌, ◌≤◌, length, take,
 
 use crate::bytes::Bytes;
 use crate::head::Head;
-use crate::rest::Rest;
+use crate::held::HeldBytes;
 use spec_json::text::Text;
 use std::alloc::{AllocError, Global};
 
@@ -25,7 +25,7 @@ pub struct Message {
 /// Takes a message off the beginning, whose head has so many bytes and says this. Takes memory for the body.
 pub(crate) fn take_message(
     alloc: Global,
-    kept: &mut Rest,
+    kept: &mut HeldBytes,
     size: usize,
     head: Head,
 ) -> Result<Message, AllocError>

@@ -4,8 +4,8 @@ ghost use Rattle.spec_http.specs.Heads.{head_end, unended};
 ghost use Rattle.http_edge.specs.Reading.{AskedWhile, GivesNext, StopCause, Took, end_shown, ended_with};
 
 use crate::head::{HeadError, read_head};
+use crate::held::{HeldBytes, Stop};
 use crate::message::{Message, take_message};
-use crate::rest::{Rest, Stop};
 use crate::search::{Search, SearchState, go_on};
 use io_edge::source::Source;
 use spec_core::limits::MAX_SIZE_REQUEST;
@@ -34,7 +34,7 @@ pub enum Next {
 /// `kept` has the bytes behind the message then, or all of them where there is none. The source is asked only while the bytes begin neither
 /// with a whole message nor with a head that is refused. Takes memory for the message and for the bytes that were taken and not used; nothing
 /// that was taken is lost where it runs out.
-pub fn next_message<S: Source>(alloc: Global, source: &mut S, kept: &mut Rest) -> Next
+pub fn next_message<S: Source>(alloc: Global, source: &mut S, kept: &mut HeldBytes) -> Next
     ensures { GivesNext (S.shown source.old) (S.shown source.new) kept.old kept.new result }
 {
     let mut piece = [0; PIECE];
@@ -77,7 +77,7 @@ enum HeadEnd {
 #[tactic(auto, using(crate::proofs::Taking::took_none, crate::proofs::Taking::took_more, crate::proofs::Taking::stop_earlier, crate::proofs::Taking::asked_for))]
 fn find_head<S: Source>(
     source: &mut S,
-    kept: &mut Rest,
+    kept: &mut HeldBytes,
     piece: &mut [u8],
     looked: &mut usize,
 ) -> Result<HeadEnd, Stop>
@@ -109,7 +109,7 @@ fn find_head<S: Source>(
 #[tactic(auto, using(crate::proofs::Taking::took_none, crate::proofs::Taking::took_more, crate::proofs::Taking::stop_earlier, crate::proofs::Taking::asked_for))]
 fn take_until<S: Source>(
     source: &mut S,
-    kept: &mut Rest,
+    kept: &mut HeldBytes,
     piece: &mut [u8],
     wanted: usize,
 ) -> Result<(), Stop>
@@ -127,7 +127,7 @@ fn take_until<S: Source>(
 }
 
 // The input ended before the end of a head.
-fn ended(kept: &Rest) -> Next
+fn ended(kept: &HeldBytes) -> Next
     ensures { result ≡ ended_with kept.now }
 {
     if kept.as_slice().is_empty() {

@@ -3,8 +3,8 @@ ghost use Rattle.std.specs.Prelude.{◌<◌};
 
 use crate::messages::findings::Findings;
 use crate::messages::given::{Given, Parts};
+use http_edge::held::HeldBytes;
 use http_edge::next::{Next, next_message};
-use http_edge::rest::Rest;
 use io_edge::memory_source::MemSource;
 use io_edge::source::Source;
 use std::alloc::{AllocError, Global};
@@ -26,7 +26,7 @@ struct Outcome {
 
 /// What calls give until one gives no message. A call after a fault, or after running out of memory, is to give what that one couldn't.
 fn outcome_of<S: Source>(alloc: Global, source: &mut S) -> Result<Outcome, AllocError> {
-    let mut kept = Rest::new(alloc);
+    let mut kept = HeldBytes::new(alloc);
     let mut outcome = Outcome {
         given: Vec::new(alloc),
         faults: 0,

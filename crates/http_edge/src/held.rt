@@ -15,15 +15,15 @@ pub const MAX_HELD: usize = MAX_HEAD + MAX_SIZE_REQUEST + PIECE;
 ///
 /// With those that were used it holds at most `MAX_HELD` bytes, however many a connection has.
 #[derive(Drop)]
-pub struct Rest {
+pub struct HeldBytes {
     bytes: Vec<u8>,
     // The bytes before this place were used.
     used: usize,
 }
 
-impl Model for Rest {
+impl Model for HeldBytes {
     ghost use Rattle.std.specs.Prelude.{List, ℕ, ◌≤◌, length, drop};
-    ghost use Rattle.http_edge.specs.declared.rest.TheConstants.{MAX_HELD};
+    ghost use Rattle.http_edge.specs.declared.held.TheConstants.{MAX_HELD};
 
     ghost Value = { List ℕ };
 
@@ -43,12 +43,12 @@ pub enum Stop {
     NoMemory,
 }
 
-impl Rest {
+impl HeldBytes {
     /// Nothing is kept yet. Takes no memory.
-    pub fn new(alloc: Global) -> Rest
+    pub fn new(alloc: Global) -> HeldBytes
         ensures { result ≡ [] }
     {
-        Rest {
+        HeldBytes {
             bytes: Vec::new(alloc),
             used: 0,
         }
