@@ -46,7 +46,10 @@ impl<'a> KeptCommand<'a> {
     }
 
     // What the words behind `kept` ask for.
-    fn read_options(alloc: Global, words: &'a [String]) -> Result<Option<KeptCommand<'a>>, AllocError>
+    fn read_options(
+        alloc: Global,
+        words: &'a [String],
+    ) -> Result<Option<KeptCommand<'a>>, AllocError>
         ensures { IfOk result (λ kept. option_map kept_shown kept ≡ kept_options (map string_bytes words.entry.now)) }
     {
         let command = kept_command(alloc)?;
