@@ -103,7 +103,8 @@ def refused(room, status, error, **how):
     expect(room.run(get(), **how), (status, [], error + "\n"))
 
 
-OPEN = (6, "jmapd: open fault")
+def unopened(room, why, journal="a.db", **how):
+    refused(room, 6, f"jmapd: {why}: {journal}\njmapd: open fault", journal=journal, **how)
 
 
 # ---- what is kept
@@ -198,12 +199,12 @@ def configurations_are_tested(room):
 
 
 def no_folder(room):
-    refused(room, *OPEN, journal="nowhere/a.db")
+    unopened(room, "journal can't be opened", journal="nowhere/a.db")
 
 
 def folder_in_its_place(room):
     os.mkdir(room.path("a.db"))
-    refused(room, *OPEN)
+    unopened(room, "journal can't be opened")
 
 
 def without_rights(mode_of_file, mode_of_folder):
@@ -214,7 +215,7 @@ def without_rights(mode_of_file, mode_of_folder):
             os.chmod(room.path(name), mode_of_file)
         os.chmod(room.folder, mode_of_folder)
         try:
-            refused(room, *OPEN, prepare=(lambda: os.setuid(NOBODY)) if os.getuid() == 0 else None)
+            unopened(room, "journal can't be opened", prepare=(lambda: os.setuid(NOBODY)) if os.getuid() == 0 else None)
         finally:
             os.chmod(room.folder, 0o755)
 
@@ -226,19 +227,19 @@ def another_program(room):
     base.execute("CREATE TABLE note (title TEXT)")
     base.commit()
     base.close()
-    refused(room, *OPEN)
+    unopened(room, "no journal")
 
 
 def another_file(room):
     with open(room.path("a.db"), "w", encoding="utf-8") as file:
         file.write("This is no database. " * 500)
-    refused(room, *OPEN)
+    unopened(room, "no journal")
 
 
 def later_version(room):
     room.run(create("Work"))
     room.change("UPDATE about SET version = 2")
-    refused(room, *OPEN)
+    unopened(room, "journal of another version")
 
 
 def two_processes(room):
@@ -247,7 +248,7 @@ def two_processes(room):
         first.stdin.write((create("Work") + "\n").encode())
         first.stdin.flush()
         first.stdout.readline()
-        refused(room, *OPEN)
+        unopened(room, "journal in use")
     finally:
         first.stdin.close()
         first.wait(SECONDS)
