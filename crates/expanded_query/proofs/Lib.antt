@@ -5,5 +5,6 @@ pub mod RefusalLemmas
 pub mod PushLemmas
 pub mod OrderLemmas
 pub mod FirstLemmas
+pub mod IdLemmas
 pub mod WindowLemmas
 pub mod SightLemmas

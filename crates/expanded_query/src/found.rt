@@ -17,6 +17,7 @@ ghost use Rattle.query_methods.specs.Reports.{Reports};
 use crate::found_occurrence::FoundOccurrence;
 use crate::order::{first_in_order, in_order};
 use crate::ranked::Ranked;
+use event_model::ids::read_occurrence_id;
 use event_store::StoredEvents;
 use query_methods::error::QueryError;
 use query_methods::found::{Part, cut_asked, cut_out, window_tree};
@@ -118,8 +119,9 @@ fn place_of(
     ensures value { IfOk result (λ place. place ≡ position (bytes_eq anchor.now) (map id_at results.now)) }
     ensures bound { IfOk result (λ place. IfSome place (λ k. k < length results.now)) }
 {
+    let named = read_occurrence_id(anchor.as_str().as_bytes());
     for (place, result) in results.iter().enumerate() {
-        if result.found.has_id(alloc, anchor)? {
+        if result.found.has_id(alloc, anchor, &named)? {
             return Ok(Some(place));
         }
     }

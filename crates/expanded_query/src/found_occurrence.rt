@@ -26,12 +26,13 @@ pub(crate) struct FoundOccurrence<'a> {
 }
 
 impl<'a> FoundOccurrence<'a> {
-    ghost use Rattle.std.specs.Prelude.{IfOk};
+    ghost use Rattle.std.specs.Prelude.{◌≢◌, IfOk, Some, false};
     ghost use Rattle.std.specs.Str.{bytes_eq};
     ghost use Rattle.expanded_query.specs.Founds.{found_result, id_of, title_of};
     ghost use Rattle.jiff_tz.specs.PosixText.{tz_view};
     ghost use Rattle.spec_json.specs.TreeData.{data_of};
     ghost use Rattle.spec_queries.specs.Expanded.{occurrence_result};
+    ghost use Rattle.spec_recurrence.specs.OccurrenceIds.{occurrence_id_in};
     ghost use Rattle.spec_windows.specs.Clocks.{instant_in};
 
     /// An occurrence of an event. Takes memory where an override names it.
@@ -69,11 +70,33 @@ impl<'a> FoundOccurrence<'a> {
         result_id(alloc, self.source.number, self.source.event, self.rid)
     }
 
-    /// Whether the result has this id. Takes memory for its own.
-    pub(crate) fn has_id(&self, alloc: Global, id: &Text) -> Result<bool, AllocError>
+    /// Whether the result has this id, which names this occurrence where it names one. Takes memory for its own, where that may be the same.
+    #[tactic(auto, using(crate::proofs::IdLemmas::another_id))]
+    pub(crate) fn has_id(
+        &self,
+        alloc: Global,
+        id: &Text,
+        named: &Option<(u64, Wall)>,
+    ) -> Result<bool, AllocError>
+        requires { named.now ≡ occurrence_id_in id.now }
         ensures { IfOk result (λ b. b ≡ bytes_eq id.now (id_of self.now)) }
     {
+        if self.source.recurs && self.source.number > 0 && !self.is_named(named) {
+            return Ok(false);
+        }
         let own = self.id(alloc)?;
         Ok(id.as_str() == own.as_str())
+    }
+
+    // Whether an occurrence of this number and recurrence id is this one.
+    fn is_named(&self, named: &Option<(u64, Wall)>) -> bool
+        ensures { result ≡ false → named.now ≢ Some (self.now.source.now.number, self.now.rid) }
+    {
+        match named {
+            Some((number, rid)) => {
+                *number == self.source.number && rid.seconds() == self.rid.seconds()
+            }
+            None => false,
+        }
     }
 }

@@ -1,10 +1,12 @@
 //! Events whose occurrences are results.
 ghost use Rattle.std.specs.Prelude.{◌≡◌, codes};
+ghost use Rattle.spec_events.specs.Events.{has_recurrence};
 ghost use Rattle.spec_json.specs.TreeData.{data_of};
 ghost use Rattle.spec_queries.specs.Items.{text_or_empty, utc_moment};
 
 use jiff_tz::posix::TimeZone;
 use query_methods::item::utc_moment;
+use single_event::recurrence::has_recurrence;
 use spec_json::tree::Tree;
 use spec_series::series::Series;
 
@@ -22,10 +24,13 @@ pub(crate) struct Source<'a> {
     pub(crate) title: &'a str,
     pub(crate) created: i64,
     pub(crate) updated: i64,
+    /// Whether it has rules or overrides, so that its occurrences have synthetic ids.
+    pub(crate) recurs: bool,
     ghost uid_is: { uid.now ≡ text_or_empty (codes "uid") (data_of event.now) },
     ghost title_is: { title.now ≡ text_or_empty (codes "title") (data_of event.now) },
     ghost created_is: { created ≡ utc_moment (codes "created") (data_of event.now) },
     ghost updated_is: { updated ≡ utc_moment (codes "updated") (data_of event.now) },
+    ghost recurs_is: { recurs ≡ has_recurrence (data_of event.now) },
 }
 
 impl<'a> Source<'a> {
@@ -50,6 +55,7 @@ impl<'a> Source<'a> {
             title: text_at(event, "title"),
             created: utc_moment(event, "created"),
             updated: utc_moment(event, "updated"),
+            recurs: has_recurrence(event),
         }
     }
 }
