@@ -12,12 +12,17 @@ import os
 import random
 import resource
 import signal
-import sqlite3
 import subprocess
 import sys
 import tempfile
 import threading
 import time
+
+try:
+    import sqlite3
+except ImportError:
+    print("kept.py: skipped, since this Python has no sqlite3")
+    sys.exit(0)
 
 PROGRAM = "crates/jmapd/out/jmapd"
 SECONDS = 60
