@@ -81,7 +81,7 @@ def own_journal(path):
     base = sqlite3.connect(path, isolation_level=None)
     base.execute("PRAGMA journal_mode = WAL")
     base.execute("PRAGMA synchronous = FULL")
-    base.execute("CREATE TABLE entry (account TEXT NOT NULL, place INTEGER NOT NULL, text BLOB NOT NULL, PRIMARY KEY (account, place)) STRICT")
+    base.execute("CREATE TABLE entry (account TEXT NOT NULL, place INTEGER NOT NULL, text BLOB NOT NULL) STRICT")
     return base
 
 

@@ -42,10 +42,10 @@ impl From<JournalError> for Trouble {
 }
 
 pub(crate) fn reading<S: Alter>(conn: &mut Connection<S>) -> Result<Statement, Error> {
-    conn.prepare("SELECT place, text FROM entry WHERE account = ?1 ORDER BY place")
+    conn.prepare("SELECT place, text FROM entry WHERE account = ?1 ORDER BY rowid")
 }
 
-/// The entries of an account in order of their places, which are 0 and on. One row is held at a time.
+/// The entries of an account in the order in which they were kept, at the places 0 and on. One row is held at a time.
 pub(crate) fn read_all<S: Alter>(
     alloc: Global,
     conn: &mut Connection<S>,

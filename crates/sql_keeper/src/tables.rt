@@ -1,4 +1,4 @@
-//! The two tables: what the file is, and the texts of the entries by account and place.
+//! The two tables: what the file is, and the texts of the entries with their accounts and places, in the order in which they were kept.
 
 use sqlite::{Alter, Connection, Error, ErrorCode, Row};
 
@@ -39,14 +39,15 @@ fn signs<S: Alter>(conn: &mut Connection<S>) -> Result<Vec<Row>, Error> {
     conn.query_all("SELECT program, version FROM about", &[])
 }
 
-// Tables and sign come in one transaction: a stop leaves both or none.
+// Tables and sign come in one transaction: a stop leaves both or none. The texts have no index: a load tests their places one by one anyway, and
+// a database that has one looks up each of its keys when it is opened.
 fn make<S: Alter>(conn: &mut Connection<S>) -> Result<(), Error> {
     if !conn.is_autocommit() {
         return Err(Error::SqliteFailure(ErrorCode::TransactionState));
     }
     let mut transaction = conn.transaction();
     transaction.execute_batch(
-        "CREATE TABLE about (program TEXT NOT NULL, version INTEGER NOT NULL) STRICT; CREATE TABLE entry (account TEXT NOT NULL, place INTEGER NOT NULL, text BLOB NOT NULL, PRIMARY KEY (account, place)) STRICT; INSERT INTO about (program, version) VALUES ('jmapd', 1)",
+        "CREATE TABLE about (program TEXT NOT NULL, version INTEGER NOT NULL) STRICT; CREATE TABLE entry (account TEXT NOT NULL, place INTEGER NOT NULL, text BLOB NOT NULL) STRICT; INSERT INTO about (program, version) VALUES ('jmapd', 1)",
     )?;
     transaction.commit()
 }

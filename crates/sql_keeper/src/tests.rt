@@ -104,19 +104,32 @@ fn put(conn: &mut Connection<MemStore>, place: i64, text: &str) -> bool {
     .is_ok()
 }
 
-#[test]
-fn damage_is_told_with_its_place(rt: HostRuntime) -> Result<(), Fail> {
-    let alloc = rt.alloc();
+// Puts texts at places of the account, and tells where the first damage is.
+fn damage_among(
+    rt: &impl Abort,
+    alloc: Global,
+    texts: &[(i64, &str)],
+    at: u64,
+    wanted: &str,
+) -> Result<(), Fail> {
     let Ok(mut keeper) = open_keeper(alloc, Connection::open_in_memory(alloc)?) else {
         panic!(rt; "no journal");
     };
-    let cut = "{\"author\":0,";
-    assert!(rt; put(&mut keeper.conn, 0, CALENDAR));
-    assert!(rt; put(&mut keeper.conn, 2, REMOVAL));
-    is_damaged(&rt, &mut keeper, 1, "");
-    assert!(rt; put(&mut keeper.conn, 1, cut));
-    is_damaged(&rt, &mut keeper, 1, cut);
+    for (place, text) in texts {
+        assert!(rt; put(&mut keeper.conn, *place, text));
+    }
+    is_damaged(rt, &mut keeper, at, wanted);
     Ok(())
+}
+
+#[test]
+fn damage_is_told_with_its_place(rt: HostRuntime) -> Result<(), Fail> {
+    let alloc = rt.alloc();
+    let cut = "{\"author\":0,";
+    damage_among(&rt, alloc, &[(0, CALENDAR), (2, REMOVAL)], 1, "")?;
+    damage_among(&rt, alloc, &[(0, CALENDAR), (1, cut), (2, REMOVAL)], 1, cut)?;
+    damage_among(&rt, alloc, &[(0, CALENDAR), (0, CALENDAR)], 1, "")?;
+    damage_among(&rt, alloc, &[(1, CALENDAR), (0, REMOVAL)], 0, "")
 }
 
 fn refuses(rt: &impl Abort, alloc: Global, script: &str, wanted: OpenError) -> Result<(), Fail> {
