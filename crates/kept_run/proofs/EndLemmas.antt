@@ -1,16 +1,16 @@
 -- One line more, and the ends of a run.
-use Rattle.std.proofs.Common.{◌≡◌, ◌+◌, ◌*◌, ◌≤◌, ◌<◌, ◌++◌, ◌∷◌, [], ℕ, ℤ, List, Option, inl, inr, length, length-append, map, take, refl, sym, ap, ◌∙◌, subst, arith, append-nil}
+use Rattle.std.proofs.Common.{◌≡◌, ◌+◌, ◌*◌, ◌≤◌, ◌<◌, ◌++◌, ◌∷◌, [], ℕ, ℤ, List, Option, inl, inr, length, length-append, take, refl, sym, ap, ◌∙◌, subst, arith, append-nil}
 use Rattle.std.proofs.lemmas.List.{map-append}
 use Rattle.std.proofs.lemmas.List.Elements.{All-push}
 use Rattle.std.specs.Io.KnownBytes.{IsAtEnd}
 use Rattle.std.specs.Prelude.{All, ◌⊎◌}
 use Rattle.account_desk.specs.SoleDesk.{shown_of}
 use Rattle.io_edge.proofs.OutsideLemmas.{Grows-trans}
-use Rattle.io_edge.specs.Outside.{Grows, Rose, SinkShown, SourceShown, Ticks}
-use Rattle.jmapd_run.specs.declared.status.Status.TheVariants.{Cut, Done, NoMemory, ReadFault, WriteFault}
+use Rattle.io_edge.specs.Outside.{Grows, Rose, SinkShown, Ticks}
+use Rattle.jmapd_run.specs.declared.status.Status.TheVariants.{Done, NoMemory, WriteFault}
 use Rattle.journal_keeper.specs.Journals.{FailsToKeep, KeeperShown, Kept}
 use Rattle.kept_run.proofs.Clocks.{ticked_join, ticked_one}
-use Rattle.kept_run.proofs.LoopLemmas.{Standing, answered_more, bytes_of, feeds_more, left_more, moments_of, more_join, more_none, responses_more, texts_more}
+use Rattle.kept_run.proofs.LoopLemmas.{Standing, answered_more, bytes_of, feeds_more, left_more, moments_of, more_join, responses_more, texts_more}
 use Rattle.kept_run.proofs.TextLemmas.{same_count}
 use Rattle.kept_run.specs.Lines.{Accounts, AreAnsweredLines, HasMore, IsAnsweredLine, Line, all_texts, left_by, line_texts, response, responses}
 use Rattle.kept_run.specs.Runs.{AllKept, HoldsLines, IsAnswerable, KeptEnds, KeptSetting, RunsLines}

@@ -1,31 +1,30 @@
 -- Runs in which nothing fails.
-use Rattle.std.proofs.Common.{◌≡◌, ◌≢◌, ◌+◌, ◌≤◌, ◌<◌, ◌++◌, ◌∷◌, [], ℕ, ℤ, zero, suc, List, Option, Some, None, Result, Ok, Err, inl, inr, length, length-append, map, refl, sym, ap, ◌∙◌, subst, arith, append-nil, option_map, take}
+use Rattle.std.proofs.Common.{◌≡◌, ◌+◌, ◌≤◌, ◌<◌, ◌++◌, ◌∷◌, [], ℕ, ℤ, zero, suc, List, Option, Some, None, Result, Ok, Err, inl, inr, length, length-append, map, refl, sym, ap, ◌∙◌, subst, arith, append-nil, option_map, take}
 use Rattle.std.proofs.lemmas.List.{length-map}
 use Rattle.std.proofs.lemmas.List.Elements.{All-map}
 use Rattle.std.proofs.lemmas.Option.{same_Some}
 use Rattle.std.specs.Io.KnownBytes.{Consumes, IsAtEnd}
 use Rattle.std.specs.Prelude.{◌⊎◌, All, IfSome}
 use Rattle.command_line.specs.KeptWords.{KeptCommand}
-use Rattle.io_edge.specs.Outside.{IsMissing, OpenerShown, Rose, file_named}
+use Rattle.io_edge.specs.Outside.{OpenerShown, Rose, file_named}
 use Rattle.jmapd_run.proofs.StartLemmas.{configured_taken}
 use Rattle.jmapd_run.specs.Completes.{IsAccepted}
 use Rattle.jmapd_run.specs.Starts.{IsLoaded, IsNotOpened, IsUser}
 use Rattle.jmapd_run.specs.declared.status.Status.{Status}
 use Rattle.jmapd_run.specs.declared.status.Status.TheVariants.{Config, Cut, Done, NoMemory, OpenFault, ReadFault, Refused, Usage, WriteFault}
 use Rattle.journal_keeper.proofs.OneEntry.{one_list}
-use Rattle.journal_keeper.specs.EntryText.{IsEntryText, IsNoEntryText}
-use Rattle.journal_keeper.specs.Journals.{AreEntriesOf, HasDamage, IsFirstDamaged, Kept, Lists, texts_of}
+use Rattle.journal_keeper.specs.Journals.{AreEntriesOf, HasDamage, IsFirstDamaged, Kept, texts_of}
 use Rattle.kept_run.proofs.EndLemmas.{rose_later}
 use Rattle.kept_run.proofs.InputLines.{all_lines, lines_held, status_done, status_too_long, status_too_many}
 use Rattle.kept_run.specs.Completes.{FaultlessKeptRunsWork, GivesLinesStatus, GoodListsAreTaken, IsFaultFree, TellsGoodLists, lines_status}
 use Rattle.kept_run.specs.Lines.{Accounts, Line}
 use Rattle.kept_run.specs.Opened.{bad_place}
-use Rattle.kept_run.specs.Runs.{HasId, HoldsLines, IsAnswerable, IsBadJournal, KeptEnds, KeptSetting, KeptStart, NotBegun, RunsKept, RunsLines}
+use Rattle.kept_run.specs.Runs.{HasId, HoldsLines, IsAnswerable, IsBadJournal, KeptEnds, KeptSetting, NotBegun, RunsLines}
 use Rattle.kept_run.specs.declared.lines.TheConstants.{MAX_LINES}
 use Rattle.kept_run.specs.declared.status.KeptDone.{KeptDone}
 use Rattle.kept_run.specs.declared.status.KeptStatus.{KeptStatus}
 use Rattle.kept_run.specs.declared.status.KeptStatus.TheVariants.{BadJournal, Damaged, KeepFault, Plain}
-use Rattle.line_edge.specs.Lines.{IsTooLong, lines_of, with_feeds}
+use Rattle.line_edge.specs.Lines.{IsTooLong, lines_of}
 use Rattle.spec_core.specs.declared.limits.TheConstants.{MAX_SIZE_REQUEST}
 use Rattle.spec_history.specs.declared.entry.Entry.{Entry}
 use Rattle.spec_site.specs.Configuration.{Fault, Site, SiteAccount, configured, user_named}

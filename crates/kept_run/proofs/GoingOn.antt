@@ -1,23 +1,20 @@
 -- What a run leaves to the run that is begun next.
-use Rattle.std.proofs.Common.{◌≡◌, ◌≢◌, ◌+◌, ◌≤◌, ◌<◌, ◌++◌, ◌∷◌, [], ℕ, zero, suc, List, Bool, true, false, not, cond, Option, Some, None, Result, Ok, Err, option_map, inl, inr, length, length-append, map, filter, drop, refl, sym, ap, ◌∙◌, subst, arith, append_assoc, append-nil}
+use Rattle.std.proofs.Common.{◌≡◌, ◌<◌, ◌++◌, ◌∷◌, [], ℕ, zero, suc, List, Bool, true, false, not, cond, Option, Some, None, Result, Ok, Err, option_map, inl, inr, length, map, filter, drop, refl, sym, ap, ◌∙◌, subst, arith, append_assoc, append-nil}
 use Rattle.std.proofs.Math.ListN.{get_or}
 use Rattle.std.proofs.Math.Seq.{drop-append_seam}
-use Rattle.std.proofs.lemmas.List.{length-map, map-append, get_or_default, get_or-map}
-use Rattle.std.proofs.lemmas.List.Elements.{All-append, All-cons, All-from_get_or, All-head, All-map, All-nil, All-push, All-tail, filter-append}
+use Rattle.std.proofs.lemmas.List.{length-map, map-append, get_or-map}
+use Rattle.std.proofs.lemmas.List.Elements.{All-from_get_or, All-head, All-nil, All-push, All-tail, filter-append}
 use Rattle.std.proofs.lemmas.Slice.Eq.{bytes_eq-Decides}
-use Rattle.std.specs.Prelude.{◌⊎◌, ◌&&◌, ◌||◌, All, if◌then◌else◌, nat_le, option_and_then}
-use Rattle.std.specs.List.{list_any}
+use Rattle.std.specs.Prelude.{◌&&◌, ◌||◌, All, if◌then◌else◌, nat_le}
 use Rattle.std.specs.Str.{bytes_eq}
 use Rattle.account_desk.specs.FreshDesk.{bases}
 use Rattle.account_desk.specs.SoleDesk.{account_at, shown_of}
-use Rattle.io_edge.specs.Outside.{OpenerShown}
-use Rattle.jmapd_run.specs.Starts.{IsLoaded}
 use Rattle.jmapd_run.specs.declared.status.Status.TheVariants.{Config, Cut, Done, NoMemory, OpenFault, ReadFault, Refused, Usage, WriteFault}
 use Rattle.journal_keeper.specs.EntryText.{entry_text}
-use Rattle.journal_keeper.specs.Journals.{AreEntriesOf, AreKeepable, FailsToKeep, Kept, Labelled, Lists, labelled, texts_of}
+use Rattle.journal_keeper.specs.Journals.{AreEntriesOf, FailsToKeep, Kept, Labelled, labelled, texts_of}
 use Rattle.kept_run.specs.Completes.{RunsGoOn}
 use Rattle.kept_run.specs.Lines.{Accounts, AreAnsweredLines, AreReadBack, HasMore, IsAnsweredLine, Line, MayAllGoOn, NewAreReadBack, all_texts, counts, left_by, line_texts, texts_behind}
-use Rattle.kept_run.specs.Opened.{AreOpened, GoesOn, bad_place}
+use Rattle.kept_run.specs.Opened.{AreOpened, GoesOn}
 use Rattle.kept_run.specs.Runs.{KeptEnds, KeptSetting, RunsLines}
 use Rattle.kept_run.specs.declared.status.KeptDone.{KeptDone}
 use Rattle.kept_run.specs.declared.status.KeptStatus.{KeptStatus}
@@ -185,14 +182,6 @@ entries_join (e ∷ es) fs (t ∷ ts) us a b = (a.0, entries_join es fs ts us a.
 entries_join [] fs (t ∷ ts) us a b = absurd a
 entries_join (e ∷ es) fs [] us a b = absurd a
 
-keepable_front : (es fs : List Entry) → AreKeepable (es ++ fs) → AreKeepable es
-keepable_front [] fs k = tt
-keepable_front (e ∷ es) fs k = (k.0, keepable_front es fs k.1)
-
-keepable_behind : (es fs : List Entry) → AreKeepable (es ++ fs) → AreKeepable fs
-keepable_behind [] fs k = k
-keepable_behind (e ∷ es) fs k = keepable_behind es fs k.1
-
 read_back_at : (n : ℕ) (places : List ℕ) (accounts : List (Base × List Entry)) → n < length places → n < length accounts → NewAreReadBack places accounts → AreReadBack (drop (get_or places n 0) (get_or accounts n no_account).1)
 read_back_at n [] accounts a b h = absurd (omega arith)
 read_back_at n (p ∷ places) [] a b h = absurd (omega arith)
@@ -204,23 +193,13 @@ module _ (site : Site) (user : ℕ) (apart : AreApart site.accounts) where
   abbrev AllListed : List Labelled → List (Base × List Entry) → Type 0
   AllListed texts accounts = (n : ℕ) → n < length site.accounts → AreEntriesOf (get_or accounts n no_account).1 (texts_of (get_or site.accounts n nameless).id texts)
 
-  abbrev AllKeepable : List (Base × List Entry) → Type 0
-  AllKeepable accounts = (n : ℕ) → AreKeepable (get_or accounts n no_account).1
-
   -- a line adds entries behind those of each account
   adds : (before : Accounts) (l : Line) → IsAnsweredLine site user before l → (n : ℕ) → (rest : List Entry) × ((get_or l.accounts.0 n no_account).1 ≡ (get_or before.0 n no_account).1 ++ rest)
   adds before l a n = ((summary (shown_of before) (shown_of l.accounts) l.made a.chain).each n).grows
 
-  adds_all : (ls : List Line) (before : Accounts) → AreAnsweredLines site user before ls → (n : ℕ) → (rest : List Entry) × ((get_or (left_by before ls).0 n no_account).1 ≡ (get_or before.0 n no_account).1 ++ rest)
-  adds_all [] before a n = ([], sym (append-nil (get_or before.0 n no_account).1))
-  adds_all (l ∷ ls) before a n =
-      let one = adds before l a.0 n in
-      let more = adds_all ls l.accounts a.1 n in
-      (one.0 ++ more.0, more.1 ∙ (ap (λ (es : List Entry). es ++ more.0) one.1 ∙ append_assoc (get_or before.0 n no_account).1 one.0 more.0))
-
-  listed_more : (texts : List Labelled) (before : Accounts) (l : Line) → length before.0 ≡ length site.accounts → AllListed texts before.0 → IsAnsweredLine site user before l → AllKeepable l.accounts.0
+  listed_more : (texts : List Labelled) (before : Accounts) (l : Line) → length before.0 ≡ length site.accounts → AllListed texts before.0 → IsAnsweredLine site user before l
       → AllListed (texts ++ line_texts site before l) l.accounts.0
-  listed_more texts before l all listed a keep n there =
+  listed_more texts before l all listed a n there =
       let id : List ℕ = (get_or site.accounts n nameless).id in
       let old : List Entry = (get_or before.0 n no_account).1 in
       let one = adds before l a n in
@@ -231,20 +210,18 @@ module _ (site : Site) (user : ℕ) (apart : AreApart site.accounts) where
       let in_after : n < length l.accounts.0 = omega (arith, there, all, after) in
       let place : get_or (counts before.0) n 0 ≡ length old = get_or-map (λ (x : Base × List Entry). length x.1) before.0 n no_account 0 in_before in
       let new : drop (get_or (counts before.0) n 0) (get_or l.accounts.0 n no_account).1 ≡ one.0 = (λ i. drop (place i) (one.1 i)) ∙ drop-append_seam old one.0 in
-      let keep_new : AreKeepable one.0 = keepable_behind old one.0 (subst AreKeepable one.1 (keep n)) in
       let back : AreReadBack one.0 = subst AreReadBack new (read_back_at n (counts before.0) l.accounts.0 in_counts in_after a.read_back) in
       let came : texts_of id (line_texts site before l) ≡ map entry_text one.0 = texts_here n id site.accounts (counts before.0) l.accounts.0 apart there in_counts in_after refl ∙ ap (map entry_text) new in
       subst (λ (y : List Entry × List (List ℕ)). AreEntriesOf y.0 y.1) (λ i. (sym one.1 i, sym (texts_join id texts (line_texts site before l) ∙ ap (λ (ts : List (List ℕ)). texts_of id texts ++ ts) came) i))
-      (entries_join old one.0 (texts_of id texts) (map entry_text one.0) (listed n there) (back keep_new))
+      (entries_join old one.0 (texts_of id texts) (map entry_text one.0) (listed n there) back)
 
-  listed_all : (ls : List Line) (texts : List Labelled) (before : Accounts) → length before.0 ≡ length site.accounts → AllListed texts before.0 → AreAnsweredLines site user before ls → AllKeepable (left_by before ls).0
+  listed_all : (ls : List Line) (texts : List Labelled) (before : Accounts) → length before.0 ≡ length site.accounts → AllListed texts before.0 → AreAnsweredLines site user before ls
       → AllListed (texts ++ all_texts site before ls) (left_by before ls).0
-  listed_all [] texts before all listed a keep = subst (λ (ts : List Labelled). AllListed ts before.0) (sym (append-nil texts)) listed
-  listed_all (l ∷ ls) texts before all listed a keep =
-      let here : AllKeepable l.accounts.0 = λ n. (let more = adds_all ls l.accounts a.1 n in keepable_front (get_or l.accounts.0 n no_account).1 more.0 (subst AreKeepable more.1 (keep n))) in
-      let one = listed_more texts before l all listed a.0 here in
+  listed_all [] texts before all listed a = subst (λ (ts : List Labelled). AllListed ts before.0) (sym (append-nil texts)) listed
+  listed_all (l ∷ ls) texts before all listed a =
+      let one = listed_more texts before l all listed a.0 in
       subst (λ (ts : List Labelled). AllListed ts (left_by l.accounts ls).0) (append_assoc texts (line_texts site before l) (all_texts site l.accounts ls))
-      (listed_all ls (texts ++ line_texts site before l) l.accounts (same_count before l.accounts l.made a.0.chain ∙ all) one a.1 keep)
+      (listed_all ls (texts ++ line_texts site before l) l.accounts (same_count before l.accounts l.made a.0.chain ∙ all) one a.1)
 
   -- ---- what else of the accounts is as it was
 
@@ -305,11 +282,6 @@ module _ {site : Site} {user : ℕ} {before : Accounts} {x x' : KeptSetting} {do
 
 -- ---- the accounts of the next run
 
-keepable_at : (xs : List (Base × List Entry)) (n : ℕ) → All (λ (a : Base × List Entry). AreKeepable a.1) xs → AreKeepable (get_or xs n no_account).1
-keepable_at [] n h = tt
-keepable_at (y ∷ xs) zero h = All-head (λ (a : Base × List Entry). AreKeepable a.1) y xs h
-keepable_at (y ∷ xs) (suc n) h = keepable_at xs n (All-tail (λ (a : Base × List Entry). AreKeepable a.1) y xs h)
-
 base_is : (site : Site) (accounts : List (Base × List Entry)) (n : ℕ) → map (λ (a : Base × List Entry). a.0) accounts ≡ bases site → n < length site.accounts → n < length accounts
     → (get_or accounts n no_account).0 ≡ account_base site (get_or site.accounts n nameless).id
 base_is site accounts n is there beside =
@@ -329,27 +301,27 @@ module _ (site : Site) (user : ℕ) (apart : AreApart site.accounts) (ls : List 
   may_go_on told o = all_may_go_on site user apart ls (accounts, 0) (λ k d below. (o.go_on k d below).sound) answered
 
   -- each account has just the entries that are kept of it
-  listed_left : (k : Kept) → AreOpened site (Some k) accounts → All (λ (a : Base × List Entry). AreKeepable a.1) left → AllListed site user apart (k.texts ++ all_texts site (accounts, 0) ls) left
-  listed_left k o keep =
+  listed_left : (k : Kept) → AreOpened site (Some k) accounts → AllListed site user apart (k.texts ++ all_texts site (accounts, 0) ls) left
+  listed_left k o =
       let count = count_is site accounts o.bases in
       listed_all site user apart ls k.texts (accounts, 0) count
       (λ n there.
       let beside : n < length accounts = omega (arith, there, count) in
       subst (λ (b : Base). AreEntriesOf (get_or accounts n no_account).1 (texts_of b.account_id k.texts)) (base_is site accounts n o.bases there beside) (o.go_on n no_account beside).listed)
-      answered (λ n. keepable_at left n keep)
+      answered
 
-  opened_next : (told told' : Option Kept) → HasTexts told told' (all_texts site (accounts, 0) ls) → AreOpened site told accounts → All (λ (a : Base × List Entry). AreKeepable a.1) left → AreOpened site told' left
-  opened_next None None has o keep = record {
+  opened_next : (told told' : Option Kept) → HasTexts told told' (all_texts site (accounts, 0) ls) → AreOpened site told accounts → AreOpened site told' left
+  opened_next None None has o = record {
     bases = same_site o.bases;
     go_on = λ k d below. record { listed = tt; sound = may_go_on None o k d below };
   }
-  opened_next (Some k) None has o keep = absurd (let wrong : None ≡ Some (k.texts ++ all_texts site (accounts, 0) ls) = has in cc)
-  opened_next None (Some k) has o keep = absurd (let wrong : Some k.texts ≡ None = has in cc)
-  opened_next (Some k) (Some k') has o keep =
+  opened_next (Some k) None has o = absurd (let wrong : None ≡ Some (k.texts ++ all_texts site (accounts, 0) ls) = has in cc)
+  opened_next None (Some k) has o = absurd (let wrong : Some k.texts ≡ None = has in cc)
+  opened_next (Some k) (Some k') has o =
       let texts : k'.texts ≡ k.texts ++ all_texts site (accounts, 0) ls = same_Some k'.texts (k.texts ++ all_texts site (accounts, 0) ls) has in
       let is = same_site o.bases in
       let count = count_is site left is in
-      let listed = listed_left k o keep in
+      let listed = listed_left k o in
       record {
         bases = is;
         go_on = All-from_get_or (GoesOn (Some k')) left no_account (λ n below.
@@ -361,5 +333,5 @@ module _ (site : Site) (user : ℕ) (apart : AreApart site.accounts) (ls : List 
       }
 
 pub runs_go_on : RunsGoOn
-runs_go_on name o o' site loaded user accounts x x' done opened r keep =
-    opened_next site user (configured_apart loaded.0 site loaded.2) (r.written ++ r.unwritten) accounts r.answered x.keeper.told x'.keeper.told (texts_left r done.status r.how) opened keep
+runs_go_on name o o' site loaded user accounts x x' done opened r =
+    opened_next site user (configured_apart loaded.0 site loaded.2) (r.written ++ r.unwritten) accounts r.answered x.keeper.told x'.keeper.told (texts_left r done.status r.how) opened

@@ -1,13 +1,12 @@
 -- The lines of the bytes of an input.
-use Rattle.std.proofs.Common.{◌≡◌, ◌≢◌, ◌+◌, ◌≤◌, ◌<◌, ◌++◌, ◌∷◌, [], ◌&&◌, ◌==◌, ℕ, suc, List, Bool, true, false, inl, inr, length, length-append, map, refl, sym, ap, ◌∙◌, subst, arith, append_assoc, append-nil, ne_eqb}
+use Rattle.std.proofs.Common.{◌≡◌, ◌≢◌, ◌≤◌, ◌<◌, ◌++◌, ◌∷◌, [], ◌&&◌, ◌==◌, ℕ, suc, List, Bool, true, false, inl, inr, length, length-append, refl, sym, ap, ◌∙◌, subst, arith, append_assoc, append-nil, ne_eqb}
 use Rattle.std.proofs.lemmas.Bool.Decides.{nat_tests}
 use Rattle.std.proofs.lemmas.List.Elements.{All-cons, All-head, All-nil, All-tail}
 use Rattle.std.proofs.lemmas.List.Folds.{list_all-append}
-use Rattle.std.specs.Io.KnownBytes.{IsAtEnd}
 use Rattle.std.specs.List.{list_all}
 use Rattle.std.specs.Prelude.{All, Option, if◌then◌else◌, nat_le}
 use Rattle.jmapd_run.specs.declared.status.Status.TheVariants.{Cut, Done}
-use Rattle.kept_run.specs.Completes.{lines_status, may_all_be_answered}
+use Rattle.kept_run.specs.Completes.{lines_status}
 use Rattle.kept_run.specs.Runs.{HoldsLines, IsAnswerable}
 use Rattle.kept_run.specs.declared.lines.TheConstants.{MAX_LINES}
 use Rattle.line_edge.proofs.LineLemmas.{first_line, one_line}

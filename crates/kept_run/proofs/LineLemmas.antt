@@ -1,5 +1,5 @@
 -- One line.
-use Rattle.std.proofs.Common.{◌≡◌, ◌+◌, ◌<◌, ◌≤◌, ◌++◌, ◌∷◌, [], ℕ, ℤ, List, Option, Result, Ok, Err, inl, inr, length, refl, sym, ap, ◌∙◌, subst, arith}
+use Rattle.std.proofs.Common.{◌≡◌, ◌+◌, ◌<◌, ◌≤◌, ◌++◌, ◌∷◌, [], ℕ, ℤ, List, Option, Ok, Err, inl, inr, refl, sym, ap, subst, arith}
 use Rattle.account_desk.specs.SoleDesk.{shown_of}
 use Rattle.conn_serve.specs.Answering.{IsOutcome, OutcomeHow}
 use Rattle.conn_serve.specs.declared.reply.RequestOutcome.{RequestOutcome}
@@ -7,7 +7,6 @@ use Rattle.io_edge.specs.Outside.{Grows, GrowsByPrefix, Rose, SinkShown, Ticks}
 use Rattle.journal_keeper.specs.Journals.{FailsToKeep, KeeperShown}
 use Rattle.kept_run.specs.Lines.{Accounts, HasMore, IsAnsweredLine, Line, MayAllGoOn, NewAreReadBack, counts, texts_behind}
 use Rattle.kept_run.specs.Steps.{IsLineText, IsRun, RunsLine}
-use Rattle.kept_run.specs.declared.line.LineEnd.{LineEnd}
 use Rattle.kept_run.specs.declared.line.LineEnd.TheVariants.{KeepFault, NoMemory, WriteFault, Written}
 use Rattle.spec_batch.proofs.Chains.{spent_stop, turns_counted}
 use Rattle.spec_batch.specs.Batch.{NextMeans}

@@ -1,15 +1,14 @@
 -- The lines of an input, one after the other.
-use Rattle.std.proofs.Common.{◌≡◌, ◌+◌, ◌*◌, ◌≤◌, ◌<◌, ◌++◌, ◌∷◌, [], ℕ, ℤ, List, Option, Some, None, option_map, flat_map, inl, inr, length, length-append, map, take, refl, sym, ap, ◌∙◌, subst, arith, append_assoc, append-nil}
+use Rattle.std.proofs.Common.{◌≡◌, ◌+◌, ◌*◌, ◌≤◌, ◌++◌, ◌∷◌, [], ℕ, ℤ, List, Option, Some, None, option_map, length, map, refl, sym, ap, ◌∙◌, arith, append_assoc, append-nil}
 use Rattle.std.proofs.KnownBytes.{Consumes-nil, Consumes-trans}
 use Rattle.std.proofs.lemmas.Grind.{flat_map-append}
-use Rattle.std.proofs.lemmas.List.{map-append}
-use Rattle.std.proofs.lemmas.List.Elements.{All-nil, All-push}
-use Rattle.std.specs.Io.KnownBytes.{Consumes, IsAtEnd}
+use Rattle.std.proofs.lemmas.List.Elements.{All-nil}
+use Rattle.std.specs.Io.KnownBytes.{Consumes}
 use Rattle.std.specs.Prelude.{All}
-use Rattle.io_edge.proofs.OutsideLemmas.{Grows-nil, Grows-trans}
-use Rattle.io_edge.specs.Outside.{Grows, Rose, SourceShown}
+use Rattle.io_edge.proofs.OutsideLemmas.{Grows-nil}
+use Rattle.io_edge.specs.Outside.{Grows, SourceShown}
 use Rattle.journal_keeper.specs.Journals.{Kept, Keeps, Labelled}
-use Rattle.kept_run.proofs.Clocks.{ticked_join, ticked_none, ticked_one}
+use Rattle.kept_run.proofs.Clocks.{ticked_none}
 use Rattle.kept_run.specs.Lines.{Accounts, AreAnsweredLines, HasMore, IsAnsweredLine, Line, all_texts, left_by, line_texts, response, responses}
 use Rattle.kept_run.specs.Runs.{IsAnswerable, KeptSetting}
 use Rattle.line_edge.specs.Lines.{with_feeds}

@@ -1,8 +1,7 @@
 -- Accounts that go on from lists.
-use Rattle.std.proofs.Common.{◌≡◌, ◌≢◌, ◌+◌, ◌≤◌, ℕ, suc, List, [], ◌∷◌, Bool, true, false, not, cond, Option, Some, None, drop, filter, length, refl, sym, ap, ◌∙◌, inl, inr, arith, ◌==◌}
-use Rattle.std.specs.List.{position, position_from}
+use Rattle.std.proofs.Common.{◌≡◌, ◌+◌, ◌≤◌, ℕ, List, [], ◌∷◌, Bool, true, false, not, cond, Option, Some, None, drop, length, refl, sym, ap, ◌∙◌, arith, ◌==◌}
+use Rattle.std.specs.List.{position_from}
 use Rattle.std.proofs.lemmas.Iterator.Adapters.{position_from-zero}
-use Rattle.std.proofs.lemmas.Bool.Decides.{eqb_tells}
 use Rattle.kept_run.specs.Opened.{bad_place, foreign_place, earlier_place}
 use Rattle.cal_model.specs.Sound.{unsound_place}
 use Rattle.spec_history.specs.History.{changes_of}
@@ -40,7 +39,7 @@ fewer_own : (es : List Entry) → length (written_by 0 es) ≤ length es
 fewer_own [] = omega arith
 fewer_own (e ∷ es) = no_more e (written_by 0 es) es (e.author == 0) (fewer_own es)
 
-rest_own : (e : Entry) (es : List Entry) (b : Bool) → cond b (e ∷ written_by 0 es) (written_by 0 es) ≡ e ∷ es → (b ≡ true) × (written_by 0 es ≡ es)
+pub rest_own : (e : Entry) (es : List Entry) (b : Bool) → cond b (e ∷ written_by 0 es) (written_by 0 es) ≡ e ∷ es → (b ≡ true) × (written_by 0 es ≡ es)
 rest_own e es true own = (refl, ap (drop 1) own)
 rest_own e es false own = absurd (let few = fewer_own es in let same = ap length own in omega (arith, few, same))
 

@@ -1,5 +1,5 @@
 -- From the words on.
-use Rattle.std.proofs.Common.{◌≡◌, ◌<◌, ℕ, List, Option, Some, None, Result, Ok, Err, inl, inr, length, refl, sym, ap, ◌∙◌, subst}
+use Rattle.std.proofs.Common.{◌≡◌, ℕ, List, Option, Some, None, Ok, Err, inl, inr, length, refl, sym, ap, ◌∙◌, subst}
 use Rattle.command_line.specs.KeptWords.{KeptCommand}
 use Rattle.io_edge.specs.Outside.{OpenerShown}
 use Rattle.jmapd_run.specs.Shown.{LoadHow}
@@ -10,7 +10,7 @@ use Rattle.journal_keeper.specs.Journals.{KeeperShown, Kept}
 use Rattle.kept_run.proofs.StartLemmas.{count_opened, loads_none}
 use Rattle.kept_run.specs.Lines.{Accounts}
 use Rattle.kept_run.specs.Opened.{AreOpened}
-use Rattle.kept_run.specs.Runs.{KeptStart, NothingRun, NotBegun, RunsKept, RunsLines, KeptSetting}
+use Rattle.kept_run.specs.Runs.{NotBegun, RunsKept, RunsLines, KeptSetting}
 use Rattle.kept_run.specs.Steps.{IsDone, IsLoad, NotOpened}
 use Rattle.kept_run.specs.declared.status.KeptDone.{KeptDone}
 use Rattle.kept_run.specs.declared.status.KeptStatus.{KeptStatus}

@@ -1,16 +1,14 @@
 -- The accounts of a site, opened one after the other.
-use Rattle.std.proofs.Common.{◌≡◌, ◌+◌, ◌<◌, ◌≤◌, ◌^◌, ◌++◌, ◌∷◌, [], ℕ, List, Option, Some, None, Result, Ok, Err, length, length-append, map, take, refl, sym, ap, ◌∙◌, subst, arith}
+use Rattle.std.proofs.Common.{◌≡◌, ◌+◌, ◌<◌, ◌≤◌, ◌++◌, ◌∷◌, [], ℕ, List, Option, Some, None, Result, Ok, Err, length, map, take, refl, sym, ap, ◌∙◌, subst, arith}
 use Rattle.std.proofs.Math.ListN.{get_or}
 use Rattle.std.proofs.lemmas.List.{length-map, map-append, take_all, take_more, get_or-map, get_or_default}
 use Rattle.std.proofs.lemmas.List.Elements.{All-nil, All-push}
 use Rattle.std.specs.Prelude.{All, IfErr, IsErrAnd}
 use Rattle.account_desk.specs.FreshDesk.{bases}
-use Rattle.io_edge.specs.Outside.{Rose}
 use Rattle.journal_keeper.specs.Journals.{HasDamage, KeeperShown, Kept, Lists}
 use Rattle.kept_run.proofs.OpenLemmas.{own_entries}
 use Rattle.kept_run.proofs.TextLemmas.{nameless}
 use Rattle.kept_run.specs.Opened.{AreOpened, GoesOn, bad_place}
-use Rattle.kept_run.specs.Runs.{HasId, IsBadJournal}
 use Rattle.kept_run.specs.Steps.{AccountLoadHow, IsLoad, NotOpened, OpenHow, TellsOf, account_base}
 use Rattle.kept_run.specs.declared.status.KeptStatus.{KeptStatus}
 use Rattle.kept_run.specs.declared.status.KeptStatus.TheVariants.{Plain, KeepFault, Damaged, BadJournal}

@@ -1,5 +1,5 @@
 -- How a kept run ends where nothing fails, and what it finds when it is begun again.
-use Rattle.std.specs.Prelude.{◌≡◌, ◌≢◌, ◌⊎◌, ◌<◌, ◌++◌, ◌&&◌, ℕ, List, Bool, All, IfSome, Option, Some, None, Ok, length, nat_le, slice_index_or, if◌then◌else◌}
+use Rattle.std.specs.Prelude.{◌≡◌, ◌⊎◌, ◌<◌, ◌++◌, ◌&&◌, ℕ, List, Bool, IfSome, Option, Some, None, Ok, length, nat_le, slice_index_or, if◌then◌else◌}
 use Rattle.std.specs.List.{list_all}
 use Rattle.command_line.specs.KeptWords.{KeptCommand}
 use Rattle.io_edge.specs.Outside.{OpenerShown, Rose}
@@ -7,7 +7,7 @@ use Rattle.jmapd_run.specs.Completes.{IsAccepted}
 use Rattle.jmapd_run.specs.Starts.{IsLoaded, IsUser}
 use Rattle.jmapd_run.specs.declared.status.Status.{Status}
 use Rattle.jmapd_run.specs.declared.status.Status.TheVariants.{Cut, Done, NoMemory}
-use Rattle.journal_keeper.specs.Journals.{AreEntriesOf, AreKeepable, Kept, texts_of}
+use Rattle.journal_keeper.specs.Journals.{AreEntriesOf, Kept, texts_of}
 use Rattle.kept_run.specs.Lines.{left_by}
 use Rattle.kept_run.specs.Opened.{AreOpened, bad_place}
 use Rattle.kept_run.specs.Runs.{KeptSetting, RunsKept, RunsLines}
@@ -59,8 +59,6 @@ GoodListsAreTaken = (asked : KeptCommand) (o o' : OpenerShown) (x x' : KeptSetti
 -- ---- begun again
 
 -- A run, however it ends, leaves the accounts as the lines that were kept left them to the run that is begun next: the keeper has just their entries, and the accounts go on from these.
--- This is said of entries that have texts.
 abbrev pub RunsGoOn : Type 0
 RunsGoOn = (name : List ℕ) (o o' : OpenerShown) (site : Site) → IsLoaded o o' name (Ok site) → (user : ℕ) (accounts : List (Base × List Entry)) (x x' : KeptSetting) (done : KeptDone)
-    → AreOpened site x.keeper.told accounts → (r : RunsLines site user (accounts, 0) x x' done)
-    → All (λ a. AreKeepable a.1) (left_by (accounts, 0) (r.written ++ r.unwritten)).0 → AreOpened site x'.keeper.told (left_by (accounts, 0) (r.written ++ r.unwritten)).0
+    → AreOpened site x.keeper.told accounts → (r : RunsLines site user (accounts, 0) x x' done) → AreOpened site x'.keeper.told (left_by (accounts, 0) (r.written ++ r.unwritten)).0

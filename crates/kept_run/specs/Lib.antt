@@ -1,5 +1,6 @@
 pub mod Opened
 pub mod Lines
+pub mod Values
 pub mod Statuses
 pub mod Runs
 pub mod Steps

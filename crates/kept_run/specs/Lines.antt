@@ -2,7 +2,7 @@
 use Rattle.std.specs.Prelude.{◌≡◌, ◌≤◌, ℕ, ℤ, List, [], ◌∷◌, ◌++◌, All, None, Option, drop, flat_map, length, map, option_map, ⊤}
 use Rattle.account_desk.specs.SoleDesk.{shown_of}
 use Rattle.journal_keeper.specs.EntryText.{entry_text}
-use Rattle.journal_keeper.specs.Journals.{AreEntriesOf, AreKeepable, Kept, Labelled, labelled}
+use Rattle.journal_keeper.specs.Journals.{AreEntriesOf, Kept, Labelled, labelled}
 use Rattle.kept_run.specs.Opened.{bad_place}
 use Rattle.spec_batch.specs.Chain.{Chain, Made}
 use Rattle.spec_batch.specs.Reply.{Replies, asked_in}
@@ -36,9 +36,9 @@ responses ls = flat_map response ls
 abbrev pub counts : List (Base × List Entry) → List ℕ
 counts accounts = map (λ a. length a.1) accounts
 
--- the entries are read from their texts, if they are such as have texts
+-- the entries are read from their texts
 abbrev pub AreReadBack : List Entry → Type 0
-AreReadBack es = AreKeepable es → AreEntriesOf es (map entry_text es)
+AreReadBack es = AreEntriesOf es (map entry_text es)
 
 -- the entries of the accounts behind the first so many are
 abbrev pub NewAreReadBack : List ℕ → List (Base × List Entry) → Type 0

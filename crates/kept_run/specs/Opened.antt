@@ -1,5 +1,5 @@
 -- The accounts of a site that go on from what a keeper has of them.
-use Rattle.std.specs.Prelude.{◌≡◌, ◌==◌, ℕ, List, [], ◌∷◌, All, Option, Some, None, map, min, not}
+use Rattle.std.specs.Prelude.{◌≡◌, ◌==◌, ℕ, List, All, Option, Some, None, map, min, not}
 use Rattle.std.specs.List.{position}
 use Rattle.account_desk.specs.FreshDesk.{bases}
 use Rattle.cal_model.specs.Sound.{unsound_place}

@@ -1,11 +1,10 @@
 -- What a kept run does, whatever bytes come and whichever calls of the keeper and of the output fail.
-use Rattle.std.specs.Prelude.{◌≡◌, ◌≢◌, ◌⊎◌, ◌<◌, ◌≤◌, ◌+◌, ℕ, ℤ, List, [], ◌∷◌, ◌++◌, All, Option, Some, None, Ok, Err, length, map, slice_index_or, ⊤}
+use Rattle.std.specs.Prelude.{◌≡◌, ◌⊎◌, ◌<◌, ◌≤◌, ℕ, ℤ, List, [], ◌∷◌, ◌++◌, All, Option, Some, None, Ok, Err, length, map, slice_index_or, ⊤}
 use Rattle.std.specs.Io.KnownBytes.{Consumes, IsAtEnd}
 use Rattle.command_line.specs.KeptWords.{KeptCommand}
 use Rattle.io_edge.specs.Outside.{Grows, OpenerShown, Rose, SinkShown, SourceShown}
 use Rattle.jmapd_run.specs.Starts.{IsLoaded, IsNotOpened, IsUser}
-use Rattle.jmapd_run.specs.declared.status.Status.{Status}
-use Rattle.jmapd_run.specs.declared.status.Status.TheVariants.{Config, Cut, Done, NoMemory, OpenFault, ReadFault, Refused, Usage, WriteFault}
+use Rattle.jmapd_run.specs.declared.status.Status.TheVariants.{Config, Cut, Done, NoMemory, OpenFault, ReadFault, Usage, WriteFault}
 use Rattle.journal_keeper.specs.EntryText.{IsNoEntryText}
 use Rattle.journal_keeper.specs.Journals.{FailsToKeep, HasDamage, KeeperShown, Kept, Lists}
 use Rattle.kept_run.specs.Lines.{Accounts, AreAnsweredLines, HasMore, IsAnsweredLine, Line, all_texts, left_by, line_texts, response, responses}

@@ -1,11 +1,11 @@
 -- What the steps of a kept run do.
-use Rattle.std.specs.Prelude.{◌≡◌, ◌+◌, ◌<◌, ◌≤◌, ℕ, ℤ, List, [], ◌∷◌, ◌++◌, Option, Result, Ok, Err, Some, None, length, ⊤}
+use Rattle.std.specs.Prelude.{◌≡◌, ◌+◌, ◌<◌, ◌≤◌, ℕ, ℤ, List, [], ◌∷◌, ◌++◌, All, Option, Result, Ok, Err, Some, None, drop, length, ⊤}
 use Rattle.io_edge.specs.Outside.{Grows, GrowsByPrefix, Rose, SinkShown, SourceShown, Ticks}
 use Rattle.std.specs.Io.KnownBytes.{IsAtEnd}
 use Rattle.jmapd_run.specs.declared.status.Status.{Status}
 use Rattle.kept_run.specs.declared.status.KeptDone.{KeptDone}
 use Rattle.journal_keeper.specs.EntryText.{IsNoEntryText}
-use Rattle.journal_keeper.specs.Journals.{FailsToKeep, HasDamage, KeeperShown, Kept, Lists}
+use Rattle.journal_keeper.specs.Journals.{FailsToKeep, HasDamage, KeeperShown, Lists}
 use Rattle.kept_run.specs.Lines.{Accounts, HasMore, IsAnsweredLine, Line, line_texts, response}
 use Rattle.kept_run.specs.declared.line.LineEnd.{LineEnd}
 use Rattle.kept_run.specs.declared.line.LineEnd.TheVariants.{Written, WriteFault, KeepFault, NoMemory}
@@ -20,6 +20,7 @@ use Rattle.spec_batch.specs.Reply.{Replies, asked_in}
 use Rattle.spec_json.specs.Data.{Data}
 use Rattle.spec_json.specs.Json.{text_of}
 use Rattle.spec_history.specs.Base.{Base}
+use Rattle.spec_history.specs.MostTurns.{most_turns}
 use Rattle.spec_history.specs.declared.entry.Entry.{Entry}
 use Rattle.spec_site.specs.Configuration.{Site, user_at}
 
@@ -28,6 +29,12 @@ abbrev pub AreWithin : List ℕ → List (Base × List Entry) → Type 0
 AreWithin [] accounts = ⊤
 AreWithin (p ∷ places) [] = ⊤
 AreWithin (p ∷ places) (a ∷ accounts) = (p ≤ length a.1) × AreWithin places accounts
+
+-- each entry of the accounts behind the first so many has a turn that a call may have
+abbrev pub HaveTurns : List ℕ → List (Base × List Entry) → Type 0
+HaveTurns [] accounts = ⊤
+HaveTurns (p ∷ places) [] = ⊤
+HaveTurns (p ∷ places) (a ∷ accounts) = All (λ e. e.turn ≤ most_turns) (drop p a.1) × HaveTurns places accounts
 
 -- this is the text that answers a line, and the calls that were made for it left the accounts so
 pub record IsLineText (site : Site) (user : ℕ) (bytes : List ℕ) (moment : ℤ) (before after : Accounts) (text : List ℕ) : Type 0 where

@@ -8,3 +8,4 @@ mod lines;
 pub mod run;
 pub mod status;
 mod texts;
+mod values;

@@ -55,6 +55,7 @@ pub(crate) fn run_line<K: Sink, C: Clock, J: Keeper>(
     let Ok(text) = line_text(alloc, site, user, line, desk, moment) else {
         return LineEnd::NoMemory;
     };
+    desk.all_entries_are_its_own();
     match keep_new(alloc, site, desk, &places, keeper) {
         Ok(()) => {}
         Err(KeepError::Failed) => return LineEnd::KeepFault,

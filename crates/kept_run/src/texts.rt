@@ -3,8 +3,9 @@ ghost use Rattle.std.specs.Prelude.{◌≡◌, ◌≢◌, ◌≤◌, ◌<◌, Er
 ghost use Rattle.io_edge.specs.Outside.{Rose};
 ghost use Rattle.journal_keeper.specs.Journals.{FailsToKeep};
 ghost use Rattle.kept_run.specs.Lines.{HasMore, MayAllGoOn, NewAreReadBack, counts, texts_behind};
-ghost use Rattle.kept_run.specs.Steps.{AreWithin};
+ghost use Rattle.kept_run.specs.Steps.{AreWithin, HaveTurns};
 
+use crate::values::are_entry_values;
 use account_desk::sole_desk::SoleDesk;
 use journal_keeper::keeper::{KeepError, Keeper};
 use journal_keeper::kept_text::KeptText;
@@ -36,6 +37,7 @@ pub(crate) fn keep_new<J: Keeper>(
     requires all { length desk.now.0 ≡ length site.now.accounts }
     requires each { length places.now ≡ length site.now.accounts }
     requires within { AreWithin places.now desk.now.0 }
+    requires turns { HaveTurns places.now desk.now.0 }
     ensures kept { OnOk result (HasMore (J.shown keeper.old).told (J.shown keeper.new).told (texts_behind site.now.accounts places.now desk.now.0)) }
     ensures failed { result ≡ Err KeepError.Failed → FailsToKeep (J.shown keeper.old).told (J.shown keeper.new).told (texts_behind site.now.accounts places.now desk.now.0) }
     ensures no_memory { result ≡ Err KeepError.NoMemory → (J.shown keeper.new).told ≡ (J.shown keeper.old).told }
@@ -63,6 +65,7 @@ fn new_texts(
     requires all { length desk.now.0 ≡ length site.now.accounts }
     requires each { length places.now ≡ length site.now.accounts }
     requires within { AreWithin places.now desk.now.0 }
+    requires turns { HaveTurns places.now desk.now.0 }
     ensures texts { IfOk result (λ v. v.items ≡ texts_behind site.now.accounts places.now desk.now.0) }
     ensures read_back { OnOk result (NewAreReadBack places.now desk.now.0) }
     ensures go_on { OnOk result (MayAllGoOn desk.now.0) }
@@ -73,6 +76,7 @@ fn new_texts(
         let account = desk.account(n);
         account.has_sound_entries();
         let added = account.added_since(places[n as usize]);
+        are_entry_values(added);
         let mut more = entry_texts(alloc, site.account_id(n), added)?;
         texts.append(&mut more)?;
     }

@@ -1,4 +1,4 @@
-use Rattle.kept_run.proofs.LineLemmas.{line_text_is, spent_never}
+use Rattle.kept_run.proofs.LineLemmas.{spent_never}
 use Rattle.kept_run.proofs.line.line_text.Goals as goal
 
 pub unreachable-requires : goal.unreachable-requires

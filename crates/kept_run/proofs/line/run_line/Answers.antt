@@ -1,9 +1,13 @@
-use Rattle.std.proofs.Common.{◌≡◌, ◌∙◌, List, ℕ, Err, refl, rules, sym, ap, subst}
+use Rattle.std.proofs.Common.{◌≡◌, ◌≤◌, ◌∙◌, List, ℕ, Err, refl, rules, sym, ap, subst, arith}
 use Rattle.spec_time.specs.Moments.{clamped}
 use Rattle.io_edge.specs.Outside.{Grows, GrowsByPrefix}
 use Rattle.kept_run.proofs.LineLemmas.{line_unkept, line_unwritten, line_written}
 use Rattle.kept_run.proofs.TextLemmas.{grown_within, same_count}
-use Rattle.kept_run.specs.Steps.{AreWithin}
+use Rattle.kept_run.proofs.TurnLemmas.{turns_added}
+use Rattle.kept_run.specs.Steps.{AreWithin, HaveTurns}
+use Rattle.spec_batch.proofs.Chains.{turns_counted}
+use Rattle.account_desk.specs.SoleDesk.{shown_of}
+use Rattle.spec_history.specs.MostTurns.{most_turns}
 use Rattle.kept_run.proofs.line.run_line.Goals as goal
 
 pub keep_new-requires-clause-all : goal.keep_new-requires-clause-all
@@ -15,6 +19,15 @@ pub keep_new-requires-clause-within : goal.keep_new-requires-clause-within
 keep_new-requires-clause-within g c κs within =
     let t = c.in-Ok-line_text.ensures in
     subst (λ (places : List ℕ). AreWithin places c.line_text.new.desk.0) (sym (c.deref.ensures.value ∙ c.in-Ok.ensures)) (grown_within c.args.desk.now c.line_text.new.desk t.made t.chain)
+
+pub keep_new-requires-clause-turns : goal.keep_new-requires-clause-turns
+keep_new-requires-clause-turns g c κs within =
+    let t = c.in-Ok-line_text.ensures in
+    let made = turns_counted (shown_of c.args.desk.now) (shown_of c.line_text.new.desk) t.made t.chain in
+    let few = t.few in
+    let upto : c.line_text.new.desk.1 ≤ most_turns = omega (arith, made, few, c.requires.may_call) in
+    subst (λ (places : List ℕ). HaveTurns places c.line_text.new.desk.0) (sym (c.deref.ensures.value ∙ c.in-Ok.ensures))
+    (turns_added c.args.desk.now c.line_text.new.desk t.made t.chain c.all_entries_are_its_own.ensures upto)
 
 pub returns-in-Err-Failed : goal.returns-in-Err-Failed
 returns-in-Err-Failed g c =

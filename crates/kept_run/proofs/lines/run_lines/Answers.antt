@@ -1,4 +1,4 @@
-use Rattle.kept_run.proofs.StepLemmas.{at_end, behind_all, ends_behind_last, goes_on, has_accounts, may_call, no_memory, read_fault, standing_start, stops, stops_at_last, too_long}
+use Rattle.kept_run.proofs.StepLemmas.{at_end, behind_all, ends_behind_last, goes_on, no_memory, read_fault, standing_start, stops, stops_at_last, too_long}
 use Rattle.kept_run.proofs.lines.run_lines.Goals as goal
 
 pub loop-count-init : goal.loop-count-init
