@@ -227,6 +227,18 @@ def without_rights(mode_of_file, mode_of_folder):
     return tried
 
 
+def read_only_file_system(room):
+    room.run(create("Work"))
+    if subprocess.run(["mount", "--bind", room.folder, room.folder], stderr=subprocess.DEVNULL).returncode:
+        print("a read-only file system: skipped, since this user mounts nothing")
+        return
+    try:
+        subprocess.run(["mount", "-o", "remount,ro,bind", room.folder], check=True)
+        unopened(room, "journal can't be opened")
+    finally:
+        subprocess.run(["umount", room.folder], check=True)
+
+
 def another_program(room):
     base = sqlite3.connect(room.path("a.db"))
     base.execute("CREATE TABLE note (title TEXT)")
@@ -408,6 +420,7 @@ CASES = {
     "a file without rights": without_rights(0o000, 0o777),
     "a read-only file": without_rights(0o444, 0o777),
     "a read-only folder": without_rights(0o444, 0o555),
+    "a read-only file system": read_only_file_system,
     "another program's database": another_program,
     "no database": another_file,
     "a later version": later_version,
