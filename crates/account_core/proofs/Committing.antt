@@ -33,7 +33,8 @@ object_from_append (c ∷ cs) ds before kind id = object_from_append cs ds _ kin
 pub count_of_kind_append : (cs ds : List Change) (kind : Kind) → count_of_kind (cs ++ ds) kind ≡ count_of_kind cs kind + count_of_kind ds kind
 count_of_kind_append cs ds kind = sum_by-append _ cs ds
 
-entries_push : (s : Stamp) (cs : List Change) (n : ℕ) (c : Change) → entries_from s n (cs ++ c ∷ []) ≡ entries_from s n cs ++ entry_of s (n + length cs) c ∷ []
+-- the entry of one change more
+pub entries_push : (s : Stamp) (cs : List Change) (n : ℕ) (c : Change) → entries_from s n (cs ++ c ∷ []) ≡ entries_from s n cs ++ entry_of s (n + length cs) c ∷ []
 entries_push s [] n c = rw add-zero refl
 entries_push s (d ∷ cs) n c = ap (λ es. entry_of s n d ∷ es) (entries_push s cs (suc n) c ∙ ap (λ m. entries_from s (suc n) cs ++ entry_of s m c ∷ []) (omega arith))
 

@@ -10,3 +10,4 @@ pub mod LiveEvents
 pub mod InUse
 pub mod AskedLemmas
 pub mod FoundLemmas
+pub mod KeptLemmas

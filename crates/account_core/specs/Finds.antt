@@ -1,5 +1,5 @@
 -- What a get finds.
-use Rattle.std.specs.Prelude.{◌≡◌, ℕ, List, Bool, true, false, not, Option, Some, None, is_some, filter, flat_map, map}
+use Rattle.std.specs.Prelude.{◌≡◌, ℕ, List, true, false, not, Option, Some, None, is_some, filter, flat_map, map}
 use Rattle.cal_model.specs.Gets.{are_too_large, object_or_occurrence}
 use Rattle.spec_history.specs.declared.entry.Change.{Change}
 use Rattle.spec_history.specs.declared.entry.Kind.{Kind}

@@ -5,3 +5,4 @@ pub mod Opening
 pub mod AskedNames
 pub mod Uses
 pub mod Finds
+pub mod Kept

@@ -1,17 +1,19 @@
 //! An account.
-ghost use Rattle.std.specs.Prelude.{◌≡◌, ◌++◌, [], IfOk, OnErr, OnOk};
+ghost use Rattle.std.specs.Prelude.{◌≡◌, [], IfOk, None, OnErr, OnOk};
 ghost use Rattle.account_core.specs.Ledger.{base, ledger_entries, staged};
 ghost use Rattle.cal_model.specs.Answer.{added, answer};
+ghost use Rattle.spec_books.specs.Acting.{Came};
 
 use crate::changes::changes;
 use crate::get::get;
+use crate::keeping::{EntryKeeper, InMemory};
 use crate::ledger::Ledger;
 use crate::opening::{EntriesError, open_at};
 use crate::queries::{availability, query, query_changes};
 use crate::set::set;
 use spec_bookings::clash::Clash;
+use spec_books::book::Book;
 use spec_calls::call::{Asks, Call, Reply};
-use spec_history::book::Book;
 use spec_history::entry::Entry;
 use spec_history::stamp::Stamp;
 use spec_json::text::Text;
@@ -47,7 +49,7 @@ impl Model for Account {
 
 impl Account {
     ghost use Rattle.std.specs.Arc.{arc_value};
-    ghost use Rattle.std.specs.Prelude.{◌≤◌, IfErr, IfNone, None, drop, length, option_map, true};
+    ghost use Rattle.std.specs.Prelude.{◌≤◌, IfErr, IfNone, drop, length, option_map, true};
     ghost use Rattle.account_core.specs.Opening.{IsRefusal};
     ghost use Rattle.account_rooms.specs.Covered.{AreCoveredOnce};
     ghost use Rattle.account_rooms.specs.Rooms.{AreFree};
@@ -102,6 +104,23 @@ impl Account {
         self.ledger.has_sound_entries();
     }
 
+    /// Answers a call, keeps the entries that it adds, and adds them once they are kept. Where they could not be kept the reply tells so, and nothing is added.
+    ///
+    /// After running out of memory the entries are as before.
+    pub fn act_kept<K: EntryKeeper>(
+        &mut self,
+        keeper: &mut K,
+        stamp: &Stamp,
+        call: &Call,
+    ) -> Result<Reply, AllocError>
+        ensures base { self.new.0 ≡ self.old.0 }
+        ensures came { IfOk result (λ r. Came answer added K.unkept self.old.0 self.old.1 call.now stamp.now r self.new.1) }
+        ensures kept { K.has keeper.old self.old.0 self.old.1 → K.has keeper.new self.old.0 self.new.1 }
+        ensures unchanged { OnErr result (self.new.1 ≡ self.old.1) }
+    {
+        answer(&mut self.ledger, keeper, stamp, call)
+    }
+
     /// The entries from a place on. Takes no memory.
     pub fn added_since(&self, place: u64) -> &[Entry]
         requires { place ≤ length self.now.1 }
@@ -149,6 +168,8 @@ impl Book for Account {
 
     ghost added = { added };
 
+    ghost unkept = { None };
+
     fn act(
         &mut self,
         author: u32,
@@ -161,7 +182,7 @@ impl Book for Account {
             turn,
             moment,
         };
-        answer(&mut self.ledger, &stamp, call)
+        self.act_kept(&mut InMemory, &stamp, call)
     }
 
     fn count(&self) -> u64 {
@@ -171,11 +192,16 @@ impl Book for Account {
     ghost signed = { added_signed };
 }
 
-// Answers a call and adds its entries.
-fn answer(ledger: &mut Ledger, stamp: &Stamp, call: &Call) -> Result<Reply, AllocError>
+// Answers a call, keeps its entries and adds them.
+fn answer<K: EntryKeeper>(
+    ledger: &mut Ledger,
+    keeper: &mut K,
+    stamp: &Stamp,
+    call: &Call,
+) -> Result<Reply, AllocError>
     requires { staged ledger.old ≡ [] }
-    ensures reply { IfOk result (λ r. r ≡ answer (base ledger.old) (ledger_entries ledger.old) call.now stamp.now.moment) }
-    ensures grown { OnOk result (ledger_entries ledger.new ≡ ledger_entries ledger.old ++ added (base ledger.old) (ledger_entries ledger.old) call.now stamp.now) }
+    ensures came { IfOk result (λ r. Came answer added K.unkept (base ledger.old) (ledger_entries ledger.old) call.now stamp.now r (ledger_entries ledger.new)) }
+    ensures kept { K.has keeper.old (base ledger.old) (ledger_entries ledger.old) → K.has keeper.new (base ledger.old) (ledger_entries ledger.new) }
     ensures unchanged { OnErr result (ledger_entries ledger.new ≡ ledger_entries ledger.old) }
     ensures staged { staged ledger.new ≡ [] }
     ensures base { base ledger.new ≡ base ledger.old }
@@ -183,7 +209,7 @@ fn answer(ledger: &mut Ledger, stamp: &Stamp, call: &Call) -> Result<Reply, Allo
     match &call.asks {
         Asks::Get(arguments) => get(ledger, arguments, &call.created),
         Asks::Changes(arguments) => changes(ledger, arguments),
-        Asks::Set(arguments) => set(ledger, stamp, arguments, &call.created),
+        Asks::Set(arguments) => set(ledger, keeper, stamp, arguments, &call.created),
         Asks::Query(arguments) => query(ledger, arguments),
         Asks::QueryChanges(arguments) => query_changes(ledger, arguments),
         Asks::Availability(arguments) => availability(ledger, arguments),

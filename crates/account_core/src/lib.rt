@@ -6,6 +6,7 @@ mod asked;
 mod changes;
 mod found;
 mod get;
+pub mod keeping;
 mod ledger;
 mod occurrences;
 pub mod opening;

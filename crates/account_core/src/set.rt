@@ -1,40 +1,47 @@
 //! Sets (RFC 8620 section 5.3).
-ghost use Rattle.std.specs.Prelude.{◌≡◌, ◌≤◌, ◌++◌, [], None, IfErr, IfOk, OnErr, OnOk, length};
+ghost use Rattle.std.specs.Prelude.{◌≡◌, ◌≤◌, ◌^◌, [], None, IfErr, IfOk, OnErr, OnOk, length};
+ghost use Rattle.account_core.specs.Kept.{SetCame, StagedCame};
 ghost use Rattle.account_core.specs.Ledger.{base, ledger_entries, history, staged};
 ghost use Rattle.account_store.specs.Store.{spare};
-ghost use Rattle.cal_model.specs.Answer.{answered, entries_from, set_added, set_answer};
+ghost use Rattle.cal_model.specs.Answer.{answered};
 ghost use Rattle.cal_model.specs.SetReply.{set_arguments};
 ghost use Rattle.cal_model.specs.Sets.{new_ids, objects_of, set_changes, set_refusal};
 ghost use Rattle.set_methods.specs.Reports.{Reports};
 ghost use Rattle.set_methods.specs.Grounds.{ground_at};
 
+use crate::keeping::EntryKeeper;
 use crate::ledger::Ledger;
 use crate::reply::{refusal, reply};
+use cal_model::view::AccountView;
+use journal_keeper::keeper::KeepError;
 use set_methods::plan::plan;
 use set_methods::planned::PlanError;
-use spec_calls::call::{Reply, SetArguments};
+use spec_calls::call::{MethodError, Reply, SetArguments};
 use spec_history::entry::Kind;
 use spec_history::stamp::Stamp;
 use spec_json::lists::Pairs;
 use spec_time::moment::Moment;
 use std::alloc::AllocError;
 
-/// Answers a set of objects of a kind, and adds its entries. After running out of memory the entries are as before.
-pub fn set(
+/// Answers a set of objects of a kind, keeps its entries, and adds them once they are kept. Where they could not be kept the reply tells so, and nothing is added.
+///
+/// After running out of memory the entries are as before.
+pub fn set<K: EntryKeeper>(
     ledger: &mut Ledger,
+    keeper: &mut K,
     stamp: &Stamp,
     arguments: &SetArguments,
     created: &Pairs,
 ) -> Result<Reply, AllocError>
     requires { staged ledger.old ≡ [] }
-    ensures reply { IfOk result (λ r. r ≡ set_answer (base ledger.old) (ledger_entries ledger.old) stamp.now.moment created.now arguments.now) }
-    ensures grown { OnOk result (ledger_entries ledger.new ≡ ledger_entries ledger.old ++ entries_from stamp.now 0 (set_added (base ledger.old) (ledger_entries ledger.old) stamp.now.moment created.now arguments.now)) }
+    ensures came { IfOk result (λ r. SetCame K.unkept created.now (base ledger.old) (ledger_entries ledger.old) arguments.now stamp.now r (ledger_entries ledger.new)) }
+    ensures kept { K.has keeper.old (base ledger.old) (ledger_entries ledger.old) → K.has keeper.new (base ledger.old) (ledger_entries ledger.new) }
     ensures unchanged { OnErr result (ledger_entries ledger.new ≡ ledger_entries ledger.old) }
     ensures staged { staged ledger.new ≡ [] }
     ensures base { base ledger.new ≡ base ledger.old }
 {
     look_up(ledger, arguments)?;
-    carry_out(ledger, stamp, arguments, created)
+    carry_out(ledger, keeper, stamp, arguments, created)
 }
 
 // Where calendars are to be destroyed, looks up at once which of them events are in.
@@ -49,27 +56,57 @@ fn look_up(ledger: &mut Ledger, arguments: &SetArguments) -> Result<(), AllocErr
     }
 }
 
-// The changes are planned and memory is reserved before an entry is added, and nothing can fail then.
-fn carry_out(
+// The changes are planned and memory is reserved before they are kept, and nothing can fail behind that.
+fn carry_out<K: EntryKeeper>(
     ledger: &mut Ledger,
+    keeper: &mut K,
     stamp: &Stamp,
     arguments: &SetArguments,
     created: &Pairs,
 ) -> Result<Reply, AllocError>
     requires { staged ledger.old ≡ [] }
-    ensures reply { IfOk result (λ r. r ≡ set_answer (base ledger.old) (ledger_entries ledger.old) stamp.now.moment created.now arguments.now) }
-    ensures grown { OnOk result (ledger_entries ledger.new ≡ ledger_entries ledger.old ++ entries_from stamp.now 0 (set_added (base ledger.old) (ledger_entries ledger.old) stamp.now.moment created.now arguments.now)) }
+    ensures came { IfOk result (λ r. SetCame K.unkept created.now (base ledger.old) (ledger_entries ledger.old) arguments.now stamp.now r (ledger_entries ledger.new)) }
+    ensures kept { K.has keeper.old (base ledger.old) (ledger_entries ledger.old) → K.has keeper.new (base ledger.old) (ledger_entries ledger.new) }
     ensures unchanged { OnErr result (ledger_entries ledger.new ≡ ledger_entries ledger.old) }
     ensures staged { staged ledger.new ≡ [] }
     ensures base { base ledger.new ≡ base ledger.old }
 {
     match prepare(ledger, stamp.moment, arguments, created) {
-        Ok(reply) => {
+        Ok(reply) => keep_and_commit(ledger, keeper, stamp, reply),
+        Err(PlanError::Method(error)) => Ok(refusal(ledger.alloc, &ledger.store, error)),
+        Err(PlanError::NoMemory) => Err(AllocError),
+    }
+}
+
+// Keeps what is staged and then makes it entries; where it could not be kept, nothing stays staged, and the reply tells so.
+fn keep_and_commit<K: EntryKeeper>(
+    ledger: &mut Ledger,
+    keeper: &mut K,
+    stamp: &Stamp,
+    reply: Reply,
+) -> Result<Reply, AllocError>
+    requires spare { length (staged ledger.old) ≤ spare ledger.old.store }
+    requires parts { length (staged ledger.old) ≤ 2 ^ 32 }
+    ensures came { IfOk result (λ r. StagedCame K.unkept (ledger_entries ledger.old) (staged ledger.old) stamp.now reply r (ledger_entries ledger.new)) }
+    ensures kept { K.has keeper.old (base ledger.old) (ledger_entries ledger.old) → K.has keeper.new (base ledger.old) (ledger_entries ledger.new) }
+    ensures unchanged { OnErr result (ledger_entries ledger.new ≡ ledger_entries ledger.old) }
+    ensures staged { staged ledger.new ≡ [] }
+    ensures base { base ledger.new ≡ base ledger.old }
+{
+    ledger.has_sound_changes();
+    match keeper.keep(stamp, &ledger.staged) {
+        Ok(()) => {
             ledger.commit(stamp, 0);
             Ok(reply)
         }
-        Err(PlanError::Method(error)) => Ok(refusal(ledger.alloc, &ledger.store, error)),
-        Err(PlanError::NoMemory) => Err(AllocError),
+        Err(KeepError::Failed) => {
+            ledger.forget();
+            Ok(refusal(ledger.alloc, &ledger.store, MethodError::ServerFail))
+        }
+        Err(KeepError::NoMemory) => {
+            ledger.forget();
+            Err(AllocError)
+        }
     }
 }
 

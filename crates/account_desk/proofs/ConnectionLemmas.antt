@@ -30,7 +30,7 @@ module _ (site : Site) (d d' : Shown) (desks : AreAlike d d') where
   -- what two exchanges led to, where their calls were made from these histories and their moments were the first of this clock
   record AlikeExchanges (clock : ℕ → ℤ) (now now' : ℕ → List Entry) (t t' : Exchange) (rest rest' : List ℤ) : Type 0 where
     pub bytes : t.bytes ≡ t'.bytes
-    pub same_after : SameChanges (after d now t.made) (after d' now' t'.made)
+    pub same_after : SameChanges (after now t.made) (after now' t'.made)
     pub later : ℕ → ℤ
     pub gave : Gave later rest
     pub gave' : Gave later rest'
@@ -43,8 +43,8 @@ module _ (site : Site) (d d' : Shown) (desks : AreAlike d d') where
     direct_alike : FitsDirect site close t → FitsDirect site close t' → AlikeExchanges clock now now' t t' rest rest'
     direct_alike f f' = record {
       bytes = (let r = routes (direct f.response) (direct f'.response) f.routed f'.routed in let same_response : f.response ≡ f'.response = cc in f.shows ∙ (ap response_text same_response ∙ sym f'.shows));
-      same_after = λ k. subst (λ (l : List Made). changes_of (after d now l k) ≡ changes_of (after d' now' t'.made k)) (sym f.uncalled)
-          (subst (λ (l : List Made). changes_of (now k) ≡ changes_of (after d' now' l k)) (sym f'.uncalled) (same k));
+      same_after = λ k. subst (λ (l : List Made). changes_of (after now l k) ≡ changes_of (after now' t'.made k)) (sym f.uncalled)
+          (subst (λ (l : List Made). changes_of (now k) ≡ changes_of (after now' l k)) (sym f'.uncalled) (same k));
       later = clock;
       gave = subst (λ (ms : List ℤ). Gave clock (ms ++ rest)) f.unread gave;
       gave' = subst (λ (ms : List ℤ). Gave clock (ms ++ rest')) f'.unread gave';
@@ -86,7 +86,7 @@ module _ (site : Site) (d d' : Shown) (desks : AreAlike d d') where
       let one : AlikeExchanges clock now now' x y (all_moments (xs ++ more)) (all_moments (ys ++ more')) =
       exchanges_alike (closes most before x.message) clock now now' same x y (all_moments (xs ++ more)) (all_moments (ys ++ more')) first gave gave' f.0 fits'
       (played_first d now x.made (all_made (xs ++ more)) p) (played_first d' now' y.made (all_made (ys ++ more')) p') in
-      let others = same_bytes most (suc before) one.later (after d now x.made) (after d' now' y.made) xs ys more more' one.same_after rest f.1 f'.1 one.gave one.gave'
+      let others = same_bytes most (suc before) one.later (after now x.made) (after now' y.made) xs ys more more' one.same_after rest f.1 f'.1 one.gave one.gave'
       (played_rest d now x.made (all_made (xs ++ more)) p) (played_rest d' now' y.made (all_made (ys ++ more')) p') in
       λ i. one.bytes i ++ others i
 

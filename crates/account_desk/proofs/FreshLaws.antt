@@ -17,8 +17,7 @@ module _ (site : Site) where
   fresh_are_alike : AreAlike (fresh_desk site) (fresh_desk site)
   fresh_are_alike = record { rules = refl; rules' = refl; base = λ k. refl; changes = λ k. refl }
 
-  pub fresh_answered_in_turn : (t : Shown) (ms : List Made) → Chain (fresh_desk site) t ms → IsSole t
-      → (k : ℕ) → InTurn (fresh_desk site).rules ((fresh_desk site).base k) 0 (t.seen k) 0 (on k ms)
+  pub fresh_answered_in_turn : (t : Shown) (ms : List Made) → Chain (fresh_desk site) t ms → IsSole t → (k : ℕ) → InTurn 0 (on k ms)
   fresh_answered_in_turn t ms chain sole = answered_in_turn (fresh_desk site) t ms chain sole
 
   pub fresh_replies_determined : (user : User) (moment : ℤ) (a : Asked) (x y : Data) → RepliesAlone (fresh_desk site) user moment a x → RepliesAlone (fresh_desk site) user moment a y → x ≡ y

@@ -1,35 +1,40 @@
--- Calls played one after the other, each at what was there before the first and at what those between added.
+-- Calls played one after the other, each at what was there before the first and at what came of those between.
 use Rattle.std.proofs.Common.{◌≡◌, ◌≢◌, ℕ, ◌+◌, ◌==◌, List, [], ◌∷◌, ◌++◌, length, take, refl, sym, ap, ◌∙◌, subst, length-append, append_assoc, append-nil, eq-eqb, ne_eqb, if◌then◌else◌}
 use Rattle.std.proofs.Math.Seq.{take-append_seam}
 use mathlib.Core.Logic.{dite}
 use native.Mathlib.Decide.{ℕ_discrete}
 use Rattle.account_desk.specs.FreshDesk.{IsSole}
-use Rattle.spec_batch.specs.Chain.{Made, Chain, Shown, Stand, added_by, on, stamp_of}
+use Rattle.spec_batch.specs.Chain.{Made, Chain, Shown, Stand, on, stamp_of}
+use Rattle.spec_books.specs.Acting.{Acts}
 use Rattle.spec_history.specs.declared.entry.Entry.{Entry}
-use Rattle.account_desk.proofs.TurnLemmas.{Fills, all_added, all_filled, fills_in_turn}
+use Rattle.account_desk.proofs.TurnLemmas.{Fills, all_came, all_filled, fills_in_turn}
 
 -- the histories, with more at the end of one of them
 abbrev pub longer : (ℕ → List Entry) → ℕ → List Entry → ℕ → List Entry
 longer now k more j = if j == k then now j ++ more else now j
 
+-- the histories after a call, and after calls
+abbrev pub next : (ℕ → List Entry) → Made → ℕ → List Entry
+next now m = longer now m.account m.came
+
+abbrev pub after : (ℕ → List Entry) → List Made → ℕ → List Entry
+after now [] = now
+after now (m ∷ ms) = after (next now m) ms
+
+pub after-append : (now : ℕ → List Entry) (xs ys : List Made) → after now (xs ++ ys) ≡ after (after now xs) ys
+after-append now [] ys = refl
+after-append now (x ∷ xs) ys = after-append (next now x) xs ys
+
 -- by the rules, the bases and the authors of a desk in the state s
 module _ (s : Shown) where
-  -- what a call adds to these histories
-  abbrev pub adds : (ℕ → List Entry) → Made → List Entry
-  adds now m = s.rules.added (s.base m.account) (now m.account) m.call (stamp_of s.rules (s.base m.account) (s.author m.account) m)
+  -- the call is answered at this history, and this came of it
+  abbrev pub ActsAt : List Entry → Made → Type 0
+  ActsAt h m = Acts s.rules.answer s.rules.added s.rules.unkept (s.base m.account) h m.call (stamp_of s.rules (s.base m.account) (s.author m.account) m) m.reply m.came
 
-  -- the histories after a call, and after calls
-  abbrev pub next : (ℕ → List Entry) → Made → ℕ → List Entry
-  next now m = longer now m.account (adds now m)
-
-  abbrev pub after : (ℕ → List Entry) → List Made → ℕ → List Entry
-  after now [] = now
-  after now (m ∷ ms) = after (next now m) ms
-
-  -- each call is answered at the history of its account, which then has what it adds
+  -- each call is answered at the history of its account, which then has what came of it
   abbrev pub Played : (ℕ → List Entry) → List Made → Type 0
   Played now [] = Unit {0}
-  Played now (m ∷ ms) = (m.reply ≡ s.rules.answer (s.base m.account) (now m.account) m.call m.moment) × Played (next now m) ms
+  Played now (m ∷ ms) = ActsAt (now m.account) m × Played (next now m) ms
 
   pub played_first : (now : ℕ → List Entry) (xs ys : List Made) → Played now (xs ++ ys) → Played now xs
   played_first now [] ys p = tt
@@ -38,10 +43,6 @@ module _ (s : Shown) where
   pub played_rest : (now : ℕ → List Entry) (xs ys : List Made) → Played now (xs ++ ys) → Played (after now xs) ys
   played_rest now [] ys p = p
   played_rest now (x ∷ xs) ys p = played_rest (next now x) xs ys p.1
-
-  pub after-append : (now : ℕ → List Entry) (xs ys : List Made) → after now (xs ++ ys) ≡ after (after now xs) ys
-  after-append now [] ys = refl
-  after-append now (x ∷ xs) ys = after-append (next now x) xs ys
 
 on_same : (m : Made) (ms : List Made) → on m.account (m ∷ ms) ≡ m ∷ on m.account ms
 on_same m ms = rw (eq-eqb m.account m.account refl) refl
@@ -58,59 +59,52 @@ module _ (s : Shown) (whole : ℕ → List Entry) (upto : ℕ → ℕ) where
     abbrev h : List Entry
     h = now m.account
 
-    -- the account's whole history, what the call adds to it, and what those behind it add
     abbrev all : List Entry
     all = whole m.account
 
-    abbrev added : List Entry
-    added = added_by s.rules (s.base m.account) (s.author m.account) all m
-
     abbrev rest : List Entry
-    rest = all_added s.rules (s.base m.account) (s.author m.account) all ms
+    rest = all_came ms
 
     place_is : m.reply.place ≡ length h
     place_is = (fills_in_turn s.rules (s.base m.account) (s.author m.account) all h (upto m.account) (m ∷ ms) left).0
 
     before_is : take m.reply.place all ≡ h
-    before_is = ap (λ (n : ℕ). take n all) place_is ∙ (ap (take (length h)) left.full ∙ take-append_seam h (added ++ rest))
+    before_is = ap (λ (n : ℕ). take n all) place_is ∙ (ap (take (length h)) left.full ∙ take-append_seam h (m.came ++ rest))
 
-    adds_is : added ≡ adds s now m
-    adds_is = ap (λ (l : List Entry). s.rules.added (s.base m.account) l m.call (stamp_of s.rules (s.base m.account) (s.author m.account) m)) before_is
+    acts : ActsAt s h m
+    acts = subst (λ (l : List Entry). ActsAt s l m) before_is left.stand.0.acts
 
-    reply_is : m.reply ≡ s.rules.answer (s.base m.account) h m.call m.moment
-    reply_is = left.stand.0.reply ∙ ap (λ (l : List Entry). s.rules.answer (s.base m.account) l m.call m.moment) before_is
-
-    filled : Left m.account (h ++ adds s now m) ms
+    filled : Left m.account (h ++ m.came) ms
     filled =
-        let ends : m.reply.place + length added ≡ length (h ++ adds s now m) = (λ i. place_is i + length (adds_is i)) ∙ sym (length-append h (adds s now m)) in
+        let ends : m.reply.place + length m.came ≡ length (h ++ m.came) = (λ i. place_is i + length m.came) ∙ sym (length-append h m.came) in
         record {
           late = m.turn;
           stand = subst (λ (n : ℕ). Stand s.rules (s.base m.account) (s.author m.account) all n m.turn (upto m.account) ms) ends left.stand.1;
-          full = left.full ∙ (ap (λ (l : List Entry). h ++ (l ++ rest)) adds_is ∙ sym (append_assoc h (adds s now m) rest));
+          full = left.full ∙ sym (append_assoc h m.came rest);
         }
 
-  fill_next : (now : ℕ → List Entry) (m : Made) (ms : List Made) → ((k : ℕ) → Left k (now k) (on k (m ∷ ms))) → (k : ℕ) → Left k (next s now m k) (on k ms)
+  fill_next : (now : ℕ → List Entry) (m : Made) (ms : List Made) → ((k : ℕ) → Left k (now k) (on k (m ∷ ms))) → (k : ℕ) → Left k (next now m k) (on k ms)
   fill_next now m ms left k =
       dite (ℕ_discrete k m.account)
-      (λ e. subst (λ (j : ℕ). Left j (next s now m j) (on j ms)) (sym e)
+      (λ e. subst (λ (j : ℕ). Left j (next now m j) (on j ms)) (sym e)
       (rw (eq-eqb m.account m.account refl) (filled now m (on m.account ms) (subst (Left m.account (now m.account)) (on_same m ms) (left m.account)))))
       (λ other. rw (ne_eqb k m.account other) (subst (Left k (now k)) (on_other k m ms other) (left k)))
 
   played_full : (now : ℕ → List Entry) (ms : List Made) → ((k : ℕ) → Left k (now k) (on k ms)) → Played s now ms
   played_full now [] left = tt
   played_full now (m ∷ ms) left = (
-    reply_is now m (on m.account ms) (subst (Left m.account (now m.account)) (on_same m ms) (left m.account)),
-    played_full (next s now m) ms (fill_next now m ms left),
+    acts now m (on m.account ms) (subst (Left m.account (now m.account)) (on_same m ms) (left m.account)),
+    played_full (next now m) ms (fill_next now m ms left),
   )
 
-  after_full : (now : ℕ → List Entry) (ms : List Made) → ((k : ℕ) → Left k (now k) (on k ms)) → (k : ℕ) → after s now ms k ≡ whole k
+  after_full : (now : ℕ → List Entry) (ms : List Made) → ((k : ℕ) → Left k (now k) (on k ms)) → (k : ℕ) → after now ms k ≡ whole k
   after_full now [] left k = sym ((left k).full ∙ append-nil (now k))
-  after_full now (m ∷ ms) left k = after_full (next s now m) ms (fill_next now m ms left) k
+  after_full now (m ∷ ms) left k = after_full (next now m) ms (fill_next now m ms left) k
 
 -- the calls of a chain in which nobody else takes part were played
 pub played : (s t : Shown) (ms : List Made) → Chain s t ms → IsSole t → Played s s.seen ms
 played s t ms chain sole = played_full s t.seen t.last s.seen ms (all_filled s t ms chain sole)
 
 -- and lead to the histories of the last state
-pub played_to : (s t : Shown) (ms : List Made) → Chain s t ms → IsSole t → (k : ℕ) → after s s.seen ms k ≡ t.seen k
+pub played_to : (s t : Shown) (ms : List Made) → Chain s t ms → IsSole t → (k : ℕ) → after s.seen ms k ≡ t.seen k
 played_to s t ms chain sole = after_full s t.seen t.last s.seen ms (all_filled s t ms chain sole)

@@ -10,7 +10,8 @@ use Rattle.spec_batch.specs.Meaning.{Meaning, refuses, echoes, calls, meaning_of
 use Rattle.spec_calls.specs.Methods.{method_used}
 use Rattle.spec_batch.specs.Reply.{Replies}
 use Rattle.spec_batch.proofs.Chains.{summary}
-use Rattle.spec_batch.specs.Chain.{Made, Chain, Shown}
+use Rattle.spec_batch.specs.Chain.{Made, Chain, Rules, Shown, stamp_of}
+use Rattle.spec_books.proofs.ActLemmas.{acts_kept}
 use Rattle.spec_json.specs.Data.{Data}
 use Rattle.spec_history.specs.History.{changes_of}
 use Rattle.spec_json.specs.Parts.{some_of}
@@ -22,7 +23,7 @@ use Rattle.spec_json.specs.declared.tree.Tree.TheVariants.{Object}
 use Rattle.spec_core.specs.declared.user.User.{User}
 use Rattle.account_desk.specs.Determined.{AreAlike, RepliesAreDetermined}
 use Rattle.account_desk.proofs.AnswerLemmas.{same_answer, same_added}
-use Rattle.account_desk.proofs.PlayLemmas.{Played, adds, after, after-append, longer, next, played, played_first, played_rest, played_to}
+use Rattle.account_desk.proofs.PlayLemmas.{Played, after, after-append, longer, next, played, played_first, played_rest, played_to}
 
 -- the histories of every account have the same changes
 abbrev pub SameChanges : (ℕ → List Entry) → (ℕ → List Entry) → Type 0
@@ -47,39 +48,48 @@ module _ (d d' : Shown) (desks : AreAlike d d') where
       base : d.base k ≡ d'.base m'.account
       base = desks.base k ∙ ap d'.base account
 
+      -- what is true of a call on such a desk, where all is kept
+      acted : Played d now (m ∷ []) → (m.reply ≡ d.rules.answer (d.base k) (now k) m.call m.moment) × (m.came ≡ d.rules.added (d.base k) (now k) m.call (stamp_of d.rules (d.base k) (d.author k) m))
+      acted p = acts_kept d.rules.answer d.rules.added d.rules.unkept (d.base k) (now k) m.call (stamp_of d.rules (d.base k) (d.author k) m) m.reply (ap (λ (r : Rules). r.unkept) desks.rules) m.came p.0
+
+      acted' : Played d' now' (m' ∷ []) → (m'.reply ≡ d'.rules.answer (d'.base m'.account) (now' m'.account) m'.call m'.moment)
+          × (m'.came ≡ d'.rules.added (d'.base m'.account) (now' m'.account) m'.call (stamp_of d'.rules (d'.base m'.account) (d'.author m'.account) m'))
+      acted' p = acts_kept d'.rules.answer d'.rules.added d'.rules.unkept (d'.base m'.account) (now' m'.account) m'.call (stamp_of d'.rules (d'.base m'.account) (d'.author m'.account) m') m'.reply
+          (ap (λ (r : Rules). r.unkept) desks.rules') m'.came p.0
+
       same_reply : Played d now (m ∷ []) → Played d' now' (m' ∷ []) → m.reply ≡ m'.reply
       same_reply p p' =
           let here : d.rules.answer (d.base k) (now k) m.call m.moment ≡ answer (d.base k) (now k) m.call m.moment = λ i. (desks.rules i).answer (d.base k) (now k) m.call m.moment in
           let between : answer (d.base k) (now k) m.call m.moment ≡ answer (d.base k) (now' k) m.call m'.moment = same_answer (d.base k) (now k) (now' k) (same k) m.call m.moment m'.moment moment in
           let there : answer (d.base k) (now' k) m.call m'.moment ≡ d'.rules.answer (d'.base m'.account) (now' m'.account) m'.call m'.moment =
           λ i. (sym desks.rules' i).answer (base i) (now' (account i)) (call i) m'.moment in
-          p.0 ∙ (here ∙ (between ∙ (there ∙ sym p'.0)))
+          (acted p).0 ∙ (here ∙ (between ∙ (there ∙ sym (acted' p').0)))
 
-      same_adds : changes_of (adds d now m) ≡ changes_of (adds d' now' m')
-      same_adds =
-          let stamp : Stamp = record { author = d.author k; turn = m.turn; moment = m.moment } in
-          let stamp' : Stamp = record { author = d'.author m'.account; turn = m'.turn; moment = m'.moment } in
-          let here : changes_of (adds d now m) ≡ changes_of (added (d.base k) (now k) m.call stamp) = λ i. changes_of ((desks.rules i).added (d.base k) (now k) m.call stamp) in
+      same_came : Played d now (m ∷ []) → Played d' now' (m' ∷ []) → changes_of m.came ≡ changes_of m'.came
+      same_came p p' =
+          let stamp : Stamp = stamp_of d.rules (d.base k) (d.author k) m in
+          let stamp' : Stamp = stamp_of d'.rules (d'.base m'.account) (d'.author m'.account) m' in
+          let here : changes_of m.came ≡ changes_of (added (d.base k) (now k) m.call stamp) = ap changes_of (acted p).1 ∙ (λ i. changes_of ((desks.rules i).added (d.base k) (now k) m.call stamp)) in
           let between : changes_of (added (d.base k) (now k) m.call stamp) ≡ changes_of (added (d.base k) (now' k) m.call stamp') =
           same_added (d.base k) (now k) (now' k) (same k) m.call stamp stamp' moment in
-          let there : changes_of (added (d.base k) (now' k) m.call stamp') ≡ changes_of (adds d' now' m') =
-          λ i. changes_of ((sym desks.rules' i).added (base i) (now' (account i)) (call i) stamp') in
+          let there : changes_of (added (d.base k) (now' k) m.call stamp') ≡ changes_of m'.came =
+          (λ i. changes_of ((sym desks.rules' i).added (base i) (now' (account i)) (call i) stamp')) ∙ sym (ap changes_of (acted' p').1) in
           here ∙ (between ∙ there)
 
-      same_next : SameChanges (next d now m) (next d' now' m')
-      same_next k =
-          subst (λ (a : ℕ). changes_of (longer now m.account (adds d now m) k) ≡ changes_of (longer now' a (adds d' now' m') k)) account
-          (same_longer (k == m.account) (now k) (now' k) (adds d now m) (adds d' now' m') (same k) same_adds)
+      same_next : Played d now (m ∷ []) → Played d' now' (m' ∷ []) → SameChanges (next now m) (next now' m')
+      same_next p p' k =
+          subst (λ (a : ℕ). changes_of (longer now m.account m.came k) ≡ changes_of (longer now' a m'.came k)) account
+          (same_longer (k == m.account) (now k) (now' k) m.came m'.came (same k) (same_came p p'))
 
     -- what two steps led to, where they were made from these histories
     record Alike (s s' : Step) : Type 0 where
       pub response : s.response ≡ s'.response
       pub created : created_in_call s.made ≡ created_in_call s'.made
-      pub same_after : SameChanges (after d now (some_of s.made)) (after d' now' (some_of s'.made))
+      pub same_after : SameChanges (after now (some_of s.made)) (after now' (some_of s'.made))
 
     -- what calls that were made, or none, led to
     abbrev AlikeCalls : Option Made → Option Made → Type 0
-    AlikeCalls o o' = (created_in_call o ≡ created_in_call o') × SameChanges (after d now (some_of o)) (after d' now' (some_of o'))
+    AlikeCalls o o' = (created_in_call o ≡ created_in_call o') × SameChanges (after now (some_of o)) (after now' (some_of o'))
 
     both_led : (o o' x x' : Option Made) → o ≡ x → o' ≡ x' → AlikeCalls x x' → AlikeCalls o o'
     both_led o o' x x' is is' led = subst (λ (q : Option Made). AlikeCalls q o') (sym is) (subst (λ (q : Option Made). AlikeCalls x q) (sym is') led)
@@ -87,9 +97,10 @@ module _ (d d' : Shown) (desks : AreAlike d d') where
     one_call : (o o' : Option Made) (m m' : Made) → o ≡ Some m → o' ≡ Some m' → m.account ≡ m'.account → m.call ≡ m'.call → m.moment ≡ m'.moment
         → Played d now (some_of o) → Played d' now' (some_of o') → (m.reply ≡ m'.reply) × AlikeCalls o o'
     one_call o o' m m' is is' account call moment p p' =
-        let reply : m.reply ≡ m'.reply =
-        same_reply m m' account call moment (subst (λ (q : Option Made). Played d now (some_of q)) is p) (subst (λ (q : Option Made). Played d' now' (some_of q)) is' p') in
-        (reply, both_led o o' (Some m) (Some m') is is' (ap (λ (r : Reply). r.created ++ []) reply, same_next m m' account call moment))
+        let q : Played d now (m ∷ []) = subst (λ (x : Option Made). Played d now (some_of x)) is p in
+        let q' : Played d' now' (m' ∷ []) = subst (λ (x : Option Made). Played d' now' (some_of x)) is' p' in
+        let reply : m.reply ≡ m'.reply = same_reply m m' account call moment q q' in
+        (reply, both_led o o' (Some m) (Some m') is is' (ap (λ (r : Reply). r.created ++ []) reply, same_next m m' account call moment q q'))
 
     module _ (moment : ℤ) (s s' : Step) (invoked : s.invocation ≡ s'.invocation) where
       none_alike : s.made ≡ None → s'.made ≡ None → s.response ≡ s'.response → Alike s s'
@@ -127,7 +138,7 @@ module _ (d d' : Shown) (desks : AreAlike d d') (user : User) (request : Request
   record AllAlike (now now' : ℕ → List Entry) (ss ss' : List Step) : Type 0 where
     pub responses : responses_in ss ≡ responses_in ss'
     pub created : created_by ss ≡ created_by ss'
-    pub same_after : SameChanges (after d now (made_in ss)) (after d' now' (made_in ss'))
+    pub same_after : SameChanges (after now (made_in ss)) (after now' (made_in ss'))
 
   same_meaning : (before before' : List Step) (c c' : Invocation) → responses_in before ≡ responses_in before' → created_by before ≡ created_by before' → c ≡ c'
       → meaning_after user request moment before c ≡ meaning_after user request moment before' c'
@@ -148,8 +159,8 @@ module _ (d d' : Shown) (desks : AreAlike d d') (user : User) (request : Request
       let one : Alike d d' desks now now' same s s' =
       alike d d' desks now now' same moment s s' first μ f.0 (subst (λ (ν : Meaning). FollowsFrom moment ν s') (sym means) f'.0)
       (played_first d now (some_of s.made) (made_in ss) p) (played_first d' now' (some_of s'.made) (made_in ss') p') in
-      let after_one : ℕ → List Entry = after d now (some_of s.made) in
-      let after_one' : ℕ → List Entry = after d' now' (some_of s'.made) in
+      let after_one : ℕ → List Entry = after now (some_of s.made) in
+      let after_one' : ℕ → List Entry = after now' (some_of s'.made) in
       let more : AllAlike after_one after_one' ss ss' =
       all_alike after_one after_one' (before ++ s ∷ []) (before' ++ s' ∷ []) ss ss' one.same_after
       (responses_more before s ∙ ((λ i. responses i ++ one.response i ∷ []) ∙ sym (responses_more before' s')))
@@ -158,25 +169,25 @@ module _ (d d' : Shown) (desks : AreAlike d d') (user : User) (request : Request
       record {
         responses = λ i. one.response i ∷ more.responses i;
         created = created_first s ss ∙ ((λ i. one.created i ++ more.created i) ∙ sym (created_first s' ss'));
-        same_after = λ k. subst (λ (h : ℕ → List Entry). changes_of (h k) ≡ changes_of (after d' now' (made_in (s' ∷ ss')) k)) (sym (after-append d now (some_of s.made) (made_in ss)))
-            (subst (λ (h : ℕ → List Entry). changes_of (after d after_one (made_in ss) k) ≡ changes_of (h k)) (sym (after-append d' now' (some_of s'.made) (made_in ss'))) (more.same_after k));
+        same_after = λ k. subst (λ (h : ℕ → List Entry). changes_of (h k) ≡ changes_of (after now' (made_in (s' ∷ ss')) k)) (sym (after-append now (some_of s.made) (made_in ss)))
+            (subst (λ (h : ℕ → List Entry). changes_of (after after_one (made_in ss) k) ≡ changes_of (h k)) (sym (after-append now' (some_of s'.made) (made_in ss'))) (more.same_after k));
       }
 
 module _ (d d' : Shown) (desks : AreAlike d d') (user : User) (moment : ℤ) (now now' : ℕ → List Entry) (same : SameChanges now now') where
   -- two replies to the same
   pub same_replies : (a : Asked) (ms ms' : List Made) (x y : Data) → Replies user moment a ms x → Replies user moment a ms' y → Played d now ms → Played d' now' ms'
-      → (x ≡ y) × SameChanges (after d now ms) (after d' now' ms')
+      → (x ≡ y) × SameChanges (after now ms) (after now' ms')
   same_replies (asked r) ms ms' x y f f' p p' =
       let led : AllAlike d d' desks user r moment now now' f.0 f'.0 =
       all_alike d d' desks user r moment now now' [] [] f.0 f'.0 same refl refl (sym f.1 ∙ f'.1) f.2 f'.2 (subst (Played d now) f.3 p) (subst (Played d' now') f'.3 p') in (
         f.4 ∙ ((λ i. response_with_ids r.created_ids (led.created i) (led.responses i)) ∙ sym f'.4),
-        λ k. subst (λ (l : List Made). changes_of (after d now l k) ≡ changes_of (after d' now' ms' k)) (sym f.3)
-            (subst (λ (l : List Made). changes_of (after d now (made_in f.0) k) ≡ changes_of (after d' now' l k)) (sym f'.3) (led.same_after k)),
+        λ k. subst (λ (l : List Made). changes_of (after now l k) ≡ changes_of (after now' ms' k)) (sym f.3)
+            (subst (λ (l : List Made). changes_of (after now (made_in f.0) k) ≡ changes_of (after now' l k)) (sym f'.3) (led.same_after k)),
       )
   same_replies (refused e) ms ms' x y f f' p p' = (
     f.1 ∙ sym f'.1,
-    λ k. subst (λ (l : List Made). changes_of (after d now l k) ≡ changes_of (after d' now' ms' k)) (sym f.0)
-        (subst (λ (l : List Made). changes_of (now k) ≡ changes_of (after d' now' l k)) (sym f'.0) (same k)),
+    λ k. subst (λ (l : List Made). changes_of (after now l k) ≡ changes_of (after now' ms' k)) (sym f.0)
+        (subst (λ (l : List Made). changes_of (now k) ≡ changes_of (after now' l k)) (sym f'.0) (same k)),
   )
 
 rules_stay : (s t : Shown) (ms : List Made) → Chain s t ms → t.rules ≡ s.rules

@@ -1,5 +1,5 @@
 -- A call through a pass of a shared account is a call on a desk.
-use Rattle.std.proofs.Common.{◌≡◌, ◌≢◌, ℕ, ℤ, zero, suc, ◌+◌, ◌<◌, ◌≤◌, ◌^◌, List, [], ◌∷◌, ◌++◌, All, Result, Ok, Err, Option, Some, IfOk, IfErr, length, map, slice_get, refl, option_map, sym, ap, ◌∙◌, subst, arith, get_or, max, take, set}
+use Rattle.std.proofs.Common.{◌≡◌, ◌≢◌, ℕ, ℤ, zero, suc, ◌+◌, ◌<◌, ◌≤◌, ◌^◌, List, [], ◌∷◌, ◌++◌, All, Result, Ok, Err, Option, Some, None, IfOk, IfErr, length, map, slice_get, refl, option_map, sym, ap, ◌∙◌, subst, arith, get_or, max, take, set}
 use Rattle.std.proofs.lemmas.List.{length-set, take_all, take_more}
 use Rattle.std.specs.List.{AllByRecursion as ByRecursion}
 use Rattle.std.proofs.lemmas.Option.{get_or_from_slice_get, same_Some, slice_get-map, slice_get_within}
@@ -8,17 +8,18 @@ use Rattle.std.specs.Option.{option_map_or}
 use mathlib.Core.Logic.{dite}
 use native.Mathlib.Decide.{ℕ_discrete}
 use Rattle.atomic_table.specs.Seated.{TableId}
-use Rattle.cal_model.specs.Answer.{answer, added}
 use Rattle.account_lock.specs.Passes.{PassState, IsAnswered, HasFailed}
 use Rattle.account_lock.specs.declared.locked.CallError.{CallError}
 use Rattle.account_lock.specs.declared.locked.CallError.TheVariants as pass
+use Rattle.spec_books.specs.Acting.{Acts}
 use Rattle.spec_history.specs.Base.{Base, no_base}
-use Rattle.spec_batch.specs.Chain.{Answered, Called, Missed, StaysBeside}
+use Rattle.spec_batch.specs.Chain.{Answered, Called, Missed, Rules, StaysBeside}
 use Rattle.spec_history.specs.Signed.{Extends}
 use Rattle.spec_history.specs.MostTurns.{most_turns}
 use Rattle.spec_calls.specs.declared.call.Call.{Call}
 use Rattle.spec_calls.specs.declared.call.Reply.{Reply}
 use Rattle.spec_history.specs.declared.entry.Entry.{Entry}
+use Rattle.spec_history.specs.declared.stamp.Stamp.{Stamp}
 use Rattle.account_desk.specs.SharedDesk.{IsSharedDesk, greatest_turn, shown_by_passes, through_pass}
 
 -- ---- a list in which one element was replaced
@@ -58,7 +59,7 @@ state_at state ps k p at = slice_get-map state ps k ∙ ap (option_map state) at
 
 -- ---- the pass p of account k became q
 
-module _ (passes : List PassState) (turns k : ℕ) (p q : PassState) (at : slice_get passes k ≡ Some p) where
+module _ (rules : Rules) (passes : List PassState) (turns k : ℕ) (p q : PassState) (at : slice_get passes k ≡ Some p) where
   there : k < length passes
   there = slice_get_within passes k p at
 
@@ -76,7 +77,7 @@ module _ (passes : List PassState) (turns k : ℕ) (p q : PassState) (at : slice
       (λ e. subst (λ (i : ℕ). option_map_or f (slice_get (set passes k q) i) d ≡ option_map_or f (slice_get passes i) d) (sym e) (after f d ∙ (same ∙ sym (before f d))))
       (λ other. elsewhere f d j other)
 
-  beside : q.base ≡ p.base → q.number ≡ p.number → StaysBeside (shown_by_passes (passes, turns)) (shown_by_passes (set passes k q, turns + 1)) k
+  beside : q.base ≡ p.base → q.number ≡ p.number → StaysBeside (shown_by_passes rules (passes, turns)) (shown_by_passes rules (set passes k q, turns + 1)) k
   beside base number = record {
     accounts = length-set passes k q;
     rules = refl;
@@ -87,11 +88,11 @@ module _ (passes : List PassState) (turns k : ℕ) (p q : PassState) (at : slice
     last = λ j other. (let e = elsewhere (λ x. x.turns) 0 j other in omega (arith, e));
   }
 
-  extends : (h : List Entry) → Extends p.number p.seen h → Extends ((shown_by_passes (passes, turns)).author k) ((shown_by_passes (passes, turns)).seen k) h
+  extends : (h : List Entry) → Extends p.number p.seen h → Extends ((shown_by_passes rules (passes, turns)).author k) ((shown_by_passes rules (passes, turns)).seen k) h
   extends h e = subst (λ (x : ℕ × List Entry). Extends x.0 x.1 h) (λ i. (sym (before (λ x. x.number) 0) i, sym (before (λ x. x.seen) []) i)) e
 
   module _ (call : Call) (moment : ℤ) where
-    answered : (reply : Reply) → IsAnswered answer added call moment reply p q → Answered (shown_by_passes (passes, turns)) (shown_by_passes (set passes k q, turns + 1)) k call moment reply
+    answered : (reply : Reply) → IsAnswered rules.answer rules.added rules.unkept call moment reply p q → Answered (shown_by_passes rules (passes, turns)) (shown_by_passes rules (set passes k q, turns + 1)) k call moment reply
     answered reply a =
         let base = before (λ x. x.base) no_base in
         let author = before (λ x. x.number) 0 in
@@ -102,29 +103,29 @@ module _ (passes : List PassState) (turns k : ℕ) (p q : PassState) (at : slice
           history = a.history;
           begins = extends a.history a.begins;
           later = omega (arith, last, late);
-          replied = a.replied ∙ ap (λ (b : Base). answer b a.history call moment) (sym base);
-          seen = after (λ x. x.seen) [] ∙ (ap (λ x. x.seen) a.new_state
-              ∙ (λ i. a.history ++ added (sym base i) a.history call (record { author = sym author i; turn = sym last i; moment = moment })));
+          came = a.came;
+          acts = subst (λ (y : Base × Stamp). Acts rules.answer rules.added rules.unkept y.0 a.history call y.1 reply a.came) (λ i. (sym base i, record { author = sym author i; turn = sym last i; moment = moment })) a.acts;
+          seen = after (λ x. x.seen) [] ∙ ap (λ x. x.seen) a.new_state;
         }
 
-    missed : HasFailed p q → Missed (shown_by_passes (passes, turns)) (shown_by_passes (set passes k q, turns + 1)) k
+    missed : HasFailed p q → Missed (shown_by_passes rules (passes, turns)) (shown_by_passes rules (set passes k q, turns + 1)) k
     missed f =
         let late = before (λ x. x.turns) 0 in
         let last : option_map_or (λ (x : PassState). x.turns) (slice_get (set passes k q) k) 0 ≡ p.turns + 1 = after (λ x. x.turns) 0 ∙ ap (λ x. x.turns) f.new_state in
         record {
           beside = beside (ap (λ x. x.base) f.new_state) (ap (λ x. x.number) f.new_state);
-          begins = subst (Extends ((shown_by_passes (passes, turns)).author k) ((shown_by_passes (passes, turns)).seen k)) (sym (after (λ x. x.seen) [])) (extends q.seen f.begins);
+          begins = subst (Extends ((shown_by_passes rules (passes, turns)).author k) ((shown_by_passes rules (passes, turns)).seen k)) (sym (after (λ x. x.seen) [])) (extends q.seen f.begins);
           later = omega (arith, last, late);
         }
 
     -- what the lock promises of the call
     pub record Passed (r : Result Reply CallError) : Type 0 where
-      pub answers : IfOk r (λ x. IsAnswered answer added call moment x p q)
+      pub answers : IfOk r (λ x. IsAnswered rules.answer rules.added rules.unkept call moment x p q)
       pub fails : IfErr r (λ e. e ≡ pass.NoMemory → HasFailed p q)
       pub spent : r ≡ Err pass.PassSpent → p.turns ≡ most_turns
 
     pub shared_called : (r : Result Reply CallError) → Passed r → turns < most_turns → p.turns ≤ turns
-        → Called (shown_by_passes (passes, turns)) (shown_by_passes (set passes k q, turns + 1)) k call moment (through_pass r)
+        → Called (shown_by_passes rules (passes, turns)) (shown_by_passes rules (set passes k q, turns + 1)) k call moment (through_pass r)
     shared_called (Ok reply) x few counted = (few, answered reply x.answers)
     shared_called (Err pass.NoMemory) x few counted = (few, missed (x.fails refl))
     shared_called (Err pass.PassSpent) x few counted = absurd (let e = x.spent refl in omega (arith, e, few, counted))

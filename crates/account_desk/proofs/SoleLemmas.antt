@@ -1,10 +1,12 @@
 -- A call on an account of a sole desk is a call on a desk.
-use Rattle.std.proofs.Common.{◌≡◌, ◌≢◌, ℕ, ℤ, ◌+◌, ◌<◌, ◌==◌, List, [], ◌++◌, Result, Ok, Err, IfOk, OnOk, OnErr, length, refl, sym, ap, ◌∙◌, subst, arith, append-nil, set}
+use Rattle.std.proofs.Common.{◌≡◌, ◌≢◌, ℕ, ℤ, ◌+◌, ◌<◌, ◌==◌, List, [], ◌++◌, None, Result, Ok, Err, IfOk, OnErr, length, refl, sym, ap, ◌∙◌, subst, arith, append-nil, set}
 use Rattle.std.proofs.lemmas.List.{get_or-set_same, get_or-set_other, length-set}
 use Rattle.std.proofs.lemmas.List.Elements.{All-set, All-get_or, filter-append}
 use mathlib.Core.Logic.{dite}
 use native.Mathlib.Decide.{ℕ_discrete}
 use Rattle.spec_batch.proofs.Chains.{all_written_by}
+use Rattle.spec_books.proofs.ActLemmas.{came_signed}
+use Rattle.spec_books.specs.Acting.{Came}
 use Rattle.cal_model.specs.AddedEntries.{added_signed}
 use Rattle.cal_model.specs.Answer.{answer, added}
 use Rattle.spec_history.specs.Base.{Base, no_base}
@@ -23,14 +25,15 @@ stamp_after turns moment = record { author = 0; turn = turns + 1; moment = momen
 abbrev IsOwn : Base × List Entry → Type 0
 IsOwn a = written_by 0 a.1 ≡ a.1
 
--- a call's entries are the desk's own
+-- what came of a call is the desk's own
 still_own : (b : Base) (h h' : List Entry) (call : Call) (turns : ℕ) (moment : ℤ) {E : Type 0} (r : Result Reply E)
-    → OnOk r (h' ≡ h ++ added b h call (stamp_after turns moment)) → OnErr r (h' ≡ h) → written_by 0 h ≡ h → written_by 0 h' ≡ h'
-still_own b h h' call turns moment (Ok reply) grown same own =
-    let more : List Entry = added b h call (stamp_after turns moment) in
-    let signed : written_by 0 more ≡ more = all_written_by 0 (turns + 1) more (added_signed b h call (stamp_after turns moment)) in
-    ap (written_by 0) grown ∙ (filter-append (λ (e : Entry). e.author == 0) h more ∙ ((λ k. own k ++ signed k) ∙ sym grown))
-still_own b h h' call turns moment (Err e) grown same own = ap (written_by 0) same ∙ (own ∙ sym same)
+    → IfOk r (λ x. Came answer added None b h call (stamp_after turns moment) x h') → OnErr r (h' ≡ h) → written_by 0 h ≡ h → written_by 0 h' ≡ h'
+still_own b h h' call turns moment (Ok reply) came same own =
+    let more : List Entry = came.0 in
+    let stamp : Stamp = stamp_after turns moment in
+    let signed : written_by 0 more ≡ more = all_written_by 0 (turns + 1) more (came_signed answer added None b h call stamp reply more (added_signed b h call stamp) came.1) in
+    ap (written_by 0) came.2 ∙ (filter-append (λ (e : Entry). e.author == 0) h more ∙ ((λ k. own k ++ signed k) ∙ sym came.2))
+still_own b h h' call turns moment (Err e) came same own = ap (written_by 0) same ∙ (own ∙ sym same)
 
 -- the account of number k of a desk became a'
 module _ (accounts : List (Base × List Entry)) (turns k : ℕ) (a' : Base × List Entry) (call : Call) (moment : ℤ) (there : k < length accounts) where
@@ -59,21 +62,21 @@ module _ (accounts : List (Base × List Entry)) (turns k : ℕ) (a' : Base × Li
     last = λ j other. omega arith;
   }
 
-  called : {E : Type 0} (r : Result Reply E) → a'.0 ≡ a.0 → IfOk r (λ x. x ≡ answer a.0 a.1 call moment)
-      → OnOk r (a'.1 ≡ a.1 ++ added a.0 a.1 call (stamp_after turns moment)) → OnErr r (a'.1 ≡ a.1) → turns < most_turns
+  called : {E : Type 0} (r : Result Reply E) → a'.0 ≡ a.0 → IfOk r (λ x. Came answer added None a.0 a.1 call (stamp_after turns moment) x a'.1) → OnErr r (a'.1 ≡ a.1) → turns < most_turns
       → Called (shown_of (accounts, turns)) (shown_of (set accounts k a', turns + 1)) k call moment (of_desk r)
-  called (Ok reply) same replied grown unchanged few = (
+  called (Ok reply) same came unchanged few = (
     few,
     record {
       beside = beside same;
       history = a.1;
       begins = ([], sym (append-nil a.1), refl);
       later = omega arith;
-      replied = replied;
-      seen = ap (λ (x : Base × List Entry). x.1) here ∙ grown;
+      came = came.0;
+      acts = came.1;
+      seen = ap (λ (x : Base × List Entry). x.1) here ∙ came.2;
     },
   )
-  called (Err e) same replied grown unchanged few = (
+  called (Err e) same came unchanged few = (
     few,
     record { beside = beside same; begins = ([], ap (λ (x : Base × List Entry). x.1) here ∙ (unchanged ∙ sym (append-nil a.1)), refl); later = omega arith },
   )
@@ -81,15 +84,14 @@ module _ (accounts : List (Base × List Entry)) (turns k : ℕ) (a' : Base × Li
   -- what the account promises of the call
   pub record Acted {E : Type 0} (r : Result Reply E) (old : Base × List Entry) : Type 0 where
     pub base : a'.0 ≡ old.0
-    pub reply : IfOk r (λ x. x ≡ answer old.0 old.1 call moment)
-    pub grown : OnOk r (a'.1 ≡ old.1 ++ added old.0 old.1 call (stamp_after turns moment))
+    pub came : IfOk r (λ x. Came answer added None old.0 old.1 call (stamp_after turns moment) x a'.1)
     pub unchanged : OnErr r (a'.1 ≡ old.1)
 
   pub sole_called : {E : Type 0} (r : Result Reply E) (old : Base × List Entry) → old ≡ account_at accounts k → Acted r old → turns < most_turns
       → Called (shown_of (accounts, turns)) (shown_of (set accounts k a', turns + 1)) k call moment (of_desk r)
   sole_called r old is acted few =
       let x : Acted r (account_at accounts k) = subst (Acted r) is acted in
-      called r x.base x.reply x.grown x.unchanged few
+      called r x.base x.came x.unchanged few
 
   pub still_sole : {E : Type 0} (r : Result Reply E) (old : Base × List Entry) → old ≡ account_at accounts k → Acted r old → turns < most_turns
       → IsSoleDesk accounts turns → IsSoleDesk (set accounts k a') (turns + 1)
@@ -98,5 +100,5 @@ module _ (accounts : List (Base × List Entry)) (turns k : ℕ) (a' : Base × Li
       record {
         few = (let l = length-set accounts k a' in let f = sole.few in omega arith);
         within = omega arith;
-        own = All-set IsOwn accounts k a' (still_own a.0 a.1 a'.1 call turns moment r x.grown x.unchanged (All-get_or IsOwn accounts k (no_base, []) there sole.own)) sole.own;
+        own = All-set IsOwn accounts k a' (still_own a.0 a.1 a'.1 call turns moment r x.came x.unchanged (All-get_or IsOwn accounts k (no_base, []) there sole.own)) sole.own;
       }

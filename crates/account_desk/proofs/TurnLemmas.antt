@@ -1,9 +1,9 @@
 -- Calls fill a history to its end only where each begins where the one before ended.
-use Rattle.std.proofs.Common.{◌≡◌, ℕ, ◌+◌, ◌≤◌, ◌==◌, length, List, [], ◌∷◌, ◌++◌, Bool, true, false, drop, filter, flat_map, cond, sym, ap, ◌∙◌, subst, arith, length-append, length-drop}
+use Rattle.std.proofs.Common.{◌≡◌, ℕ, ◌+◌, ◌≤◌, ◌==◌, length, List, [], ◌∷◌, ◌++◌, Bool, true, false, drop, filter, flat_map, cond, sym, ap, ◌∙◌, subst, arith, length-append}
 use Rattle.std.proofs.Math.Seq.{drop-append_seam}
 use Rattle.account_desk.specs.FreshDesk.{IsSole}
-use Rattle.spec_batch.proofs.Chains.{summary}
-use Rattle.spec_batch.specs.Chain.{Made, Rules, Shown, Chain, Stand, Stands, SummaryOn, added_by, on}
+use Rattle.spec_batch.proofs.Chains.{ends_within, summary}
+use Rattle.spec_batch.specs.Chain.{Made, Rules, Shown, Chain, Stand, SummaryOn, on}
 use Rattle.spec_history.specs.Base.{Base}
 use Rattle.spec_history.specs.Signed.{written_by}
 use Rattle.spec_history.specs.declared.entry.Entry.{Entry}
@@ -31,15 +31,16 @@ module _ (p : Entry → Bool) where
 
 -- ---- one account
 
-module _ (rules : Rules) (base : Base) (author : ℕ) where
-  abbrev pub all_added : List Entry → List Made → List Entry
-  all_added h ms = flat_map (added_by rules base author h) ms
+-- what came of the calls
+abbrev pub all_came : List Made → List Entry
+all_came ms = flat_map (λ (m : Made). m.came) ms
 
+module _ (rules : Rules) (base : Base) (author : ℕ) where
   -- the calls stand in an account's whole history, which was h before them, and fill it up
   pub record Fills (whole h : List Entry) (upto : ℕ) (ms : List Made) : Type 0 where
     pub late : ℕ
     pub stand : Stand rules base author whole (length h) late upto ms
-    pub full : whole ≡ h ++ all_added whole ms
+    pub full : whole ≡ h ++ all_came ms
 
   fills : (before whole : List Entry) (late upto : ℕ) (ms : List Made) → SummaryOn rules base author before whole late upto ms → written_by author whole ≡ whole → Fills whole before upto ms
   fills before whole late upto ms sum all =
@@ -54,36 +55,28 @@ module _ (rules : Rules) (base : Base) (author : ℕ) where
       }
 
   module _ (h : List Entry) where
-    ends_within : (from late : ℕ) (m : Made) → Stands rules base author h from late m → m.reply.place + length (added_by rules base author h m) ≤ length h
-    ends_within from late m s =
-        let f = s.follows in
-        let e = ap length f.1 ∙ length-append (added_by rules base author h m) f.0 in
-        let d = length-drop m.reply.place h in
-        let w = s.within in
-        omega arith
-
-    all_within : (from late upto : ℕ) (ms : List Made) → from ≤ length h → Stand rules base author h from late upto ms → from + length (all_added h ms) ≤ length h
+    all_within : (from late upto : ℕ) (ms : List Made) → from ≤ length h → Stand rules base author h from late upto ms → from + length (all_came ms) ≤ length h
     all_within from late upto [] first stand = omega (arith, first)
     all_within from late upto (m ∷ ms) first stand =
-        let rest = all_within (m.reply.place + length (added_by rules base author h m)) m.turn upto ms (ends_within from late m stand.0) stand.1 in
+        let rest = all_within (m.reply.place + length m.came) m.turn upto ms (ends_within rules base author h from late m stand.0) stand.1 in
         let low = stand.0.low in
-        let count = length-append (added_by rules base author h m) (all_added h ms) in
+        let count = length-append m.came (all_came ms) in
         omega arith
 
-    in_turn : (from late upto : ℕ) (ms : List Made) → length h ≤ from + length (all_added h ms) → Stand rules base author h from late upto ms → InTurn rules base author h from ms
+    in_turn : (from late upto : ℕ) (ms : List Made) → length h ≤ from + length (all_came ms) → Stand rules base author h from late upto ms → InTurn from ms
     in_turn from late upto [] full stand = tt
     in_turn from late upto (m ∷ ms) full stand =
-        let next = m.reply.place + length (added_by rules base author h m) in
-        let rest = all_within next m.turn upto ms (ends_within from late m stand.0) stand.1 in
+        let next = m.reply.place + length m.came in
+        let rest = all_within next m.turn upto ms (ends_within rules base author h from late m stand.0) stand.1 in
         let low = stand.0.low in
-        let count = length-append (added_by rules base author h m) (all_added h ms) in
+        let count = length-append m.came (all_came ms) in
         let here : m.reply.place ≡ from = omega arith in
-        let full_after : length h ≤ next + length (all_added h ms) = omega arith in
-        (here, subst (λ (n : ℕ). InTurn rules base author h (n + length (added_by rules base author h m)) ms) here (in_turn next m.turn upto ms full_after stand.1))
+        let full_after : length h ≤ next + length (all_came ms) = omega arith in
+        (here, subst (λ (n : ℕ). InTurn (n + length m.came) ms) here (in_turn next m.turn upto ms full_after stand.1))
 
-  pub fills_in_turn : (whole h : List Entry) (upto : ℕ) (ms : List Made) → Fills whole h upto ms → InTurn rules base author whole (length h) ms
+  pub fills_in_turn : (whole h : List Entry) (upto : ℕ) (ms : List Made) → Fills whole h upto ms → InTurn (length h) ms
   fills_in_turn whole h upto ms f =
-      let all = ap length f.full ∙ length-append h (all_added whole ms) in
+      let all = ap length f.full ∙ length-append h (all_came ms) in
       in_turn whole (length h) f.late upto ms (omega (arith, all)) f.stand
 
 -- ---- all accounts

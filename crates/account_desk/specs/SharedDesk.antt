@@ -5,18 +5,17 @@ use Rattle.atomic_table.specs.Seated.{TableId}
 use Rattle.account_lock.specs.Passes.{PassState}
 use Rattle.account_lock.specs.declared.locked.CallError.{CallError}
 use Rattle.account_lock.specs.declared.locked.CallError.TheVariants as pass
-use Rattle.account_desk.specs.FreshDesk.{account_rules}
-use Rattle.spec_batch.specs.Chain.{Shown}
+use Rattle.spec_batch.specs.Chain.{Rules, Shown}
 use Rattle.spec_batch.specs.declared.desk.DeskError.{DeskError}
 use Rattle.spec_batch.specs.declared.desk.DeskError.TheVariants.{NoMemory, PassSpent}
 use Rattle.spec_history.specs.Base.{no_base}
 use Rattle.spec_history.specs.MostTurns.{most_turns}
 
 -- The desk signs with the numbers of its passes, knows what they have seen, and the last turn on an account is that of its pass.
-abbrev pub shown_by_passes : List PassState × ℕ → Shown
-shown_by_passes d = record {
+abbrev pub shown_by_passes : Rules → List PassState × ℕ → Shown
+shown_by_passes rules d = record {
   accounts = length d.0;
-  rules = account_rules;
+  rules = rules;
   turns = d.1;
   base = λ k. option_map_or (λ p. p.base) (slice_get d.0 k) no_base;
   seen = λ k. option_map_or (λ p. p.seen) (slice_get d.0 k) [];

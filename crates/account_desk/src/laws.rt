@@ -4,14 +4,14 @@ ghost use Rattle.account_desk.specs.Histories.{ChainsStandInHistories};
 ghost use Rattle.account_desk.specs.InTurn.{AnsweredInTurn};
 
 /// The calls of a chain stand in the histories of the accounts, whatever others add to these. Each history grew; each call is answered at a prefix that
-/// is never shorter than that of the call before it on its account; what it adds comes next; and of the desk's author no other entry came.
+/// is never shorter than that of the call before it on its account; what came of it comes next; and of the desk's author no other entry came.
 /// Each call is one of those that the desk has made.
 pub fn chains_stand_in_histories()
     ensures { ChainsStandInHistories }
 {}
 
 /// Calls on a desk whose accounts have no entries but its own are answered one after the other: each at just the entries
-/// that were there before the first, and those that the calls between added to its account.
+/// that were there before the first, and those that came of the calls between on its account.
 #[tactic(auto, using(crate::proofs::TurnLemmas::answered_in_turn))]
 pub fn calls_are_answered_in_turn()
     ensures { AnsweredInTurn }

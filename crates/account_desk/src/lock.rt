@@ -1,9 +1,11 @@
 //! Locks round accounts.
-ghost use Rattle.std.specs.Prelude.{◌≡◌, ◌≤◌, ◌↔◌, ℕ, List, Err, IfErr, IfOk, Some, length, slice_get};
+ghost use Rattle.std.specs.Prelude.{◌≡◌, ◌≤◌, ◌↔◌, ℕ, List, Err, IfErr, IfOk, None, Option, Some, length, slice_get};
+ghost use Rattle.account_desk.specs.FreshDesk.{IsPlaced};
 ghost use Rattle.account_lock.specs.Passes.{HasFailed, IsAnswered, PassState, opened_pass};
 ghost use Rattle.account_lock.specs.declared.locked.CallError.TheVariants.{NoMemory, PassSpent};
 ghost use Rattle.atomic_table.specs.Seated.{TableId};
 ghost use Rattle.cal_model.specs.Answer.{added, answer};
+ghost use Rattle.spec_calls.specs.declared.call.Reply.{Reply};
 ghost use Rattle.spec_history.specs.Base.{Base};
 ghost use Rattle.spec_history.specs.MostTurns.{most_turns};
 ghost use Rattle.spec_history.specs.declared.entry.Entry.{Entry};
@@ -33,6 +35,12 @@ pub trait AccountLock: Drop + Sized {
 
     ghost state: { Self.Pass → PassState };
 
+    // The reply at a history to a call whose entries could not be kept. None where the entries of every call are.
+    ghost unkept: { Option (List Entry → Reply) };
+
+    // That reply says how many entries went before.
+    ghost unkept_placed: { IsPlaced unkept };
+
     /// A lock round a book, with passes 0 and on. Each pass has made no call and has seen the book's entries.
     /// Takes memory for the lock and the list of passes.
     fn open(
@@ -60,7 +68,7 @@ pub trait AccountLock: Drop + Sized {
         moment: Moment,
     ) -> Result<Reply, CallError>
         requires { (state pass.old).lock ≡ lock self.now }
-        ensures answered { IfOk result (λ r. IsAnswered answer added call.now moment r (state pass.old) (state pass.new)) }
+        ensures answered { IfOk result (λ r. IsAnswered answer added unkept call.now moment r (state pass.old) (state pass.new)) }
         ensures spent { (result ≡ Err PassSpent) ↔ ((state pass.old).turns ≡ most_turns) }
         ensures failed { IfErr result (λ e. e ≡ NoMemory → HasFailed (state pass.old) (state pass.new)) };
 }
@@ -75,6 +83,10 @@ impl AccountLock for Locked<Account> {
     ghost lock = { λ l. l };
 
     ghost state = { λ p. p };
+
+    ghost unkept = { None };
+
+    ghost unkept_placed = { tt };
 
     fn open(
         alloc: Global,

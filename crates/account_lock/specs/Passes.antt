@@ -1,6 +1,7 @@
 -- What contracts see of a pass, and what a call makes of it.
-use Rattle.std.specs.Prelude.{◌≡◌, ℕ, ◌+◌, ℤ, List, [], ◌++◌}
+use Rattle.std.specs.Prelude.{◌≡◌, ℕ, ◌+◌, ℤ, List, [], ◌++◌, Option}
 use Rattle.atomic_table.specs.Seated.{TableId}
+use Rattle.spec_books.specs.Acting.{Acts}
 use Rattle.spec_history.specs.Base.{Base}
 use Rattle.account_lock.specs.Lock.{PassView}
 use Rattle.account_lock.specs.declared.lock.Phase.{Phase}
@@ -34,13 +35,15 @@ opened_pass lock base opened k = record { lock = lock; base = base; number = k; 
 abbrev pub next_stamp : PassState → ℤ → Stamp
 next_stamp p moment = record { author = p.number; turn = p.turns + 1; moment = moment }
 
-module _ {C R : Type 0} (answer : Base → List Entry → C → ℤ → R) (added : Base → List Entry → C → Stamp → List Entry) where
-  -- The reply is the book's at a history that begins with what the pass had seen, with no entry of the pass between. The pass has then seen that history with the call's entries.
+module _ {C R : Type 0} (answer : Base → List Entry → C → ℤ → R) (added : Base → List Entry → C → Stamp → List Entry) (unkept : Option (List Entry → R)) where
+  -- The reply is the book's at a history that begins with what the pass had seen, with no entry of the pass between; or it tells there that what the call adds could not be
+  -- kept. The pass has then seen that history with what came of the call.
   pub record IsAnswered (call : C) (moment : ℤ) (reply : R) (old new : PassState) : Type 0 where
     pub history : List Entry
     pub begins : Extends old.number old.seen history
-    pub replied : reply ≡ answer old.base history call moment
-    pub new_state : new ≡ record old { turns = old.turns + 1; seen = history ++ added old.base history call (next_stamp old moment); mine = old.mine ++ added old.base history call (next_stamp old moment) }
+    pub came : List Entry
+    pub acts : Acts answer added unkept old.base history call (next_stamp old moment) reply came
+    pub new_state : new ≡ record old { turns = old.turns + 1; seen = history ++ came; mine = old.mine ++ came }
 
 -- The call took its turn and added nothing: the pass may have seen entries of others.
 pub record HasFailed (old new : PassState) : Type 0 where

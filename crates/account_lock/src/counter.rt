@@ -1,7 +1,7 @@
 //! A book of amounts, for tests of the lock.
-ghost use Rattle.std.specs.Prelude.{◌≡◌, []};
+ghost use Rattle.std.specs.Prelude.{◌≡◌, [], None};
 
-use spec_history::book::Book;
+use spec_books::book::Book;
 use spec_history::entry::{Change, Entry, Kind};
 use spec_time::moment::Moment;
 use std::alloc::{AllocError, Global};
@@ -76,6 +76,8 @@ impl Book for CounterBook {
     ghost answer = { λ z h call moment. sum_of_ids h + amount_counted h call.0 };
 
     ghost added = { λ z h call stamp. amount_added h call.0 stamp };
+
+    ghost unkept = { None };
 
     #[tactic(auto, using(crate::proofs::CounterLemmas::sum_of_ids_append))]
     fn act(

@@ -1,5 +1,6 @@
 //! The lock, and the calls of its passes.
-ghost use Rattle.std.specs.Prelude.{◌≡◌, ◌↔◌, ℕ, ◌+◌, ◌<◌, ◌≤◌, [], Err, Some, IfOk, OnOk, OnErr, IfErr, vec_len, vec_capacity, slice_get};
+ghost use Rattle.std.specs.Prelude.{◌≡◌, ◌↔◌, ℕ, ◌+◌, ◌<◌, ◌≤◌, [], Err, Some, IfOk, OnErr, IfErr, drop, length, vec_len, vec_capacity, slice_get};
+ghost use Rattle.spec_books.specs.Acting.{Acts};
 ghost use Rattle.spec_history.specs.MostTurns.{most_turns};
 ghost use Rattle.account_lock.specs.LockSteps.{having_read, having_added, new_pass};
 ghost use Rattle.account_lock.specs.declared.lock.Phase.TheVariants.{Idle, Turn};
@@ -15,7 +16,7 @@ use crate::steps::{
 };
 use crate::view::View;
 use atomic_table::Table;
-use spec_history::book::Book;
+use spec_books::book::Book;
 use spec_history::stamp::Stamp;
 use spec_time::moment::Moment;
 use std::alloc::{AllocError, Global};
@@ -86,7 +87,7 @@ impl<B: Book> Locked<B> {
     ) -> Result<B::Reply, CallError>
         requires { pass.old.lock ≡ self.now }
 
-        ensures answered { IfOk result (λ r. IsAnswered B.answer B.added call.now moment r pass.old pass.new) }
+        ensures answered { IfOk result (λ r. IsAnswered B.answer B.added B.unkept call.now moment r pass.old pass.new) }
 
         // A pass that has made all its calls stays as it is.
         ensures spent { (result ≡ Err PassSpent) ↔ (pass.old.turns ≡ most_turns) }
@@ -126,7 +127,7 @@ fn serve<B: Book, R: Wait>(
     requires turns { seat.old.me.0.turns < most_turns }
     requires stamp { (stamp.now.author ≡ seat.old.me.0.number) × (stamp.now.turn ≡ seat.old.me.0.turns + 1) }
     ensures idle { (seat.new.me.0.phase ≡ Idle) × (seat.new.me.1 ≡ []) }
-    ensures answered { IfOk result (λ r. IsAnswered B.answer B.added call.now stamp.now.moment r
+    ensures answered { IfOk result (λ r. IsAnswered B.answer B.added B.unkept call.now stamp.now.moment r
         (pass_state seat.old.table_id seat.old.me.0) (pass_state seat.new.table_id seat.new.me.0)) }
     ensures failed { OnErr result (HasFailed
         (pass_state seat.old.table_id seat.old.me.0) (pass_state seat.new.table_id seat.new.me.0)) }
@@ -154,10 +155,10 @@ fn act<B: Book>(
     requires book { (B.base book.old ≡ seat.old.me.0.base) × (B.entries book.old ≡ seat.old.me.0.hand.1) }
     ensures same { (seat.new.table_id ≡ seat.old.table_id) × (seat.new.me.1 ≡ seat.old.me.1) }
     ensures book { (B.base book.new ≡ seat.new.me.0.base) × (B.entries book.new ≡ seat.new.me.0.seen) }
-    ensures replied { IfOk result (λ r. r ≡ B.answer (B.base book.old) (B.entries book.old) call.now stamp.now.moment) }
-    ensures added { OnOk result (seat.new.me.0 ≡ having_added (having_read seat.old.me.0)
-        (B.added (B.base book.old) (B.entries book.old) call.now stamp.now)) }
-    ensures err { OnErr result (seat.new.me.0 ≡ having_added (having_read seat.old.me.0) []) }
+    ensures added { seat.new.me.0 ≡ having_added (having_read seat.old.me.0) (drop (length (B.entries book.old)) (B.entries book.new)) }
+    ensures acts { IfOk result (λ r. Acts B.answer B.added B.unkept (B.base book.old) (B.entries book.old) call.now stamp.now r
+        (drop (length (B.entries book.old)) (B.entries book.new))) }
+    ensures err { OnErr result (B.entries book.new ≡ B.entries book.old) }
 {
     let before = read_history(board, seat);
     let reply = book.act(stamp.author, stamp.turn, call, stamp.moment);

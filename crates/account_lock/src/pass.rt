@@ -3,7 +3,7 @@ ghost use Rattle.std.specs.Prelude.{◌≡◌, ◌≤◌};
 ghost use Rattle.spec_history.specs.MostTurns.{most_turns};
 
 use crate::steps::PassSeat;
-use spec_history::book::Book;
+use spec_books::book::Book;
 use std::marker::Model;
 
 /// A thread's right to call the book of a lock. Contracts see which lock it is of, the lock's base, its number, the

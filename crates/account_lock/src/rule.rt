@@ -7,7 +7,7 @@ ghost use Rattle.account_lock.specs.StepNews.{took_ticket, looked, read_count, a
 
 use crate::view::View;
 use atomic_table::{Play, Split, TableRule};
-use spec_history::book::Book;
+use spec_books::book::Book;
 use std::marker::{Brand, PhantomData};
 use std::snapshot::Snapshot;
 

@@ -8,7 +8,7 @@ use crate::rule::{
 };
 use crate::view::View;
 use atomic_table::{Seat, Shared};
-use spec_history::book::Book;
+use spec_books::book::Book;
 use std::snapshot::Snapshot;
 use std::sync::Wait;
 

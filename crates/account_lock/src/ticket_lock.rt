@@ -6,7 +6,7 @@ ghost use Rattle.account_lock.specs.Rule.{lock_of};
 use crate::rule::LockRule;
 use crate::view::View;
 use atomic_table::TableRule;
-use spec_history::book::Book;
+use spec_books::book::Book;
 use std::snapshot::Snapshot;
 
 /// Each state that the lock's table can be in between two steps, which are those that keep its rule, is a ticket lock,

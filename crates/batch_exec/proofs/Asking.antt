@@ -13,7 +13,7 @@ pub asking_ok : {fronts fronts' : List Front} {s t : Shown} {account : ℕ} {cal
 asking_ok {fronts} {fronts'} {s} {t} {account} {call} {reply} moment called front = (
   made_of t account call moment reply,
   record {
-    makes = record { chain = (t, (called, refl), refl); fronts_grew = front };
+    makes = record { chain = (t, (called, refl, refl), refl); fronts_grew = front };
     on_account = refl;
     asked = refl;
     at_moment = refl;

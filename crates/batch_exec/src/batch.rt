@@ -38,6 +38,7 @@ fn error_name(error: MethodError) -> &'static str
         MethodError::AnchorNotFound => "anchorNotFound",
         MethodError::CannotCalculateChanges => "cannotCalculateChanges",
         MethodError::TooManyChanges => "tooManyChanges",
+        MethodError::ServerFail => "serverFail",
     }
 }
 

@@ -14,6 +14,7 @@ use Rattle.spec_calls.specs.declared.call.Call.{Call}
 use Rattle.spec_calls.specs.declared.call.ChangesArguments.{ChangesArguments}
 use Rattle.spec_calls.specs.declared.call.GetArguments.{GetArguments}
 use Rattle.spec_calls.specs.declared.call.MethodError.{MethodError}
+use Rattle.spec_calls.specs.declared.call.MethodError.TheVariants.{ServerFail}
 use Rattle.spec_calls.specs.declared.call.QueryArguments.{QueryArguments}
 use Rattle.spec_calls.specs.declared.call.QueryChangesArguments.{QueryChangesArguments}
 use Rattle.spec_calls.specs.declared.call.Reply.{Reply}
@@ -40,6 +41,10 @@ refused h error = record { arguments = Null; error = Some error; created = []; p
 abbrev pub unless_error : List Entry → Option MethodError → Reply → Reply
 unless_error h None reply = reply
 unless_error h (Some e) reply = refused h e
+
+-- the reply to a call whose entries could not be kept (RFC 8620 section 3.6.2)
+abbrev pub unkept_answer : List Entry → Reply
+unkept_answer h = refused h ServerFail
 
 -- the changes of a call that isn't refused
 abbrev pub unless_refused : Option MethodError → List Change → List Change

@@ -1,6 +1,6 @@
 -- A reply says how many entries went before it.
 use Rattle.std.proofs.Common.{◌≡◌, ℕ, ℤ, List, Option, Some, None, length, refl}
-use Rattle.cal_model.specs.Answer.{answer, answer_to, unless_error}
+use Rattle.cal_model.specs.Answer.{answer, answer_to, unkept_answer, unless_error}
 use Rattle.spec_history.specs.Base.{Base}
 use Rattle.spec_calls.specs.declared.call.Asks.{Asks}
 use Rattle.spec_calls.specs.declared.call.Asks.TheVariants.{Availability, Changes, Get, Query, QueryChanges, Set}
@@ -24,3 +24,7 @@ placed b h m created (Availability q) = placed_unless h _ _ refl
 -- a reply says how many entries went before
 pub answer_place : (b : Base) (h : List Entry) (c : Call) (moment : ℤ) → (answer b h c moment).place ≡ length h
 answer_place b h c moment = placed b h moment c.created c.asks
+
+-- so does one that tells of entries which could not be kept
+pub unkept_place : (h : List Entry) → (unkept_answer h).place ≡ length h
+unkept_place h = refl

@@ -5,7 +5,8 @@ use Rattle.clap.specs.declared.ArgMatches.{ArgMatches}
 use Rattle.clap.proofs.WalkLemmas.{first_value-rows}
 use Rattle.clap.proofs.OnLiterals.{clap_on_literals}
 use Rattle.command_line.specs.KeptWords.{kept_app, kept_options, kept_with}
-use Rattle.command_line.specs.Commands.{batch, batch_app, batch_of, listen_app, listen_of, listen_with, stdio, stdio_app, stdio_of, workload_app, workload_of, workload_with, accepts, value_of}
+use Rattle.command_line.specs.ListenKeptWords.{ListenKept, listen_kept_app, listen_kept_options, listen_kept_with}
+use Rattle.command_line.specs.Commands.{Listen, batch, batch_app, batch_of, listen_app, listen_of, listen_with, stdio, stdio_app, stdio_of, workload_app, workload_of, workload_with, accepts, value_of}
 
 pub batch_is_simple : is_simple batch_app ≡ true
 unfolding batch_app clap_on_literals
@@ -110,3 +111,26 @@ kept_found app words m config journal user is taken h c j u =
     let all = kept_with (value (codes "config")) (value (codes "journal")) (value (codes "user")) in
     let same : kept_with config journal user ≡ all = (λ i. kept_with (found (codes "config") config c i) (found (codes "journal") journal j i) (found (codes "user") user u i)) in
     same ∙ sym (ap (λ b. cond b all None) (ap (λ (a : App). accepts a words) (sym is) ∙ taken))
+
+pub listen_kept_is_simple : is_simple listen_kept_app ≡ true
+unfolding listen_kept_app listen_app clap_on_literals
+listen_kept_is_simple = refl
+
+pub listen_kept_is_free : is_simple_and_free listen_kept_app ≡ true
+unfolding listen_kept_app listen_app clap_on_literals
+listen_kept_is_free = refl
+
+pub listen_kept_found : (app : App) (words : List (List ℕ)) (m : ArgMatches) (listen : Option Listen) (config port workers connections journals : Option (List ℕ)) → app ≡ listen_kept_app
+    → accepts app words ≡ true → HasMatchesOf app words m → listen ≡ listen_with config port workers connections
+    → config ≡ first_value (found_of m) (codes "config") → port ≡ first_value (found_of m) (codes "port")
+    → workers ≡ first_value (found_of m) (codes "workers") → connections ≡ first_value (found_of m) (codes "connections") → journals ≡ first_value (found_of m) (codes "journals")
+    → listen_kept_with listen journals ≡ listen_kept_options words
+listen_kept_found app words m listen config port workers connections journals is taken h with c p w n j =
+    let value = λ (name : List ℕ). value_of listen_kept_app words name in
+    let found : (name : List ℕ) (o : Option (List ℕ)) → o ≡ first_value (found_of m) name → o ≡ value_of listen_kept_app words name =
+    λ name o e. e ∙ value_found app listen_kept_app words m name is listen_kept_is_simple h in
+    let all : Option ListenKept = listen_kept_with (listen_with (value (codes "config")) (value (codes "port")) (value (codes "workers")) (value (codes "connections"))) (value (codes "journals")) in
+    let same : listen_kept_with (listen_with config port workers connections) journals ≡ all =
+    (λ i. listen_kept_with (listen_with (found (codes "config") config c i) (found (codes "port") port p i) (found (codes "workers") workers w i) (found (codes "connections") connections n i))
+    (found (codes "journals") journals j i)) in
+    ap (λ (l : Option Listen). listen_kept_with l journals) with ∙ same ∙ sym (ap (λ b. cond b all None) (ap (λ (a : App). accepts a words) (sym is) ∙ taken))

@@ -1,3 +1,4 @@
 pub mod Commands
 pub mod KeptWords
+pub mod ListenKeptWords
 pub mod Shown

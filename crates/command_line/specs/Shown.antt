@@ -2,9 +2,11 @@
 use Rattle.std.specs.Prelude.{option_map}
 use Rattle.command_line.specs.Commands as commands
 use Rattle.command_line.specs.KeptWords as words
+use Rattle.command_line.specs.ListenKeptWords as kept_words
 use Rattle.command_line.specs.declared.command.Command.{Command}
 use Rattle.command_line.specs.declared.kept.KeptCommand.{KeptCommand}
 use Rattle.command_line.specs.declared.listen.Listen.{Listen as Listening}
+use Rattle.command_line.specs.declared.listen_kept.ListenKept.{ListenKept}
 use Rattle.command_line.specs.declared.workload.Workload.{Workload as Work}
 use Rattle.command_line.specs.declared.command.Command.TheVariants.{Batch, Listen, Stdio, Workload}
 
@@ -16,6 +18,9 @@ listen_shown l = record { config = l.config.now; port = l.port; workers = l.work
 
 abbrev pub kept_shown : KeptCommand → words.KeptCommand
 kept_shown k = record { config = k.config.now; journal = k.journal.now; user = option_map (λ name. name.now) k.user }
+
+abbrev pub listen_kept_shown : ListenKept → kept_words.ListenKept
+listen_kept_shown l = record { listen = listen_shown l.listen; journals = l.journals.now }
 
 abbrev pub command_shown : Command → commands.Command
 command_shown (Batch config user) = commands.batch (option_map (λ name. name.now) config) (option_map (λ name. name.now) user)

@@ -5,5 +5,6 @@ pub mod command;
 mod counts;
 pub mod kept;
 pub mod listen;
+pub mod listen_kept;
 mod options;
 pub mod workload;

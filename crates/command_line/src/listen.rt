@@ -57,7 +57,7 @@ impl<'a> Listen<'a> {
     }
 
     // What the values of the options ask for.
-    fn with(
+    pub(crate) fn with(
         config: Option<&'a str>,
         port: Option<&str>,
         workers: Option<&str>,

@@ -3,6 +3,7 @@
 ghost use Rattle.std.specs.Prelude.{◌≡◌, IfNone, IfOk, IfSome, false, map, string_bytes, true};
 ghost use Rattle.clap.specs.Words.{HasMatchesOf, app_of, is_simple_and_free, rule_of};
 ghost use Rattle.command_line.specs.KeptWords.{kept_app};
+ghost use Rattle.command_line.specs.ListenKeptWords.{listen_kept_app};
 ghost use Rattle.command_line.specs.Commands.{without_flags, batch_app, listen_app, option_named, stdio_app, workload_app, accepts};
 
 use clap::error::ErrorKind;
@@ -51,6 +52,15 @@ pub fn listen_command<'a>(alloc: Global) -> Result<Command<'a>, AllocError>
         .arg(port)?
         .arg(workers)?
         .arg(connections)?;
+    Ok(command)
+}
+
+/// `listen --config NAME --port P [--workers W] [--connections N] --journals FOLDER`. Takes memory for its options.
+pub fn listen_kept_command<'a>(alloc: Global) -> Result<Command<'a>, AllocError>
+    ensures { IfOk result (λ command. app_of command ≡ listen_kept_app) }
+{
+    let journals = option_named(alloc, "journals", true);
+    let command = listen_command(alloc)?.arg(journals)?;
     Ok(command)
 }
 

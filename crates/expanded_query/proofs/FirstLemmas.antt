@@ -65,11 +65,11 @@ module _ {X : Type 0} (lt : X → X → Bool) (o : IsStrictWeakOrder lt) (last :
       ap (take n) (sym same) ∙ first_of_up n (in_order lt xs) (up_in_order lt o xs) (omega (arith, l, long))
 
 module _ {X : Type 0} (lt : X → X → Bool) where
-  longer_put : (x : X) (ys : List X) → length (put_in lt x ys) ≡ suc (length ys)
+  pub longer_put : (x : X) (ys : List X) → length (put_in lt x ys) ≡ suc (length ys)
   longer_put x [] = refl
   longer_put x (y ∷ ys) = cond_both (lt y x) (y ∷ put_in lt x ys) (x ∷ y ∷ ys) (λ l. length l ≡ suc (suc (length ys))) (λ _. ap suc (longer_put x ys)) (λ _. refl)
 
-  as_long : (xs : List X) → length (in_order lt xs) ≡ length xs
+  pub as_long : (xs : List X) → length (in_order lt xs) ≡ length xs
   as_long [] = refl
   as_long (x ∷ xs) = longer_put x (in_order lt xs) ∙ ap suc (as_long xs)
 

@@ -7,4 +7,7 @@ pub mod OrderLemmas
 pub mod FirstLemmas
 pub mod IdLemmas
 pub mod WindowLemmas
+pub mod LastLemmas
+pub mod PlaceLemmas
+pub mod AnchorLemmas
 pub mod SightLemmas

@@ -2,6 +2,7 @@
 #![tactic(auto)]
 
 mod all_found;
+mod anchor;
 mod found;
 mod found_occurrence;
 mod id;
@@ -14,5 +15,6 @@ mod sight;
 mod source;
 mod sources;
 mod terms;
+mod window;
 
 pub use query::expanded_query;

@@ -21,8 +21,7 @@ use std::alloc::Global;
 /// it is refused.
 ///
 /// Takes memory for all results, some 80 bytes for each and for a title where an override names it, and for the ids that are told. Time
-/// grows with the number of events and with that of the results. Where no anchor is named, results that stand behind the window aren't put
-/// in order.
+/// grows with the number of events and with that of the results. Results that stand far from the window are seldom put in order.
 pub fn expanded_query(
     alloc: Global,
     events: &StoredEvents<'_>,

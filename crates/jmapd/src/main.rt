@@ -9,11 +9,14 @@ use crate::ending::{finish, finish_kept};
 use crate::journal::run_journal;
 use crate::words::program_words;
 use command_line::kept::KeptCommand;
+use command_line::listen_kept::ListenKept;
 use io_edge::streams::{ReaderSource, WriterSink};
 use io_edge::system_clock::SystemClock;
 use io_edge::system_files::SystemFiles;
 use jmapd_listen::program::run_program;
 use jmapd_run::status::Status;
+use journal_folder::folder::JournalFolder;
+use kept_listen::listen::listen_kept;
 use listen_edge::real_threads::RealThreads;
 use listen_edge::tcp_host::TcpHost;
 use std::io;
@@ -29,6 +32,23 @@ fn main(rt: HostRuntime) -> ExitCode {
         Ok(None) => {}
         Err(_) => return finish(&rt, Status::NoMemory),
     }
+    match ListenKept::read(rt.alloc(), &words) {
+        Ok(Some(asked)) => {
+            let status = listen_kept(
+                rt.alloc(),
+                &asked.listen,
+                &mut SystemFiles::new(rt.alloc(), rt),
+                &mut JournalFolder::new(rt, rt, asked.journals),
+                &mut TcpHost::new(rt),
+                &mut RealThreads::new(rt),
+                SystemClock::new(rt),
+            );
+            return finish_kept(&rt, status);
+        }
+        Ok(None) => {}
+        Err(_) => return finish(&rt, Status::NoMemory),
+    }
+    tell_kept_not(&rt, &words);
     let status = run_program(
         rt.alloc(),
         rt,
@@ -41,4 +61,13 @@ fn main(rt: HostRuntime) -> ExitCode {
         &mut RealThreads::new(rt),
     );
     finish(&rt, status)
+}
+
+// Tells on standard error that `listen` without journals keeps nothing.
+fn tell_kept_not(rt: &HostRuntime, words: &[String]) {
+    if let [command, ..] = words {
+        if command.as_str() == "listen" {
+            let _ = rt.eprintln("jmapd: nothing is kept: no --journals");
+        }
+    }
 }

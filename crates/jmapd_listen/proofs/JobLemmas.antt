@@ -4,6 +4,7 @@ use Rattle.std.proofs.lemmas.Option.{slice_get-get_or}
 use Rattle.std.specs.Prelude.{All}
 use mathlib.Core.Logic.{inl, inr}
 use Rattle.account_desk.proofs.FreshLemmas.{count_fresh}
+use Rattle.account_desk.specs.FreshDesk.{account_rules}
 use Rattle.account_desk.specs.SharedDesk.{shown_by_passes}
 use Rattle.account_desk.specs.SoleDesk.{fresh_accounts}
 use Rattle.account_lock.specs.Passes.{PassState}
@@ -16,7 +17,7 @@ use Rattle.listen_edge.specs.Listening.{ListenerShown}
 use Rattle.listen_edge.specs.declared.job.WorkerDone.{WorkerDone}
 use Rattle.listen_edge.specs.declared.job.WorkerEnd.{WorkerEnd}
 use Rattle.listen_edge.specs.declared.job.WorkerEnd.TheVariants.{AcceptFault, All as Whole, PassSpent}
-use Rattle.spec_batch.specs.Chain.{Shown}
+use Rattle.spec_batch.specs.Chain.{Rules, Shown}
 use Rattle.spec_history.specs.Base.{Base}
 use Rattle.spec_history.specs.declared.entry.Entry.{Entry}
 use Rattle.spec_site.specs.Configuration.{Site}
@@ -42,10 +43,14 @@ pub unused_of_same : {site site' : Site} (desk : Shown) → site' ≡ site → I
 unused_of_same desk same unused = subst (λ (s : Site). IsUnused s desk) (sym same) unused
 
 -- desks that share the accounts of a site have made no call
-pub all_unused : (site : Site) (accounts : List (Base × List Entry)) (desks : List (List PassState × ℕ)) → accounts ≡ fresh_accounts site → ShareAccounts accounts desks
-    → All (λ desk. IsUnused site (shown_by_passes desk)) desks
-all_unused site accounts desks fresh share k d within =
+pub all_unused_at : (site : Site) (how : Rules) (accounts : List (Base × List Entry)) (desks : List (List PassState × ℕ)) → length accounts ≡ length site.accounts → ShareAccounts accounts desks
+    → All (λ desk. IsUnused site (shown_by_passes how desk)) desks
+all_unused_at site how accounts desks count share k d within =
     let is = share.2 k _ (slice_get-get_or desks k d within) in (
-      ap (λ (desk : List PassState × ℕ). length desk.0) is ∙ (passes_count share.0 accounts k share.1 ∙ (share.1 ∙ count_fresh site accounts fresh)),
+      ap (λ (desk : List PassState × ℕ). length desk.0) is ∙ (passes_count share.0 accounts k share.1 ∙ (share.1 ∙ count)),
       ap (λ (desk : List PassState × ℕ). desk.1) is,
     )
+
+pub all_unused : (site : Site) (accounts : List (Base × List Entry)) (desks : List (List PassState × ℕ)) → accounts ≡ fresh_accounts site → ShareAccounts accounts desks
+    → All (λ desk. IsUnused site (shown_by_passes account_rules desk)) desks
+all_unused site accounts desks fresh share = all_unused_at site account_rules accounts desks (count_fresh site accounts fresh) share

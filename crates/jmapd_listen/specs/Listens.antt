@@ -10,8 +10,9 @@ use Rattle.jmapd_run.specs.declared.status.Status.TheVariants.{Config, Done, NoM
 use Rattle.listen_edge.specs.Ending.{counted, faults_in}
 use Rattle.listen_edge.specs.Listening.{HostShown, ListenerShown}
 use Rattle.listen_edge.specs.declared.job.WorkerDone.{WorkerDone}
-use Rattle.spec_batch.specs.Chain.{Shown}
+use Rattle.spec_batch.specs.Chain.{Rules, Shown}
 use Rattle.spec_history.specs.Base.{no_base}
+use Rattle.spec_history.specs.declared.entry.Entry.{Entry}
 use Rattle.spec_site.specs.Configuration.{Site}
 use Rattle.listen_workers.specs.Crew.{Ends}
 use Rattle.listen_workers.specs.Listeners.{AskedFor}
@@ -48,17 +49,21 @@ ServesSite site desks l h h' s s' _ = ⊥
 abbrev pub IsUnused : Site → Shown → Type 0
 IsUnused site desk = (desk.accounts ≡ length site.accounts) × (desk.turns ≡ 0)
 
--- the desk of worker n over the fresh accounts of a site, before any call: it signs with the worker's number
-pub record IsDeskOf (site : Site) (n : ℕ) (desk : Shown) : Type 0 where
+-- the desk of worker n over the accounts of a site, before any call: they answer by these rules and were opened with these entries, and it signs with the worker's number
+pub record IsDeskAt (site : Site) (how : Rules) (entries : ℕ → List Entry) (n : ℕ) (desk : Shown) : Type 0 where
   pub unused : IsUnused site desk
-  pub rules : desk.rules ≡ account_rules
-  pub opened : (k : ℕ) → (desk.base k ≡ slice_index_or (bases site) k no_base) × (desk.seen k ≡ [])
+  pub rules : desk.rules ≡ how
+  pub opened : (k : ℕ) → (desk.base k ≡ slice_index_or (bases site) k no_base) × (desk.seen k ≡ entries k)
   pub author : (k : ℕ) → k < length site.accounts → desk.author k ≡ n
   pub last : (k : ℕ) → desk.last k ≡ 0
 
 -- the desks of so many workers, in order
+abbrev pub AreDesksAt : Site → Rules → (ℕ → List Entry) → ℕ → List Shown → Type 0
+AreDesksAt site how entries workers desks = (length desks ≡ workers) × ((n : ℕ) (desk : Shown) → slice_get desks n ≡ Some desk → IsDeskAt site how entries n desk)
+
+-- those over the fresh accounts of a site, in memory alone
 abbrev pub AreDesksOf : Site → ℕ → List Shown → Type 0
-AreDesksOf site workers desks = (length desks ≡ workers) × ((n : ℕ) (desk : Shown) → slice_get desks n ≡ Some desk → IsDeskOf site n desk)
+AreDesksOf site workers desks = AreDesksAt site account_rules (λ k. []) workers desks
 
 -- what comes of a `listen` and a site, where workers share its fresh accounts
 abbrev pub ServesTogether : Site → Listen → HostShown → HostShown → SpawnerShown → SpawnerShown → Status → Type 0

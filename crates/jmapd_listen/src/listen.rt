@@ -1,6 +1,7 @@
 //! The command `listen`.
 ghost use Rattle.std.specs.Arc.{arc_value};
 ghost use Rattle.std.specs.Prelude.{◌≡◌, ◌≤◌, ◌+◌, All, IfOk, length, map};
+ghost use Rattle.account_desk.specs.FreshDesk.{account_rules};
 ghost use Rattle.account_desk.specs.SharedDesk.{shown_by_passes};
 ghost use Rattle.command_line.specs.Shown.{listen_shown};
 ghost use Rattle.command_line.specs.declared.listen.TheConstants.{MAX_CONNECTIONS};
@@ -74,8 +75,8 @@ fn site_desks<W: Wait + Copy + Drop>(
 ) -> Result<Vec<SharedDesk<W, Locked<Account>>>, AllocError>
     requires { (1 ≤ workers) × (workers ≤ 256) }
     ensures workers { IfOk result (λ desks. length desks.items ≡ workers) }
-    ensures unused { IfOk result (λ desks. All (λ desk. IsUnused site.now (shown_by_passes desk)) desks.items) }
-    ensures of_site { IfOk result (λ desks. AreDesksOf site.now workers (map shown_by_passes desks.items)) }
+    ensures unused { IfOk result (λ desks. All (λ desk. IsUnused site.now (shown_by_passes account_rules desk)) desks.items) }
+    ensures of_site { IfOk result (λ desks. AreDesksOf site.now workers (map (shown_by_passes account_rules) desks.items)) }
 {
     open_desks(alloc, runtime, fresh_accounts(alloc, site)?, workers)
 }

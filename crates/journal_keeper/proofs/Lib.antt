@@ -3,3 +3,4 @@ pub mod Finding
 pub mod ManyTexts
 pub mod OneEntry
 pub mod Loading
+pub mod AccountTexts

@@ -25,7 +25,7 @@ texts_more account xs t =
     ∙ (map-append text_in (filter (is_of account) xs) (filter (is_of account) (t ∷ []))
     ∙ ap (λ ts. texts_of account xs ++ ts) (one_of (bytes_eq t.0 account) t))
 
-texts-append : (account : List ℕ) (xs ys : List Labelled) → texts_of account (xs ++ ys) ≡ texts_of account xs ++ texts_of account ys
+pub texts-append : (account : List ℕ) (xs ys : List Labelled) → texts_of account (xs ++ ys) ≡ texts_of account xs ++ texts_of account ys
 texts-append account xs ys =
     ap (map text_in) (filter-append (is_of account) xs ys)
     ∙ map-append text_in (filter (is_of account) xs) (filter (is_of account) ys)

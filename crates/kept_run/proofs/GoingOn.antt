@@ -10,6 +10,8 @@ use Rattle.std.specs.Str.{bytes_eq}
 use Rattle.account_desk.specs.FreshDesk.{bases}
 use Rattle.account_desk.specs.SoleDesk.{account_at, shown_of}
 use Rattle.jmapd_run.specs.declared.status.Status.TheVariants.{Config, Cut, Done, NoMemory, OpenFault, ReadFault, Refused, Usage, WriteFault}
+use Rattle.journal_keeper.proofs.AccountTexts.{bytes_same, entries_join, texts_other, texts_own}
+use Rattle.journal_keeper.proofs.Loading.{texts-append}
 use Rattle.journal_keeper.specs.EntryText.{entry_text}
 use Rattle.journal_keeper.specs.Journals.{AreEntriesOf, FailsToKeep, Kept, Labelled, labelled, texts_of}
 use Rattle.kept_run.specs.Completes.{RunsGoOn}
@@ -35,26 +37,6 @@ use Rattle.spec_site.specs.declared.limits.TheConstants.{MAX_ACCOUNTS, MAX_CONFI
 use Rattle.kept_run.specs.Steps.{account_base}
 use Rattle.std.proofs.lemmas.Option.{same_Some}
 
--- ---- the texts of an account
-
-abbrev is_of : List ℕ → Labelled → Bool
-is_of id t = bytes_eq t.0 id
-
-texts_join : (id : List ℕ) (xs ys : List Labelled) → texts_of id (xs ++ ys) ≡ texts_of id xs ++ texts_of id ys
-texts_join id xs ys = ap (map (λ (t : Labelled). t.1)) (filter-append (is_of id) xs ys) ∙ map-append (λ (t : Labelled). t.1) (filter (is_of id) xs) (filter (is_of id) ys)
-
-texts_own : (own id : List ℕ) (es : List Entry) → bytes_eq own id ≡ true → texts_of id (labelled own es) ≡ map entry_text es
-texts_own own id [] is = refl
-texts_own own id (e ∷ es) is =
-    ap (λ (b : Bool). map (λ (t : Labelled). t.1) (cond b ((own, entry_text e) ∷ filter (is_of id) (labelled own es)) (filter (is_of id) (labelled own es)))) is
-    ∙ ap (λ (ts : List (List ℕ)). entry_text e ∷ ts) (texts_own own id es is)
-
-texts_other : (own id : List ℕ) (es : List Entry) → bytes_eq own id ≡ false → texts_of id (labelled own es) ≡ []
-texts_other own id [] is = refl
-texts_other own id (e ∷ es) is =
-    ap (λ (b : Bool). map (λ (t : Labelled). t.1) (cond b ((own, entry_text e) ∷ filter (is_of id) (labelled own es)) (filter (is_of id) (labelled own es)))) is
-    ∙ texts_other own id es is
-
 -- ---- accounts are told apart by their ids
 
 abbrev IsOther : SiteAccount → SiteAccount → Type 0
@@ -64,9 +46,6 @@ IsOther s t = (bytes_eq s.id t.id ≡ false) × (bytes_eq t.id s.id ≡ false)
 abbrev AreApart : List SiteAccount → Type 0
 AreApart [] = Unit {0}
 AreApart (s ∷ ss) = All (IsOther s) ss × AreApart ss
-
-bytes_same : (a : List ℕ) → bytes_eq a a ≡ true
-bytes_same a = (bytes_eq-Decides a a).1 refl
 
 bytes_turned : (a b : List ℕ) → bytes_eq a b ≡ false → bytes_eq b a ≡ false
 bytes_turned a b is = by (bytes_eq b a) refl
@@ -156,7 +135,7 @@ texts_none id [] places accounts other = refl
 texts_none id (s ∷ sites) [] accounts other = refl
 texts_none id (s ∷ sites) (p ∷ places) [] other = refl
 texts_none id (s ∷ sites) (p ∷ places) (a ∷ accounts) other =
-    texts_join id (labelled s.id (drop p a.1)) (texts_behind sites places accounts)
+    texts-append id (labelled s.id (drop p a.1)) (texts_behind sites places accounts)
     ∙ ((λ i. texts_other s.id id (drop p a.1) (All-head (λ (t : SiteAccount). bytes_eq t.id id ≡ false) s sites other) i ++ texts_none id sites places accounts (All-tail (λ (t : SiteAccount). bytes_eq t.id id ≡ false) s sites other) i))
 
 texts_here : (n : ℕ) (id : List ℕ) (sites : List SiteAccount) (places : List ℕ) (accounts : List (Base × List Entry)) → AreApart sites → n < length sites → n < length places → n < length accounts → id ≡ (get_or sites n nameless).id
@@ -167,20 +146,14 @@ texts_here n id (s ∷ sites) (p ∷ places) [] apart a b c is = absurd (omega a
 texts_here zero id (s ∷ sites) (p ∷ places) (x ∷ accounts) apart a b c is =
     let own : bytes_eq s.id id ≡ true = ap (bytes_eq s.id) is ∙ bytes_same s.id in
     let others : All (λ (t : SiteAccount). bytes_eq t.id id ≡ false) sites = λ k d below. ap (bytes_eq (get_or sites k d).id) is ∙ (apart.0 k d below).1 in
-    texts_join id (labelled s.id (drop p x.1)) (texts_behind sites places accounts)
+    texts-append id (labelled s.id (drop p x.1)) (texts_behind sites places accounts)
     ∙ ((λ i. texts_own s.id id (drop p x.1) own i ++ texts_none id sites places accounts others i) ∙ append-nil (map entry_text (drop p x.1)))
 texts_here (suc n) id (s ∷ sites) (p ∷ places) (x ∷ accounts) apart a b c is =
     let other : bytes_eq s.id id ≡ false = ap (bytes_eq s.id) is ∙ (apart.0 n nameless (omega arith)).0 in
-    texts_join id (labelled s.id (drop p x.1)) (texts_behind sites places accounts)
+    texts-append id (labelled s.id (drop p x.1)) (texts_behind sites places accounts)
     ∙ ((λ i. texts_other s.id id (drop p x.1) other i ++ texts_of id (texts_behind sites places accounts)) ∙ texts_here n id sites places accounts apart.1 (omega arith) (omega arith) (omega arith) is)
 
 -- ---- entries and their texts
-
-entries_join : (es fs : List Entry) (ts us : List (List ℕ)) → AreEntriesOf es ts → AreEntriesOf fs us → AreEntriesOf (es ++ fs) (ts ++ us)
-entries_join [] fs [] us a b = b
-entries_join (e ∷ es) fs (t ∷ ts) us a b = (a.0, entries_join es fs ts us a.1 b)
-entries_join [] fs (t ∷ ts) us a b = absurd a
-entries_join (e ∷ es) fs [] us a b = absurd a
 
 read_back_at : (n : ℕ) (places : List ℕ) (accounts : List (Base × List Entry)) → n < length places → n < length accounts → NewAreReadBack places accounts → AreReadBack (drop (get_or places n 0) (get_or accounts n no_account).1)
 read_back_at n [] accounts a b h = absurd (omega arith)
@@ -212,7 +185,7 @@ module _ (site : Site) (user : ℕ) (apart : AreApart site.accounts) where
       let new : drop (get_or (counts before.0) n 0) (get_or l.accounts.0 n no_account).1 ≡ one.0 = (λ i. drop (place i) (one.1 i)) ∙ drop-append_seam old one.0 in
       let back : AreReadBack one.0 = subst AreReadBack new (read_back_at n (counts before.0) l.accounts.0 in_counts in_after a.read_back) in
       let came : texts_of id (line_texts site before l) ≡ map entry_text one.0 = texts_here n id site.accounts (counts before.0) l.accounts.0 apart there in_counts in_after refl ∙ ap (map entry_text) new in
-      subst (λ (y : List Entry × List (List ℕ)). AreEntriesOf y.0 y.1) (λ i. (sym one.1 i, sym (texts_join id texts (line_texts site before l) ∙ ap (λ (ts : List (List ℕ)). texts_of id texts ++ ts) came) i))
+      subst (λ (y : List Entry × List (List ℕ)). AreEntriesOf y.0 y.1) (λ i. (sym one.1 i, sym (texts-append id texts (line_texts site before l) ∙ ap (λ (ts : List (List ℕ)). texts_of id texts ++ ts) came) i))
       (entries_join old one.0 (texts_of id texts) (map entry_text one.0) (listed n there) back)
 
   listed_all : (ls : List Line) (texts : List Labelled) (before : Accounts) → length before.0 ≡ length site.accounts → AllListed texts before.0 → AreAnsweredLines site user before ls

@@ -1,11 +1,6 @@
 pub mod TextLemmas
 pub mod OpenLemmas
 pub mod TurnLemmas
-pub mod Shallow
-pub mod ShallowRules
-pub mod ShallowObjects
-pub mod SoundShape
-pub mod Keepables
 pub mod LineLemmas
 pub mod Clocks
 pub mod LoopLemmas

@@ -1,6 +1,5 @@
 pub mod Opened
 pub mod Lines
-pub mod Values
 pub mod Statuses
 pub mod Runs
 pub mod Steps

@@ -8,4 +8,3 @@ mod lines;
 pub mod run;
 pub mod status;
 mod texts;
-mod values;

@@ -5,8 +5,8 @@ ghost use Rattle.journal_keeper.specs.Journals.{FailsToKeep};
 ghost use Rattle.kept_run.specs.Lines.{HasMore, MayAllGoOn, NewAreReadBack, counts, texts_behind};
 ghost use Rattle.kept_run.specs.Steps.{AreWithin, HaveTurns};
 
-use crate::values::are_entry_values;
 use account_desk::sole_desk::SoleDesk;
+use kept_account::values::are_entry_values;
 use journal_keeper::keeper::{KeepError, Keeper};
 use journal_keeper::kept_text::KeptText;
 use journal_keeper::texts::entry_texts;

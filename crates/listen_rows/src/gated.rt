@@ -1,5 +1,5 @@
 //! Accounts whose calls meet.
-ghost use Rattle.std.specs.Prelude.{◌≡◌, ◌<◌, ◌^◌, IfOk, length};
+ghost use Rattle.std.specs.Prelude.{◌≡◌, ◌<◌, ◌^◌, IfOk, None, length};
 ghost use Rattle.account_desk.specs.SoleDesk.{fresh_accounts};
 
 use crate::meeting::Meeting;
@@ -9,8 +9,8 @@ use account_desk::sole_desk::fresh_accounts;
 use account_lock::locked::{CallError, Locked};
 use account_lock::pass::Pass;
 use session_doc::Site;
+use spec_books::book::Book;
 use spec_calls::call::{Call, Reply};
-use spec_history::book::Book;
 use spec_time::moment::Moment;
 use std::alloc::{AllocError, Global};
 use std::marker::Model;
@@ -54,6 +54,8 @@ impl Book for Gated {
 
     ghost added = { added };
 
+    ghost unkept = { None };
+
     fn act(
         &mut self,
         author: u32,
@@ -88,6 +90,10 @@ impl AccountLock for GatedLock {
     ghost lock = { λ l. l.locked };
 
     ghost state = { λ p. p };
+
+    ghost unkept = { None };
+
+    ghost unkept_placed = { tt };
 
     fn open(
         alloc: Global,

@@ -1,5 +1,6 @@
 //! Runs of `listen` over a host in memory.
 ghost use Rattle.std.specs.Prelude.{◌≡◌, ◌≤◌, All, IfOk, length};
+ghost use Rattle.account_desk.specs.FreshDesk.{account_rules};
 ghost use Rattle.account_desk.specs.SharedDesk.{shown_by_passes};
 ghost use Rattle.jmapd_listen.specs.Listens.{IsUnused};
 
@@ -152,7 +153,7 @@ fn gated_desks<R: Wait + Copy + Drop>(
 ) -> Result<Vec<SharedDesk<R, GatedLock>>, AllocError>
     requires { (1 ≤ workers) × (workers ≤ 256) }
     ensures workers { IfOk result (λ desks. length desks.items ≡ workers) }
-    ensures unused { IfOk result (λ desks. All (λ desk. IsUnused site.now (shown_by_passes desk)) desks.items) }
+    ensures unused { IfOk result (λ desks. All (λ desk. IsUnused site.now (shown_by_passes account_rules desk)) desks.items) }
 {
     open_desks(alloc, rt, gated_accounts(alloc, site, meeting)?, workers)
 }

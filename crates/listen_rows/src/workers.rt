@@ -1,5 +1,6 @@
 //! One worker over a listener in memory.
 ghost use Rattle.std.specs.Prelude.{IfOk};
+ghost use Rattle.account_desk.specs.FreshDesk.{account_rules};
 ghost use Rattle.account_desk.specs.SharedDesk.{shown_by_passes};
 ghost use Rattle.jmapd_listen.specs.Listens.{IsUnused};
 
@@ -63,7 +64,7 @@ fn one_desk<R: Wait + Copy + Drop>(
     rt: R,
     site: &Site,
 ) -> Result<SharedDesk<R, Locked<Account>>, AllocError>
-    ensures { IfOk result (λ desk. IsUnused site.now (shown_by_passes desk)) }
+    ensures { IfOk result (λ desk. IsUnused site.now (shown_by_passes account_rules desk)) }
 {
     let mut desks = open_desks(alloc, rt, fresh_accounts(alloc, site)?, 1)?;
     Ok(desks.remove(0))

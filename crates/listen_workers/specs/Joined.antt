@@ -9,7 +9,7 @@ use Rattle.spec_history.specs.declared.entry.Entry.{Entry}
 use Rattle.spec_site.specs.Configuration.{Site}
 
 -- The history is the opening and then the entries of just these calls, a list of calls for each worker, which signs with its number: the calls of each stand in the history one behind
--- the other, each at a prefix that what it adds follows, and of the worker's entries there came theirs, each once, and no other.
+-- the other, each at a prefix that what came of it follows, and of the worker's entries there came theirs, each once, and no other.
 pub record IsOfCalls (rules : Rules) (base : Base) (opened history : List Entry) (calls : List (List Made)) : Type 0 where
   pub added : List Entry
   pub begins : history ≡ opened ++ added

@@ -2,7 +2,7 @@
 ghost use Rattle.listen_workers.specs.Chained.{CallsAreAChain, WorkersStandInHistories};
 ghost use Rattle.listen_workers.specs.Joined.{HistoriesAreOfCalls};
 
-use spec_history::book::Book;
+use spec_books::book::Book;
 
 /// What the connections of a worker asked of its desk is one chain, and its fronts are theirs, joined in order: where the desk answered all that it was asked.
 #[tactic(auto, using(crate::proofs::ChainLemmas::calls_are_a_chain))]

@@ -110,8 +110,16 @@ members_put f (n ∷ ns) ps r =
     ∙ same_kept (or_names (or_name f n) ns) (or_names f (n ∷ ns)) (λ k. or_assoc (f k) (bytes_eq n k) (has_name ns k)) ps
 
 -- all that is needed is kept
-pub all_needed_put : (firsts : List (List ℕ)) (ps : List Pair) → keys_rise ps ≡ true → with_each_member firsts ps (with_each_member always_needed ps []) ≡ kept (is_needed firsts) ps
+all_needed_put : (firsts : List (List ℕ)) (ps : List Pair) → keys_rise ps ≡ true → with_each_member firsts ps (with_each_member always_needed ps []) ≡ kept (is_needed firsts) ps
 all_needed_put firsts ps r =
     ap (λ part. with_each_member firsts ps (with_each_member always_needed ps part)) (sym (none_kept ps))
     ∙ ap (with_each_member firsts ps) (members_put (λ k. false) always_needed ps r)
     ∙ members_put (has_name always_needed) firsts ps r
+
+-- also for a patch that changes nothing
+pub always_put : (ps : List Pair) → keys_rise ps ≡ true → with_each_member always_needed ps [] ≡ kept (is_needed []) ps
+always_put ps r = all_needed_put [] ps r
+
+-- and where the part begins with what is always needed
+pub firsts_put : (firsts : List (List ℕ)) (ps : List Pair) → keys_rise ps ≡ true → with_each_member firsts ps (kept (is_needed []) ps) ≡ kept (is_needed firsts) ps
+firsts_put firsts ps r = ap (with_each_member firsts ps) (sym (always_put ps r)) ∙ all_needed_put firsts ps r

@@ -1,16 +1,19 @@
 //! What the overrides of an event come to.
 ghost use Rattle.std.specs.Prelude.{◌≡◌, IfErr, IfOk, Some, codes, if◌then◌else◌, None, map, option_map};
-ghost use Rattle.spec_events.specs.Events.{bad_event_properties, length_in};
+ghost use Rattle.spec_events.specs.Events.{length_in};
 ghost use Rattle.spec_events.specs.Values.{is_showing};
 ghost use Rattle.spec_json.specs.Data.{lookup};
 ghost use Rattle.spec_json.specs.Parts.{all_some, members_in};
 ghost use Rattle.spec_json.specs.TreeData.{data_of, pair_of};
-ghost use Rattle.spec_recurrence.specs.Overrides.{changed_at, changed_span, patch_changes, exception_at, exception_in, exception_of, exceptions_in, few_members, first_refused, is_excluded, overrides_in, overrides_of, recurrence_id_in, replaced_by, single, span_in, span_of, valid_span};
+ghost use Rattle.spec_recurrence.specs.Overrides.{changed_at, changed_span, patch_changes, exception_at, exception_in, exception_of, exceptions_in, few_members, first_refused, is_excluded, overrides_in, overrides_of, recurrence_id_in, replaced_by, span_in, span_of, valid_span};
+ghost use Rattle.overrides.specs.Alone.{IsTested};
+ghost use Rattle.overrides.specs.Parts.{firsts_of};
 ghost use Rattle.overrides.specs.Reports.{Reports, ReportsAmong};
 ghost use Rattle.overrides.specs.declared.exceptions.OverrideError.TheVariants.{NoMemory};
 
-use crate::fixed::touches_fixed;
-use crate::occurrence::{changed_at, patch_changes, single};
+use crate::alone::Alone;
+use crate::fixed::has_fixed;
+use crate::occurrence::{changed_at, patch_changes};
 use crate::part::{are_needed, firsts_of, part_of};
 use single_event::parts::{given_length, is_occupying, start_of};
 use single_event::read::bad_event_names;
@@ -71,9 +74,8 @@ pub fn exceptions(alloc: Global, event: &Tree, zones: &Zones) -> Result<Exceptio
     if overrides.is_empty() {
         return Ok(Exceptions::new(Vec::new(alloc)));
     }
-    let alone = single(alloc, event)?;
-    let bad = bad_event_names(alloc, &alone, zones)?;
-    Ok(Exceptions::new(exceptions_among(alloc, &alone, &bad, overrides, zones)?))
+    let alone = Alone::of(alloc, event, zones)?;
+    Ok(Exceptions::new(exceptions_among(alloc, &alone, overrides, zones)?))
 }
 
 fn overrides_in(event: &Tree) -> Option<&[Member]>
@@ -109,18 +111,17 @@ fn few_members(members: &[Member]) -> Option<&[Member]>
 #[tactic(auto, using(spec_json::proofs::Appending::push_option))]
 fn exceptions_among(
     alloc: Global,
-    alone: &Tree,
-    bad: &[Text],
+    alone: &Alone,
     overrides: &[Member],
     zones: &Zones,
 ) -> Result<Vec<Exception>, OverrideError>
-    requires { bad.now ≡ bad_event_properties zones.now (data_of alone.now) }
-    ensures value { IfOk result (λ v. all_some (exception_in zones.now (members_in (data_of alone.now))) (map pair_of overrides.now) ≡ Some v.items) }
-    ensures err { IfErr result (λ error. ReportsAmong error (first_refused zones.now (members_in (data_of alone.now)) (map pair_of overrides.now))) }
+    requires { IsTested alone.now zones.now }
+    ensures value { IfOk result (λ v. all_some (exception_in zones.now (members_in (data_of alone.now.event))) (map pair_of overrides.now) ≡ Some v.items) }
+    ensures err { IfErr result (λ error. ReportsAmong error (first_refused zones.now (members_in (data_of alone.now.event)) (map pair_of overrides.now))) }
 {
     let mut exceptions = Vec::with_capacity(alloc, overrides.len())?;
     for member in overrides {
-        match exception_in(alloc, alone, bad, member, zones)? {
+        match exception_in(alloc, alone, member, zones)? {
             Some(Exception { rid, replaced }) => exceptions.push(Exception { rid, replaced })?,
             None => {
                 return Err(OverrideError::BadOverride {
@@ -135,50 +136,47 @@ fn exceptions_among(
 #[tactic(auto, unfolding(spec_recurrence::specs::Overrides::exception_in))]
 fn exception_in(
     alloc: Global,
-    alone: &Tree,
-    bad: &[Text],
+    alone: &Alone,
     member: &Member,
     zones: &Zones,
 ) -> Result<Option<Exception>, AllocError>
-    requires { bad.now ≡ bad_event_properties zones.now (data_of alone.now) }
-    ensures { IfOk result (λ x. x ≡ exception_in zones.now (members_in (data_of alone.now)) (pair_of member.now)) }
+    requires { IsTested alone.now zones.now }
+    ensures { IfOk result (λ x. x ≡ exception_in zones.now (members_in (data_of alone.now.event)) (pair_of member.now)) }
 {
     match member.value.as_object() {
-        Some(patch) => exception_of(alloc, alone, bad, &member.key, patch, zones),
+        Some(patch) => exception_of(alloc, alone, &member.key, patch, zones),
         None => Ok(None),
     }
 }
 
 fn exception_of(
     alloc: Global,
-    alone: &Tree,
-    bad: &[Text],
+    alone: &Alone,
     key: &Text,
     patch: &TreeObject,
     zones: &Zones,
 ) -> Result<Option<Exception>, AllocError>
-    requires { bad.now ≡ bad_event_properties zones.now (data_of alone.now) }
-    ensures { IfOk result (λ x. x ≡ exception_of zones.now (members_in (data_of alone.now)) key.now patch.now) }
+    requires { IsTested alone.now zones.now }
+    ensures { IfOk result (λ x. x ≡ exception_of zones.now (members_in (data_of alone.now.event)) key.now patch.now) }
 {
     match recurrence_id_in(key.as_str().as_bytes()) {
-        Some(rid) => exception_at(alloc, alone, bad, key, patch, zones, rid),
+        Some(rid) => exception_at(alloc, alone, key, patch, zones, rid),
         None => Ok(None),
     }
 }
 
 fn exception_at(
     alloc: Global,
-    alone: &Tree,
-    bad: &[Text],
+    alone: &Alone,
     key: &Text,
     patch: &TreeObject,
     zones: &Zones,
     rid: Wall,
 ) -> Result<Option<Exception>, AllocError>
-    requires { bad.now ≡ bad_event_properties zones.now (data_of alone.now) }
-    ensures { IfOk result (λ x. x ≡ exception_at zones.now key.now patch.now (members_in (data_of alone.now)) rid) }
+    requires { IsTested alone.now zones.now }
+    ensures { IfOk result (λ x. x ≡ exception_at zones.now key.now patch.now (members_in (data_of alone.now.event)) rid) }
 {
-    match replaced_by(alloc, alone, bad, key, patch, zones)? {
+    match replaced_by(alloc, alone, key, patch, zones)? {
         Some(replaced) => Ok(Some(Exception { rid, replaced })),
         None => Ok(None),
     }
@@ -206,19 +204,18 @@ fn if_showing(wall: Wall) -> Option<Wall>
 // What stands in the place of the occurrence, which is nothing where it is excluded.
 fn replaced_by(
     alloc: Global,
-    alone: &Tree,
-    bad: &[Text],
+    alone: &Alone,
     key: &Text,
     patch: &TreeObject,
     zones: &Zones,
 ) -> Result<Option<Option<Span>>, AllocError>
-    requires { bad.now ≡ bad_event_properties zones.now (data_of alone.now) }
-    ensures { IfOk result (λ r. r ≡ replaced_by zones.now key.now patch.now (members_in (data_of alone.now)) (is_excluded (lookup (codes "excluded") patch.now))) }
+    requires { IsTested alone.now zones.now }
+    ensures { IfOk result (λ r. r ≡ replaced_by zones.now key.now patch.now (members_in (data_of alone.now.event)) (is_excluded (lookup (codes "excluded") patch.now))) }
 {
     match patch.get("excluded") {
         Some(Tree::Truth(true)) => Ok(Some(None)),
         None | Some(Tree::Truth(false)) | Some(Tree::Null) => {
-            replacement(alloc, alone, bad, key, patch, zones)
+            replacement(alloc, alone, key, patch, zones)
         }
         Some(_) => Ok(None),
     }
@@ -226,16 +223,15 @@ fn replaced_by(
 
 fn replacement(
     alloc: Global,
-    alone: &Tree,
-    bad: &[Text],
+    alone: &Alone,
     key: &Text,
     patch: &TreeObject,
     zones: &Zones,
 ) -> Result<Option<Option<Span>>, AllocError>
-    requires { bad.now ≡ bad_event_properties zones.now (data_of alone.now) }
-    ensures { IfOk result (λ r. r ≡ option_map Some (changed_span zones.now key.now (patch_changes patch.now) (members_in (data_of alone.now)))) }
+    requires { IsTested alone.now zones.now }
+    ensures { IfOk result (λ r. r ≡ option_map Some (changed_span zones.now key.now (patch_changes patch.now) (members_in (data_of alone.now.event)))) }
 {
-    match patched_span(alloc, alone, bad, key, patch, zones)? {
+    match patched_span(alloc, alone, key, patch, zones)? {
         Some(span) => Ok(Some(Some(span))),
         None => Ok(None),
     }
@@ -245,57 +241,57 @@ fn replacement(
 #[tactic(auto, using(crate::proofs::OverrideLemmas::no_exclusion))]
 fn patched_span(
     alloc: Global,
-    alone: &Tree,
-    bad: &[Text],
+    alone: &Alone,
     key: &Text,
     patch: &TreeObject,
     zones: &Zones,
 ) -> Result<Option<Span>, AllocError>
-    requires { bad.now ≡ bad_event_properties zones.now (data_of alone.now) }
-    ensures { IfOk result (λ s. s ≡ changed_span zones.now key.now (patch_changes patch.now) (members_in (data_of alone.now))) }
+    requires { IsTested alone.now zones.now }
+    ensures { IfOk result (λ s. s ≡ changed_span zones.now key.now (patch_changes patch.now) (members_in (data_of alone.now.event))) }
 {
     match patch.get("excluded") {
-        None => changed_span(alloc, alone, bad, key, patch, zones),
-        Some(_) => changed_span(alloc, alone, bad, key, &patch_changes(patch)?, zones),
+        None => changed_span(alloc, alone, key, patch, zones),
+        Some(_) => changed_span(alloc, alone, key, &patch_changes(patch)?, zones),
     }
 }
 
+#[tactic(auto, using(crate::proofs::OverrideLemmas::fixed_among_firsts))]
 fn changed_span(
     alloc: Global,
-    alone: &Tree,
-    bad: &[Text],
+    alone: &Alone,
     key: &Text,
     changes: &TreeObject,
     zones: &Zones,
 ) -> Result<Option<Span>, AllocError>
-    requires { bad.now ≡ bad_event_properties zones.now (data_of alone.now) }
-    ensures { IfOk result (λ s. s ≡ changed_span zones.now key.now changes.now (members_in (data_of alone.now))) }
+    requires { IsTested alone.now zones.now }
+    ensures { IfOk result (λ s. s ≡ changed_span zones.now key.now changes.now (members_in (data_of alone.now.event))) }
 {
-    if touches_fixed(alloc, changes.members())? {
+    let firsts = firsts_of(alloc, changes.members())?;
+    if has_fixed(&firsts) {
         return Ok(None);
     }
-    span_of(alloc, alone, bad, key, changes, zones)
+    span_of(alloc, alone, key, changes, &firsts, zones)
 }
 
 // No more of the event is copied than the changes and the tests of dates look at: a valid event may be large.
 #[tactic(auto, using(crate::proofs::OccurrenceLemmas::fails_beyond, crate::proofs::OccurrenceLemmas::part_tells))]
 fn span_of(
     alloc: Global,
-    alone: &Tree,
-    bad: &[Text],
+    alone: &Alone,
     key: &Text,
     changes: &TreeObject,
+    firsts: &[Text],
     zones: &Zones,
 ) -> Result<Option<Span>, AllocError>
-    requires { bad.now ≡ bad_event_properties zones.now (data_of alone.now) }
-    ensures { IfOk result (λ s. s ≡ span_of zones.now (changed_at key.now changes.now (members_in (data_of alone.now)))) }
+    requires tested { IsTested alone.now zones.now }
+    requires firsts { firsts.now ≡ firsts_of changes.now }
+    ensures { IfOk result (λ s. s ≡ span_of zones.now (changed_at key.now changes.now (members_in (data_of alone.now.event)))) }
 {
-    let firsts = firsts_of(alloc, changes.members())?;
-    let _ordered = alone.members_in();
-    if !are_needed(&firsts, bad) {
+    let _ordered = alone.event.members_in();
+    if !are_needed(firsts, &alone.bad) {
         return Ok(None);
     }
-    let part = part_of(alloc, alone, &firsts)?;
+    let part = part_of(alloc, &alone.event, &alone.needed, firsts)?;
     match changed_at(alloc, key, changes, part)? {
         Some(tree) => valid_span(alloc, &tree, zones),
         None => Ok(None),

@@ -1,5 +1,5 @@
 //! The part of an event that a patch looks at.
-ghost use Rattle.std.specs.Prelude.{◌≡◌, IfOk, OnOk, Some, map};
+ghost use Rattle.std.specs.Prelude.{◌≡◌, [], IfOk, OnOk, Some, map};
 ghost use Rattle.spec_json.specs.Parts.{members_in};
 ghost use Rattle.spec_json.specs.Pointer.{parts};
 ghost use Rattle.spec_json.specs.TreeData.{data_of, pair_of};
@@ -58,19 +58,30 @@ fn always_needed() -> &'static [&'static str]
     ]
 }
 
-/// The members of an event that are needed, where a patch has these first parts.
-///
-/// Each is looked up, so the time grows with the patch and not with the event. Takes memory for copies of them.
-pub(crate) fn part_of(
-    alloc: Global,
-    event: &Tree,
-    firsts: &[Text],
-) -> Result<TreeObject, AllocError>
-    ensures { IfOk result (λ o. o ≡ part_with firsts.now (members_in (data_of event.now))) }
+/// The members of an event that are needed, whatever a patch changes. Takes memory for copies of them.
+pub(crate) fn always_part(alloc: Global, event: &Tree) -> Result<TreeObject, AllocError>
+    ensures { IfOk result (λ o. o ≡ part_with [] (members_in (data_of event.now))) }
 {
     let _ordered = event.members_in();
     let mut part = TreeObject::new(Vec::new(alloc));
     put_names(alloc, event, always_needed(), &mut part)?;
+    Ok(part)
+}
+
+/// The members of an event that are needed, where a patch has these first parts and `needed` are those that always are.
+///
+/// No other is looked up, so the time grows with the patch and not with the event. Takes memory for copies of them.
+pub(crate) fn part_of(
+    alloc: Global,
+    event: &Tree,
+    needed: &TreeObject,
+    firsts: &[Text],
+) -> Result<TreeObject, AllocError>
+    requires { needed.now ≡ part_with [] (members_in (data_of event.now)) }
+    ensures { IfOk result (λ o. o ≡ part_with firsts.now (members_in (data_of event.now))) }
+{
+    let _ordered = event.members_in();
+    let mut part = needed.copy()?;
     put_firsts(alloc, event, firsts, &mut part)?;
     Ok(part)
 }

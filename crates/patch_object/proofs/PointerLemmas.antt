@@ -1,6 +1,6 @@
 -- Prefixes of a path, sought among paths in a set.
-use Rattle.std.proofs.Common.{◌≡◌, zero, suc, ◌+◌, ◌<◌, ◌≤◌, ℕ, List, [], ◌∷◌, ◌||◌, Bool, true, false, Ordering, Less, Equal, Greater, length, map, take, string_bytes, arith, sym, ap, refl, ◌∙◌, subst}
-use Rattle.std.proofs.lemmas.Bool.{and_from, and_parts, or_parts}
+use Rattle.std.proofs.Common.{◌≡◌, zero, suc, ◌+◌, ◌<◌, ◌≤◌, ℕ, List, [], ◌∷◌, ◌||◌, ◌⊎◌, ⊎_elim, Bool, true, false, Ordering, Less, Equal, Greater, length, map, take, string_bytes, arith, sym, ap, refl, ◌∙◌, subst}
+use Rattle.std.proofs.lemmas.Bool.{and_from, and_parts, cases_lt, or_parts}
 use Rattle.std.proofs.lemmas.Map.Text.{is_eq-slice_cmp}
 use Rattle.std.proofs.lemmas.Slice.Eq.{bytes_eq-Decides}
 use Rattle.std.specs.BTreeMap.{is_at}
@@ -13,8 +13,9 @@ use Rattle.std.specs.Str.{bytes_eq}
 use Rattle.std.specs.String.{string_cmp}
 use Rattle.std.proofs.Math.Bool.{or_self_left}
 use Rattle.spec_json.specs.Patch.{is_prefix}
-use Rattle.patch_object.specs.Paths.{String, string_parts}
-use Rattle.spec_json.proofs.Booleans.{or_swap}
+use Rattle.patch_object.specs.Paths.{String, has_path, string_parts}
+use Rattle.std.proofs.lemmas.List.{take_all}
+use Rattle.spec_json.proofs.Booleans.{by_bool, or_swap, same_truth}
 
 equal_then : (o p : Ordering) → is_eq (ordering_then o p) ≡ true → (is_eq o ≡ true) × (is_eq p ≡ true)
 equal_then Less p h = cc
@@ -100,6 +101,29 @@ no_prefix path [] none = refl
 no_prefix path (k ∷ ks) none =
     let here : is_prefix (string_parts k) (map string_bytes path) ≡ false = no_prefix_at path k (λ n h. (or_parts (front_at path n k) (list_any (front_at path n) ks) (none n h)).0) (is_prefix (string_parts k) (map string_bytes path)) refl in
     rw here (no_prefix path ks (λ n h. (or_parts (front_at path n k) (list_any (front_at path n) ks) (none n h)).1))
+
+-- a look-up of no parts finds a path without parts alone
+no_front : (path : List String) (keys : List (Vec String)) → list_any (λ e. is_prefix e []) (map string_parts keys) ≡ false → list_any (front_at path 0) keys ≡ false
+no_front [] keys empty = by_bool (list_any (front_at [] 0) keys) (λ e. absurd (let found = found_prefix [] 0 keys e in cc)) (λ e. e)
+no_front (x ∷ xs) keys empty = by_bool (list_any (front_at (x ∷ xs) 0) keys) (λ e. absurd (let found = found_prefix [] 0 keys e in cc)) (λ e. e)
+
+no_front_at : (path : List String) (keys : List (Vec String)) → list_any (λ e. is_prefix e []) (map string_parts keys) ≡ false → ((n : ℕ) → n < length path → 0 < n → list_any (front_at path n) keys ≡ false)
+    → has_path path keys ≡ false → (n : ℕ) → n < length path + 1 → list_any (front_at path n) keys ≡ false
+no_front_at path keys empty none absent zero h = no_front path keys empty
+no_front_at path keys empty none absent (suc n) h = let short : (suc n < length path) ⊎ (length path ≤ suc n) = cases_lt (suc n) (length path) in
+    ⊎_elim (λ l. none (suc n) l (omega arith)) (λ l. ap (λ parts. has_path parts keys) (take_all (suc n) path l) ∙ absent) short
+
+-- where the shorter look-ups find nothing, a path has a prefix exactly where it is there itself
+pub itself_or_none : (path : List String) (keys : List (Vec String)) → list_any (λ e. is_prefix e []) (map string_parts keys) ≡ false → ((n : ℕ) → n < length path → 0 < n → list_any (front_at path n) keys ≡ false)
+    → has_path path keys ≡ list_any (λ e. is_prefix e (map string_bytes path)) (map string_parts keys)
+itself_or_none path keys empty none = same_truth (has_path path keys) (list_any (λ e. is_prefix e (map string_bytes path)) (map string_parts keys))
+    (λ there. found_prefix path (length path) keys (ap (λ parts. has_path parts keys) (take_all (length path) path (omega arith)) ∙ there))
+    (λ prefixed. by_bool (has_path path keys) (λ there. there) (λ absent. absurd (let unprefixed = no_prefix path keys (no_front_at path keys empty none absent) in cc)))
+
+-- a path with parts adds no empty one
+pub with_parts : (path : List (List ℕ)) (b : Bool) → 0 < length path → b ≡ false → (is_prefix path [] || b) ≡ false
+with_parts [] b h e = absurd (omega (arith, h))
+with_parts (p ∷ ps) b h e = e
 
 abbrev path_cmp : Vec String → Vec String → Ordering
 path_cmp x y = slice_cmp string_cmp x.items y.items

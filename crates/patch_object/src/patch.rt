@@ -105,7 +105,7 @@ fn tested_pointer(
         Err(PointerError::NoMemory) => return Err(PatchError::NoMemory),
         Err(PointerError::BadEscape) => return Err(PatchError::InvalidPatch { key: key.copy()? }),
     };
-    if !has_parent_object(tree, pointer.parts()) || earlier.add(alloc, pointer.parts())? {
+    if !has_parent_object(tree, pointer.parts()) || earlier.add(alloc, &pointer)? {
         return Err(PatchError::InvalidPatch { key: key.copy()? });
     }
     Ok(pointer)

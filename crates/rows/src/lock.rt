@@ -6,7 +6,7 @@ use crate::reporting_book::{Answer, Question, Report, ReportingBook, Signature};
 use account_lock::counter::{Add, CounterBook};
 use account_lock::locked::Locked;
 use account_lock::pass::Pass;
-use spec_history::book::Book;
+use spec_books::book::Book;
 use spec_time::moment::Moment;
 use std::alloc::Global;
 use std::process::Abort;

@@ -3,7 +3,7 @@ ghost use Rattle.std.specs.Prelude.{◌≡◌, ◌==◌, [], count_by, slice_get
 ghost use Rattle.rows.specs.Reports.{signature_of};
 
 use account_lock::counter::{self, CounterBook};
-use spec_history::book::Book;
+use spec_books::book::Book;
 use spec_history::entry::Entry;
 use spec_time::moment::Moment;
 use std::alloc::{AllocError, Global};
@@ -70,6 +70,7 @@ impl ReportingBook {
 }
 
 impl Book for ReportingBook {
+    ghost use Rattle.std.specs.Prelude.{None};
     ghost use Rattle.spec_history.specs.Base.{no_base};
     ghost use Rattle.rows.specs.Reports.{answer_of, reported_by, added_signed};
 
@@ -84,6 +85,8 @@ impl Book for ReportingBook {
     ghost answer = { λ z h question moment. answer_of h question };
 
     ghost added = { λ z h question stamp. reported_by h question stamp };
+
+    ghost unkept = { None };
 
     fn act(
         &mut self,

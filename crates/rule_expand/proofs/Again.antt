@@ -17,8 +17,9 @@ use Rattle.spec_series.specs.RuleLimits.{is_empty, is_nday, is_nth}
 use Rattle.spec_series.specs.RuleSets.{nth_matches, nday_matches, month_day_matches, month_matches, year_day_matches, counts_in_month, day_matches, is_beyond_month, is_kept, is_moved, is_overflow, moved_from, moves}
 use Rattle.rule_expand.proofs.Cycle.{is_kept-cycle, is_moved-cycle}
 use Rattle.rule_expand.proofs.Places.{and_both, false_true}
-use Rattle.rule_expand.proofs.Sets.{or_cases}
-use Rattle.rule_expand.specs.Repeats.{is_up_to_a_week, is_of_weekdays, repeats_after}
+use Rattle.rule_expand.proofs.Sets.{both_and, or_cases}
+use Rattle.rule_expand.specs.Repeats.{is_up_to_a_week, is_of_weekdays, is_without_place, repeats_after, repeats_weekly}
+use Rattle.std.specs.Option.{is_none}
 
 -- the day a week later
 abbrev pub week_later : ℤ → ℤ
@@ -42,7 +43,7 @@ last-week Weekly w n h = omega (arith, signed_arith)
 last-week Monthly w n h = absurd (false_true h)
 last-week Yearly w n h = absurd (false_true h)
 
-count_days-week : (p : ℤ → Bool) → ((n : ℤ) → p (week_later n) ≡ p n) → (first : ℤ) (k : ℕ) → count_days p (week_later first) k ≡ count_days p first k
+pub count_days-week : (p : ℤ → Bool) → ((n : ℤ) → p (week_later n) ≡ p n) → (first : ℤ) (k : ℕ) → count_days p (week_later first) k ≡ count_days p first k
 unfolding count_days
 count_days-week p h first zero = refl
 count_days-week p h first (suc k) =
@@ -54,23 +55,25 @@ count_from-week p h first last =
     let e : week_later last -ℤ week_later first +ℤ pos 1 ≡ last -ℤ first +ℤ pos 1 = omega (arith, signed_arith) in
     rw e (count_days-week p h first (at_least_zero (last -ℤ first +ℤ pos 1)))
 
-no_nth : (f : Freq) (k : Option ℤ) → is_up_to_a_week f ≡ true → is_nth f k ≡ true → k ≡ None
+no_nth : (f : Freq) (k : Option ℤ) → is_up_to_a_week f ≡ true → is_nth f k ≡ true → is_none k ≡ true
 no_nth f None h g = refl
 no_nth Daily (Some k) h g = absurd (false_true g)
 no_nth Weekly (Some k) h g = absurd (false_true g)
 no_nth Monthly (Some k) h g = absurd (false_true h)
 no_nth Yearly (Some k) h g = absurd (false_true h)
 
-nth-none : (b : Bool) (n m : ℤ) (d : ℕ) (k : Option ℤ) → k ≡ None → nth_matches b m d k ≡ nth_matches b n d k
+nth-none : (b : Bool) (n m : ℤ) (d : ℕ) (k : Option ℤ) → is_none k ≡ true → nth_matches b m d k ≡ nth_matches b n d k
 unfolding nth_matches
 nth-none b n m d None e = refl
-nth-none b n m d (Some k) e = absurd (cc e)
+nth-none b n m d (Some k) e = absurd (false_true e)
 
-nday-week : (f : Freq) (b : Bool) (n : ℤ) (d : NDay) → is_up_to_a_week f ≡ true → is_nday f d ≡ true → nday_matches b (week_later n) d ≡ nday_matches b n d
+nday-week : (b : Bool) (n : ℤ) (d : NDay) → is_without_place d ≡ true → nday_matches b (week_later n) d ≡ nday_matches b n d
 unfolding nday_matches
-nday-week f b n d h g =
-    let none = no_nth f d.nth h (and_both (nat_lt d.day 7) (is_nth f d.nth) g).1 in
-    rw (weekday-week n, nth-none b n (week_later n) d.day d.nth none)
+nday-week b n d g = rw (weekday-week n, nth-none b n (week_later n) d.day d.nth g)
+
+all-more : {A : Type 0} (t u : A → Bool) → ((x : A) → t x ≡ true → u x ≡ true) → (xs : List A) → list_all t xs ≡ true → list_all u xs ≡ true
+all-more t u h [] all = refl
+all-more t u h (x ∷ xs) all = let a = and_both (t x) (list_all t xs) all in rw (h x a.0, all-more t u h xs a.1) refl
 
 any-same : {A : Type 0} (t p r : A → Bool) → ((x : A) → t x ≡ true → p x ≡ r x) → (xs : List A) → list_all t xs ≡ true → list_any p xs ≡ list_any r xs
 any-same t p r h [] all = refl
@@ -84,23 +87,32 @@ empty-any : (p : ℤ → Bool) (xs : List ℤ) → is_empty xs ≡ true → empt
 empty-any p [] h = refl
 empty-any p (x ∷ xs) h = grind (arith, nat_tests)
 
-matches-week : (r : Rule) → is_of_weekdays r ≡ true → (n : ℤ) → day_matches r (week_later n) ≡ day_matches r n
+-- a rule that looks at days of the week alone matches every week the same
+pub weekly_matches : (r : Rule) → repeats_weekly r ≡ true → (n : ℤ) → day_matches r (week_later n) ≡ day_matches r n
 unfolding day_matches
-matches-week r h n =
+weekly_matches r h n =
+    let p = and_both (is_empty r.by_month_day) (is_empty r.by_month && (is_empty r.by_year_day && list_all is_without_place r.by_day)) h in
+    let q = and_both (is_empty r.by_month) (is_empty r.by_year_day && list_all is_without_place r.by_day) p.1 in
+    let u = and_both (is_empty r.by_year_day) (list_all is_without_place r.by_day) q.1 in
+    let b = counts_in_month r.frequency r.by_month in
+    rw (
+      empty-same is_without_place (nday_matches b (week_later n)) (nday_matches b n) (λ d g. nday-week b n d g) r.by_day u.1,
+      empty-any (month_day_matches (week_later n)) r.by_month_day p.0,
+      empty-any (month_matches (week_later n)) r.by_month q.0,
+      empty-any (year_day_matches (week_later n)) r.by_year_day u.0,
+      empty-any (month_day_matches n) r.by_month_day p.0,
+      empty-any (month_matches n) r.by_month q.0,
+      empty-any (year_day_matches n) r.by_year_day u.0,
+    ) refl
+
+matches-week : (r : Rule) → is_of_weekdays r ≡ true → (n : ℤ) → day_matches r (week_later n) ≡ day_matches r n
+matches-week r h =
     let p = and_both (is_up_to_a_week r.frequency) (is_empty r.by_month_day && (is_empty r.by_month && is_empty r.by_year_day)) h in
     let q = and_both (is_empty r.by_month_day) (is_empty r.by_month && is_empty r.by_year_day) p.1 in
     let u = and_both (is_empty r.by_month) (is_empty r.by_year_day) q.1 in
     let limits = and_both (list_all (is_nday r.frequency) r.by_day) _ r.by_parts_in in
-    let b = counts_in_month r.frequency r.by_month in
-    rw (
-      empty-same (is_nday r.frequency) (nday_matches b (week_later n)) (nday_matches b n) (λ d g. nday-week r.frequency b n d p.0 g) r.by_day limits.0,
-      empty-any (month_day_matches (week_later n)) r.by_month_day q.0,
-      empty-any (month_matches (week_later n)) r.by_month u.0,
-      empty-any (year_day_matches (week_later n)) r.by_year_day u.1,
-      empty-any (month_day_matches n) r.by_month_day q.0,
-      empty-any (month_matches n) r.by_month u.0,
-      empty-any (year_day_matches n) r.by_year_day u.1,
-    ) refl
+    let all = all-more (is_nday r.frequency) is_without_place (λ d g. no_nth r.frequency d.nth p.0 (and_both (nat_lt d.day 7) (is_nth r.frequency d.nth) g).1) r.by_day limits.0 in
+    weekly_matches r (both_and (is_empty r.by_month_day) _ q.0 (both_and (is_empty r.by_month) _ u.0 (both_and (is_empty r.by_year_day) _ u.1 all)))
 
 kept-week : (r : Rule) → is_of_weekdays r ≡ true → (n : ℤ) → is_kept r (week_later n) ≡ is_kept r n
 unfolding is_kept

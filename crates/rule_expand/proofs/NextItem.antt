@@ -37,7 +37,8 @@ later_last f d n after j e le l =
     let own = own_period f d n (omega (arith, signed_arith, e)) (omega (arith, signed_arith, e, l, le)) in
     omega (arith, signed_arith, last_same f 0 n d own, l, e, le)
 
-asked : {A : Type 0} (p : A → Bool) (xs : List A) → 0 < length xs → empty_or_any p xs ≡ list_any p xs
+-- where a part has items, one of them passes
+pub asked : {A : Type 0} (p : A → Bool) (xs : List A) → 0 < length xs → empty_or_any p xs ≡ list_any p xs
 asked p [] h = absurd (omega (arith, h))
 asked p (x ∷ xs) h = refl
 

@@ -8,7 +8,7 @@ ghost use Rattle.rule_expand.specs.Walk.{IsFirstMatch, IsFirstPlain, NonePlain};
 
 use crate::dated::{Dated, next, next_month, with_date};
 use crate::next_item::days_to_item;
-use crate::occurs::{Around, ahead, in_month_days, in_months, in_weekdays, in_year};
+use crate::occurs::{Around, ahead, in_month_days, in_months, in_weekdays, in_year, names_all};
 use spec_series::by_part::Freq;
 use spec_series::rule::Rule;
 
@@ -55,6 +55,12 @@ fn is_weekday(rule: &Rule, at: Dated) -> bool
     ensures { result ≡ empty_or_any (nday_matches (counts_in_month rule.now.frequency rule.now.by_month) at.day) rule.now.by_day }
 {
     if rule.by_day.items().is_empty() {
+        return true;
+    }
+    if !rule.by_day.has_weekday(at.weekday) {
+        return false;
+    }
+    if names_all(&rule.by_day, at.weekday) {
         return true;
     }
     let scope = scope_of(rule, at);

@@ -4,7 +4,7 @@ ghost use Rattle.spec_series.specs.RuleSets.{is_in_set};
 ghost use Rattle.spec_series.specs.SeriesLimits.{is_named};
 ghost use Rattle.spec_time.specs.Walls.{second_of_wall};
 ghost use Rattle.spec_time.specs.Floor.{floor_div};
-ghost use Rattle.rule_expand.specs.Later.{IsLaterRid, IsLaterOwn, IsLaterOne, IsOwnSecond, IsUntil, is_after, is_sooner, is_until, sooner, started, IsFirstOf, IsLater, IsLaterAt};
+ghost use Rattle.rule_expand.specs.Later.{IsLaterRid, IsLaterOwn, IsLaterOne, IsOwnSecond, IsUntil, is_after, is_sooner, is_until, may_come_first, sooner, started, IsFirstOf, IsLater, IsLaterAt};
 ghost use Rattle.rule_expand.specs.Near.{IsNear};
 ghost use Rattle.rule_expand.specs.Sets.{is_in_bound, is_regular, is_up_to, IsFirstFrom, IsNearBound};
 ghost use Rattle.spec_series.specs.declared.rule.Rule.{Rule};
@@ -191,13 +191,29 @@ fn replacement(x: &Exception, from: i64, past: Option<i64>) -> Option<Occurrence
     })
 }
 
-// The first of those that the exceptions give.
+// Whether what an exception gives may start at a wall second or later, and no later than what was found.
+fn may_come_first(x: &Exception, from: i64, best: &Option<Occurrence>) -> bool
+    ensures { result ≡ may_come_first from x.now.replaced best.now }
+{
+    let Some(span) = x.replaced else {
+        return false;
+    };
+    let start = span.start.seconds();
+    match best {
+        None => from <= start,
+        Some(found) => from <= start && start <= found.start.seconds(),
+    }
+}
+
+// The first of those that the exceptions give. What can't come first isn't made.
 fn next_replacement(exceptions: &[Exception], from: i64, past: Option<i64>) -> Option<Occurrence>
     ensures { IsFirstOf (λ o. (k : ℕ) × IsLaterAt from past exceptions.now k o) result }
 {
     let mut best = None;
     for x in exceptions {
-        best = sooner_of(best, replacement(x, from, past));
+        if may_come_first(x, from, &best) {
+            best = sooner_of(best, replacement(x, from, past));
+        }
     }
     best
 }

@@ -1,8 +1,7 @@
 //! The next day that is due: one that a period in phase gives.
-ghost use Rattle.std.specs.Prelude.{[], ◌^◌, unsigned_abs, ◌&&◌, ℕ, ◌≡◌, ◌+◌, ◌-◌, ◌+ℤ◌, ◌*◌, ◌-ℤ◌, ◌*ℤ◌, ◌<◌, ◌≤◌, ◌<ℤ◌, ℤ, pos, true, IfSome, IsNone};
+ghost use Rattle.std.specs.Prelude.{[], ◌^◌, unsigned_abs, ℕ, ◌≡◌, ◌+◌, ◌-◌, ◌+ℤ◌, ◌*◌, ◌-ℤ◌, ◌*ℤ◌, ◌<◌, ◌≤◌, ◌<ℤ◌, ◌≤ℤ◌, ℤ, pos, true, IfSome, IsNone};
 ghost use Rattle.std.specs.Int.{IsInRange};
 ghost use Rattle.spec_series.specs.Periods.{period_number};
-ghost use Rattle.spec_series.specs.Places.{empty_or_any, is_place};
 ghost use Rattle.spec_series.specs.RuleSets.{is_kept, is_moved, is_overflow, moved_from};
 ghost use Rattle.spec_time.specs.CivilDay.{day_number};
 ghost use Rattle.spec_time.specs.Floor.{floor_div, modulo};
@@ -271,13 +270,21 @@ pub(crate) fn next_day(rule: &Rule, start_day: i64, after: i64, bound: Bound) ->
     None
 }
 
-// Whether a matching day at a place of its period lies after another and is kept.
-fn has_kept_place(rule: &Rule, place: u32, total: u32, late: bool) -> bool
-    requires place { place ≤ total }
-    requires total { total ≤ 367 }
-    ensures { result ≡ (late && empty_or_any (is_place place (total + 1 - place)) rule.now.by_set) }
+// How many of the days of a period, of which it has so many from the first on, don't lie after another.
+fn days_up_to(first: i64, count: u32, after: i64) -> u32
+    requires near { IsNear 2199023248000 first }
+    requires small { count ≤ 367 }
+    ensures bound { result ≤ count }
+    ensures early { (k : ℕ) → k < result → (first +ℤ pos k) ≤ℤ after }
+    ensures late { (k : ℕ) → result ≤ k → k < count → after <ℤ (first +ℤ pos k) }
 {
-    late && in_month_days(&rule.by_set, place, total + 1 - place)
+    if after < first {
+        return 0;
+    }
+    if after >= first + i64::from(count) {
+        return count;
+    }
+    (after - first) as u32 + 1
 }
 
 // The place of the first day after another that is kept, of the days of a period.
@@ -288,16 +295,18 @@ fn first_kept_place(rule: &Rule, first: i64, count: u32, after: i64) -> Option<u
     ensures none { IsNone result → NoneKept rule.now after first count }
     ensures some { IfSome result (IsFirstKept rule.now after first count) }
 {
-    let total = count_matching(rule, first, count);
-    let mut place: u32 = 0;
-    let mut at = with_date(first);
-    for k in 0..count {
+    let passed = days_up_to(first, count, after);
+    let from = ahead(first, passed);
+    let mut place = count_matching(rule, first, passed);
+    let total = place + count_matching(rule, from, count - passed);
+    let mut at = with_date(from);
+    for k in passed..count {
         if matches(rule, at) {
             if place >= total {
                 return None;
             }
             place += 1;
-            if has_kept_place(rule, place, total, after < at.day) {
+            if in_month_days(&rule.by_set, place, total + 1 - place) {
                 return Some(k);
             }
         }

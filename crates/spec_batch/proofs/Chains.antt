@@ -1,12 +1,15 @@
 -- Sessions follow one another.
-use Rattle.std.proofs.Common.{◌≡◌, ℕ, ℤ, ◌+◌, ◌<◌, ◌≤◌, ◌==◌, List, [], ◌∷◌, ◌++◌, length, take, drop, flat_map, sym, refl, ap, ◌∙◌, subst, arith, length-append, length-drop, inl, inr, append_assoc, append-nil, eq-eqb, ne_eqb}
+use Rattle.std.proofs.Common.{◌≡◌, ℕ, ℤ, ◌+◌, ◌<◌, ◌≤◌, ◌==◌, List, [], ◌∷◌, ◌++◌, Option, None, IfSome, length, take, drop, flat_map, sym, refl, ap, ◌∙◌, subst, arith, length-append, length-drop, inl, inr, append_assoc, append-nil, eq-eqb, ne_eqb}
 use Rattle.std.proofs.lemmas.List.{take-append-le, drop-append-le}
+use Rattle.std.proofs.lemmas.Grind.{flat_map-append}
 use Rattle.std.proofs.lemmas.List.Elements.{filter-append}
 use Rattle.std.proofs.Math.Seq.{drop-append_seam, take-append_seam}
 use mathlib.Core.Logic.{dite}
 use native.Mathlib.Decide.{ℕ_discrete}
+use Rattle.spec_books.proofs.ActLemmas.{acts_kept, came_signed}
+use Rattle.spec_books.specs.Acting.{Acts}
 use Rattle.spec_history.specs.Base.{Base}
-use Rattle.spec_batch.specs.Chain.{Rules, Shown, Made, on, stamp_of, added_by, Stands, Stand, SummaryOn, Summary, IsStep, Chain, Answered, Missed, Stops}
+use Rattle.spec_batch.specs.Chain.{Rules, Shown, Made, on, stamp_of, Stands, Stand, SummaryOn, Summary, IsStep, Chain, Answered, Missed, Stops}
 use Rattle.spec_history.specs.MostTurns.{most_turns}
 use Rattle.spec_history.specs.Signed.{AreSigned, written_by}
 use Rattle.spec_calls.specs.declared.call.Call.{Call}
@@ -14,7 +17,6 @@ use Rattle.spec_batch.specs.declared.desk.DeskError.{DeskError}
 use Rattle.spec_batch.specs.declared.desk.DeskError.TheVariants.{PassSpent, NoMemory}
 use Rattle.spec_calls.specs.declared.call.Reply.{Reply}
 use Rattle.spec_history.specs.declared.entry.Entry.{Entry}
-use Rattle.spec_history.specs.declared.stamp.Stamp.{Stamp}
 
 -- entries that an author signed are all by that author
 pub all_written_by : (author turn : ℕ) (es : List Entry) → AreSigned author turn es → written_by author es ≡ es
@@ -22,14 +24,26 @@ all_written_by author turn [] signed = refl
 all_written_by author turn (e ∷ es) signed = rw (eq-eqb e.author author signed.0) (ap (λ (l : List Entry). e ∷ l) (all_written_by author turn es signed.2))
 
 module _ (rules : Rules) (base : Base) (author : ℕ) where
-  -- what a call added is the same, however the history goes on
-  added_longer : (h more : List Entry) (m : Made) → m.reply.place ≤ length h → added_by rules base author (h ++ more) m ≡ added_by rules base author h m
-  added_longer h more m within = ap (λ (l : List Entry). rules.added base l m.call (stamp_of rules base author m)) (take-append-le m.reply.place h more within)
+  abbrev acts_at : List Entry → Made → Type 0
+  acts_at h m = Acts rules.answer rules.added rules.unkept base h m.call (stamp_of rules base author m) m.reply m.came
 
-  ends_within : (h : List Entry) (from late : ℕ) (m : Made) → Stands rules base author h from late m → m.reply.place + length (added_by rules base author h m) ≤ length h
+  -- where all is kept a reply is the answer, and what the call adds came
+  pub stands_kept : rules.unkept ≡ None → (h : List Entry) (from late : ℕ) (m : Made) → Stands rules base author h from late m
+      → (m.reply ≡ rules.answer base (take m.reply.place h) m.call m.moment) × (m.came ≡ rules.added base (take m.reply.place h) m.call (stamp_of rules base author m))
+  stands_kept kept h from late m s = acts_kept rules.answer rules.added rules.unkept base (take m.reply.place h) m.call (stamp_of rules base author m) m.reply kept m.came s.acts
+
+  -- a reply says how many entries went before, whether it is the answer or tells what could not be kept
+  acts_placed : (h : List Entry) (m : Made) → acts_at h m → m.reply.place ≡ length h
+  acts_placed h m (inl p) = ap (λ (r : Reply). r.place) p.0 ∙ rules.placed base h m.call m.moment
+  acts_placed h m (inr p) =
+      let told = p.0 in
+      let law : (g : List Entry) → (told.0 g).place ≡ length g = subst (λ (u : Option (List Entry → Reply)). IfSome u (λ f. (g : List Entry) → (f g).place ≡ length g)) told.1 rules.unkept_placed in
+      ap (λ (r : Reply). r.place) told.2 ∙ law h
+
+  pub ends_within : (h : List Entry) (from late : ℕ) (m : Made) → Stands rules base author h from late m → m.reply.place + length m.came ≤ length h
   ends_within h from late m s =
       let f = s.follows in
-      let e = ap length f.1 ∙ length-append (added_by rules base author h m) f.0 in
+      let e = ap length f.1 ∙ length-append m.came f.0 in
       let d = length-drop m.reply.place h in
       let w = s.within in
       omega arith
@@ -41,12 +55,8 @@ module _ (rules : Rules) (base : Base) (author : ℕ) where
       record {
         low = s.low;
         within = omega (arith, length-append h more);
-        reply = s.reply ∙ ap (λ (l : List Entry). rules.answer base l m.call m.moment) (sym (take-append-le m.reply.place h more within));
-        follows = (
-          f.0 ++ more,
-          drop-append-le m.reply.place h more within
-              ∙ (ap (λ (l : List Entry). l ++ more) f.1 ∙ (append_assoc (added_by rules base author h m) f.0 more ∙ ap (λ (l : List Entry). l ++ (f.0 ++ more)) (sym (added_longer h more m within)))),
-        );
+        acts = subst (λ (l : List Entry). acts_at l m) (sym (take-append-le m.reply.place h more within)) s.acts;
+        follows = (f.0 ++ more, drop-append-le m.reply.place h more within ∙ (ap (λ (l : List Entry). l ++ more) f.1 ∙ append_assoc m.came f.0 more));
         later = s.later;
       }
 
@@ -56,25 +66,12 @@ module _ (rules : Rules) (base : Base) (author : ℕ) where
       let one = s.0 in
       let l = one.low in
       let t = one.later in
-      (record { low = omega arith; within = one.within; reply = one.reply; follows = one.follows; later = omega arith }, s.1)
+      (record { low = omega arith; within = one.within; acts = one.acts; follows = one.follows; later = omega arith }, s.1)
 
   stand_join : (h more : List Entry) (from late mid upto : ℕ) (xs ys : List Made) → from ≤ length h → Stand rules base author h from late mid xs → Stand rules base author (h ++ more) (length h) mid upto ys → Stand rules base author (h ++ more) from late upto (xs ++ ys)
   stand_join h more from late mid upto [] ys p s t = stand_lower (h ++ more) (length h) from mid late upto ys p s t
   stand_join h more from late mid upto (x ∷ xs) ys p s t =
-      let rest = stand_join h more (x.reply.place + length (added_by rules base author h x)) x.turn mid upto xs ys (ends_within h from late x s.0) s.1 t in (
-        stands_longer h more from late x s.0,
-        subst (λ (l : List Entry). Stand rules base author (h ++ more) (x.reply.place + length l) x.turn upto (xs ++ ys)) (sym (added_longer h more x s.0.within)) rest,
-      )
-
-  all_added_join : (h more : List Entry) (from late mid : ℕ) (xs ys : List Made) → Stand rules base author h from late mid xs
-      → flat_map (added_by rules base author (h ++ more)) (xs ++ ys) ≡ flat_map (added_by rules base author h) xs ++ flat_map (added_by rules base author (h ++ more)) ys
-  all_added_join h more from late mid [] ys s = refl
-  all_added_join h more from late mid (x ∷ xs) ys s =
-      let e = added_longer h more x s.0.within in
-      let rest = all_added_join h more (x.reply.place + length (added_by rules base author h x)) x.turn mid xs ys s.1 in
-      let both : added_by rules base author (h ++ more) x ++ flat_map (added_by rules base author (h ++ more)) (xs ++ ys)
-      ≡ added_by rules base author h x ++ (flat_map (added_by rules base author h) xs ++ flat_map (added_by rules base author (h ++ more)) ys) = λ k. e k ++ rest k in
-      both ∙ sym (append_assoc (added_by rules base author h x) (flat_map (added_by rules base author h) xs) (flat_map (added_by rules base author (h ++ more)) ys))
+      (stands_longer h more from late x s.0, stand_join h more (x.reply.place + length x.came) x.turn mid upto xs ys (ends_within h from late x s.0) s.1 t)
 
   join_on : (b m a : List Entry) (late mid upto : ℕ) (xs ys : List Made) → SummaryOn rules base author b m late mid xs → SummaryOn rules base author m a mid upto ys → SummaryOn rules base author b a late upto (xs ++ ys)
   join_on b m a late mid upto xs ys s t =
@@ -84,11 +81,10 @@ module _ (rules : Rules) (base : Base) (author : ℕ) where
       let m_is : m ≡ b ++ u = s.grows.1 in
       let short : length b ≤ length m = (let e = ap length m_is ∙ length-append b u in omega arith) in
       let stand : Stand rules base author (m ++ r) (length m) mid upto ys = subst (λ (h : List Entry). Stand rules base author h (length m) mid upto ys) is t.stand in
-      let own2 : written_by author r ≡ flat_map (added_by rules base author (m ++ r)) ys =
-      ap (written_by author) (sym (ap (drop (length m)) is ∙ drop-append_seam m r)) ∙ (t.own ∙ ap (λ (h : List Entry). flat_map (added_by rules base author h) ys) is) in
-      let own : written_by author (drop (length b) (m ++ r)) ≡ flat_map (added_by rules base author (m ++ r)) (xs ++ ys) =
+      let own2 : written_by author r ≡ flat_map (λ (x : Made). x.came) ys = ap (written_by author) (sym (ap (drop (length m)) is ∙ drop-append_seam m r)) ∙ t.own in
+      let own : written_by author (drop (length b) (m ++ r)) ≡ flat_map (λ (x : Made). x.came) (xs ++ ys) =
       ap (written_by author) (drop-append-le (length b) m r short)
-      ∙ (filter-append (λ (e : Entry). e.author == author) (drop (length b) m) r ∙ ((λ k. s.own k ++ own2 k) ∙ sym (all_added_join m r (length b) late mid xs ys s.stand))) in
+      ∙ (filter-append (λ (e : Entry). e.author == author) (drop (length b) m) r ∙ ((λ k. s.own k ++ own2 k) ∙ sym (flat_map-append (λ (x : Made). x.came) xs ys))) in
       subst (λ (h : List Entry). SummaryOn rules base author b h late upto (xs ++ ys)) (sym is) (record {
         grows = (u ++ r, ap (λ (h : List Entry). h ++ r) m_is ∙ append_assoc b u r);
         stand = stand_join m r (length b) late mid upto xs ys short s.stand stand;
@@ -103,32 +99,30 @@ module _ (rules : Rules) (base : Base) (author : ℕ) where
     own = ap (written_by author) (drop-append_seam b between) ∙ others;
   }
 
-  one_on : (b between : List Entry) (late : ℕ) (m : Made) → written_by author between ≡ [] → m.reply ≡ rules.answer base (b ++ between) m.call m.moment → late < m.turn
-      → SummaryOn rules base author b ((b ++ between) ++ rules.added base (b ++ between) m.call (stamp_of rules base author m)) late m.turn (m ∷ [])
-  one_on b between late m others reply less =
+  one_on : (b between : List Entry) (late : ℕ) (m : Made) → written_by author between ≡ [] → acts_at (b ++ between) m → late < m.turn → SummaryOn rules base author b ((b ++ between) ++ m.came) late m.turn (m ∷ [])
+  one_on b between late m others acts less =
       let h : List Entry = b ++ between in
-      let s : Stamp = stamp_of rules base author m in
-      let xs : List Entry = rules.added base h m.call s in
-      let a : List Entry = h ++ xs in
-      let place : m.reply.place ≡ length h = ap (λ (r : Reply). r.place) reply ∙ rules.placed base h m.call m.moment in
-      let before : take m.reply.place a ≡ h = ap (λ (n : ℕ). take n a) place ∙ take-append_seam h xs in
-      let after : drop m.reply.place a ≡ xs = ap (λ (n : ℕ). drop n a) place ∙ drop-append_seam h xs in
-      let adds : added_by rules base author a m ≡ xs = ap (λ (l : List Entry). rules.added base l m.call s) before in
+      let a : List Entry = h ++ m.came in
+      let place : m.reply.place ≡ length h = acts_placed h m acts in
+      let before : take m.reply.place a ≡ h = ap (λ (n : ℕ). take n a) place ∙ take-append_seam h m.came in
+      let after : drop m.reply.place a ≡ m.came = ap (λ (n : ℕ). drop n a) place ∙ drop-append_seam h m.came in
+      let signed : AreSigned author m.turn m.came =
+      came_signed rules.answer rules.added rules.unkept base h m.call (stamp_of rules base author m) m.reply m.came (rules.signed base h m.call (stamp_of rules base author m)) acts in
       record {
-        grows = (between ++ xs, append_assoc b between xs);
+        grows = (between ++ m.came, append_assoc b between m.came);
         stand = (
           record {
             low = (let e = length-append b between in omega arith);
-            within = (let e = length-append h xs in omega arith);
-            reply = reply ∙ ap (λ (l : List Entry). rules.answer base l m.call m.moment) (sym before);
-            follows = ([], after ∙ (sym adds ∙ sym (append-nil (added_by rules base author a m))));
+            within = (let e = length-append h m.came in omega arith);
+            acts = subst (λ (l : List Entry). acts_at l m) (sym before) acts;
+            follows = ([], after ∙ sym (append-nil m.came));
             later = less;
           },
           omega arith,
         );
-        own = ap (λ (l : List Entry). written_by author (drop (length b) l)) (append_assoc b between xs)
-            ∙ (ap (written_by author) (drop-append_seam b (between ++ xs)) ∙ (filter-append (λ (e : Entry). e.author == author) between xs
-            ∙ (ap (λ (l : List Entry). l ++ written_by author xs) others ∙ (all_written_by author m.turn xs (rules.signed base h m.call s) ∙ (sym adds ∙ sym (append-nil (added_by rules base author a m)))))));
+        own = ap (λ (l : List Entry). written_by author (drop (length b) l)) (append_assoc b between m.came)
+            ∙ (ap (written_by author) (drop-append_seam b (between ++ m.came)) ∙ (filter-append (λ (e : Entry). e.author == author) between m.came
+            ∙ (ap (λ (l : List Entry). l ++ written_by author m.came) others ∙ (all_written_by author m.turn m.came signed ∙ sym (append-nil m.came)))));
       }
 
 -- ---- states
@@ -161,9 +155,9 @@ pub stop_of : (these those : ℕ → Call → Type 0) (moment : ℤ) (e : DeskEr
 stop_of these those moment e s t also (inl p) = inl p
 stop_of these those moment e s t also (inr p) = inr (p.0, p.1, also p.0 p.1 p.2, p.3)
 
--- the call that was answered
+-- the call that was answered and left this state
 abbrev pub made_of : Shown → ℕ → Call → ℤ → Reply → Made
-made_of t k call moment reply = record { account = k; turn = t.last k; call = call; moment = moment; reply = reply }
+made_of t k call moment reply = record { account = k; turn = t.last k; call = call; moment = moment; reply = reply; came = drop reply.place (t.seen k) }
 
 -- ---- what follows of a chain
 
@@ -189,12 +183,14 @@ summaries_join s t u xs ys p q = record {
 one_call : (s t : Shown) (k : ℕ) (call : Call) (moment : ℤ) (reply : Reply) → Answered s t k call moment reply → Summary s t (made_of t k call moment reply ∷ [])
 one_call s t k call moment reply g =
     let m : Made = made_of t k call moment reply in
-    let stamp : Stamp = record { author = s.author k; turn = t.last k; moment = moment } in
+    let of_came : List Entry → Made = λ (es : List Entry). record { account = k; turn = t.last k; call = call; moment = moment; reply = reply; came = es } in
     let between = g.begins.0 in
     let h_is : g.history ≡ s.seen k ++ between = g.begins.1 in
-    let answer_is : reply ≡ s.rules.answer (s.base k) (s.seen k ++ between) call moment = g.replied ∙ ap (λ (l : List Entry). s.rules.answer (s.base k) l call moment) h_is in
-    let seen_is : t.seen k ≡ (s.seen k ++ between) ++ s.rules.added (s.base k) (s.seen k ++ between) call stamp = g.seen ∙ ap (λ (l : List Entry). l ++ s.rules.added (s.base k) l call stamp) h_is in
-    let one = one_on s.rules (s.base k) (s.author k) (s.seen k) between (s.last k) m g.begins.2 answer_is g.later in
+    let placed : reply.place ≡ length g.history = acts_placed s.rules (s.base k) (s.author k) g.history (of_came g.came) g.acts in
+    let came_is : m.came ≡ g.came = (λ i. drop (placed i) (g.seen i)) ∙ drop-append_seam g.history g.came in
+    let acts : acts_at s.rules (s.base k) (s.author k) (s.seen k ++ between) m = subst (λ (y : List Entry × List Entry). acts_at s.rules (s.base k) (s.author k) y.0 (of_came y.1)) (λ i. (h_is i, sym came_is i)) g.acts in
+    let seen_is : t.seen k ≡ (s.seen k ++ between) ++ m.came = g.seen ∙ (λ i. h_is i ++ sym came_is i) in
+    let one = one_on s.rules (s.base k) (s.author k) (s.seen k) between (s.last k) m g.begins.2 acts g.later in
     record {
       accounts = g.beside.accounts;
       rules = g.beside.rules;
@@ -208,7 +204,7 @@ one_call s t k call moment reply g =
 
 one_step : (s t : Shown) (m : Made) → IsStep s t m → Summary s t (m ∷ [])
 one_step s t m p =
-    let is : made_of t m.account m.call m.moment m.reply ≡ m = λ i. record { account = m.account; turn = p.1 i; call = m.call; moment = m.moment; reply = m.reply } in
+    let is : made_of t m.account m.call m.moment m.reply ≡ m = λ i. record { account = m.account; turn = p.1 i; call = m.call; moment = m.moment; reply = m.reply; came = p.2 i } in
     subst (λ (x : Made). Summary s t (x ∷ [])) is (one_call s t m.account m.call m.moment m.reply p.0.1)
 
 pub summary : (s t : Shown) (ms : List Made) → Chain s t ms → Summary s t ms

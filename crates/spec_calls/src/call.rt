@@ -165,6 +165,8 @@ pub enum MethodError {
     CannotCalculateChanges,
     /// The changes are more than the client takes.
     TooManyChanges,
+    /// What the call would change could not be kept.
+    ServerFail,
 }
 
 /// What a call is answered.

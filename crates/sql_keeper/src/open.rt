@@ -4,7 +4,7 @@ use crate::insert::insertion;
 use crate::read_back::reading;
 use crate::sql_keeper::SqlKeeper;
 use crate::tables::{Found, VERSION, prepare};
-use sqlite::{Alter, Connection, Error, ErrorCode, File, FileStore, Options, Unknown};
+use sqlite::{Alter, Connection, Error, ErrorCode, File, FileStore, Options, Unknown, params};
 use sqlite_std_file::OpenError as PathError;
 use std::alloc::Global;
 use std::hash::{BuildHasher, RandomState};
@@ -25,6 +25,8 @@ pub enum OpenError {
     CannotOpen,
     /// The file is of another program, or no database.
     OtherProgram,
+    /// The file has entries of another account than it is opened for.
+    OtherAccount,
     /// The file has tables of this version, which this program doesn't know.
     OtherVersion(i64),
     /// The database failed.
@@ -76,6 +78,29 @@ pub fn open_keeper<S: Alter + Drop>(
 pub fn open_file(rt: &HostRuntime, name: &str) -> Result<SqlKeeper<FileStore<File>>, OpenError> {
     let conn = connect(rt, name)?;
     open_keeper(rt.alloc(), conn)
+}
+
+/// The keeper over the file of this name, for one account. `OtherAccount` where its first entry is of another one.
+pub fn open_account(
+    rt: &HostRuntime,
+    name: &str,
+    account: &str,
+) -> Result<SqlKeeper<FileStore<File>>, OpenError> {
+    let mut keeper = open_file(rt, name)?;
+    if begins_with_another(&mut keeper.conn, account)? {
+        return Err(OpenError::OtherAccount);
+    }
+    Ok(keeper)
+}
+
+fn begins_with_another<S: Alter>(conn: &mut Connection<S>, account: &str) -> Result<bool, Error> {
+    let others: i64 = conn
+        .query_row(
+            "SELECT COUNT(*) FROM entry WHERE rowid = 1 AND account <> ?1",
+            params![account],
+        )?
+        .get(0)?;
+    Ok(others > 0)
 }
 
 fn connect(rt: &HostRuntime, name: &str) -> Result<Connection<FileStore<File>>, OpenError> {

@@ -1,5 +1,5 @@
 //! A workload on an account.
-ghost use Rattle.std.specs.Prelude.{◌≡◌, ◌≤◌, ◌+◌, ◌-◌, ◌*◌, ◌^◌, IfOk, List, OnOk, pos, count_by, length, map, sum};
+ghost use Rattle.std.specs.Prelude.{◌≡◌, ◌≤◌, ◌+◌, ◌-◌, ◌*◌, ◌^◌, IfOk, List, None, OnOk, pos, count_by, length, map, sum};
 ghost use Rattle.workload.specs.Counts.{count_of_ids, is_refused_as_clash, has_created, next_page_state, state_number};
 ghost use Rattle.spec_calls.specs.declared.call.Reply.{Reply};
 ghost use Rattle.workload.specs.Generated.{page_call, request_calls};
@@ -8,8 +8,8 @@ ghost use Rattle.workload.specs.Work.{ArePages, IsWork, PagesLead, with_call, wi
 use crate::calls::{drawn, page_call, request_call, room_call};
 use crate::counts::{Page, outcome_of, page_of};
 use crate::numbers::Numbers;
+use spec_books::book::Book;
 use spec_calls::call::{Call, Reply};
-use spec_history::book::Book;
 use spec_json::text::Text;
 use spec_time::moment::Moment;
 use std::alloc::{AllocError, Global};
@@ -19,14 +19,14 @@ const AUTHOR: u32 = 0;
 
 /// Creates a room on an account, makes so many requests by the numbers of a generator, which begins with `number`, and asks for what changed.
 ///
-/// Every call has the moment 0. Takes memory for the calls, and for what the account keeps and replies.
+/// Every call has the moment 0. The account is one that keeps what every call adds. Takes memory for the calls, and for what the account keeps and replies.
 pub fn work<B: Book<Call = Call, Reply = Reply>>(
     alloc: Global,
     account: &mut B,
     number: u32,
     size: u32,
 ) -> Result<Numbers, AllocError>
-    requires { PagesLead B.answer B.added }
+    requires { PagesLead B.answer B.added × (B.unkept ≡ None) }
     ensures { IfOk result (λ n. IsWork B.answer B.added (B.base account.old) (B.entries account.old) number size n) }
 {
     ask(account, 1, room_call(alloc)?)?;
@@ -48,6 +48,7 @@ fn make_requests<B: Book<Call = Call, Reply = Reply>>(
     number: u32,
     size: u32,
 ) -> Result<(u64, u64), AllocError>
+    requires { B.unkept ≡ None }
     ensures base { B.base account.new ≡ B.base account.old }
     ensures bookings { IfOk result (λ n. n.0 ≡ count_by has_created (replies B.answer B.added (B.base account.old) 2 (B.entries account.old) (request_calls 1 number size))) }
     ensures clashes { IfOk result (λ n. n.1 ≡ count_by is_refused_as_clash (replies B.answer B.added (B.base account.old) 2 (B.entries account.old) (request_calls 1 number size))) }
@@ -77,6 +78,7 @@ fn count_changed<B: Book<Call = Call, Reply = Reply>>(
     since: Text,
 ) -> Result<u64, AllocError>
     requires lead { PagesLead B.answer B.added }
+    requires kept { B.unkept ≡ None }
     requires short { length (B.entries account.old) ≤ 2 ^ 40 }
     ensures pages { IfOk result (λ n. (pages : List Reply) × ArePages B.answer B.added (B.base account.old) (B.entries account.old) since pages × (n ≡ sum (map count_of_ids pages))) }
     ensures few { IfOk result (λ n. n ≤ 500 * (length (B.entries account.old) - state_number since + 1)) }
@@ -94,7 +96,8 @@ fn ask_page<B: Book<Call = Call, Reply = Reply>>(
     account: &mut B,
     since: Text,
 ) -> Result<Page, AllocError>
-    requires { PagesLead B.answer B.added }
+    requires lead { PagesLead B.answer B.added }
+    requires kept { B.unkept ≡ None }
     ensures base { B.base account.new ≡ B.base account.old }
     ensures entries { OnOk result (B.entries account.new ≡ B.entries account.old) }
     ensures ids { IfOk result (λ page. page.ids ≡ count_of_ids (B.answer (B.base account.old) (B.entries account.old) (page_call since) (pos 0))) }
@@ -111,6 +114,7 @@ fn ask<B: Book<Call = Call, Reply = Reply>>(
     turn: u64,
     call: Call,
 ) -> Result<Reply, AllocError>
+    requires { B.unkept ≡ None }
     ensures base { B.base account.new ≡ B.base account.old }
     ensures reply { IfOk result (λ r. r ≡ B.answer (B.base account.old) (B.entries account.old) call (pos 0)) }
     ensures grown { OnOk result (B.entries account.new ≡ with_call B.answer B.added (B.base account.old) turn (B.entries account.old) call) }

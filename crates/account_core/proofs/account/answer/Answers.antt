@@ -1,24 +1,29 @@
-use Rattle.std.proofs.Common.{◌≡◌, IfOk, subst, sym}
+use Rattle.std.proofs.Common.{refl, subst, sym, IfOk}
+use Rattle.account_core.proofs.KeptLemmas.{looked}
 use Rattle.account_core.specs.Ledger.{base, ledger_entries}
-use Rattle.cal_model.specs.Answer.{answer_to}
+use Rattle.cal_model.specs.Answer.{answer_to, changes_by, entries_from}
+use Rattle.spec_books.specs.Acting.{Came}
+use Rattle.spec_calls.specs.declared.call.Asks.TheVariants.{Availability, Changes, Get, Query, QueryChanges, Set}
 use Rattle.account_core.proofs.account.answer.Goals as goal
 
-pub returns-in-Changes-clause-reply : goal.returns-in-Changes-clause-reply
-returns-in-Changes-clause-reply c =
-    subst (λ asks. IfOk c.changes.result (λ r. r ≡ answer_to (base c.args.ledger.now) (ledger_entries c.args.ledger.now) c.args.stamp.now.moment c.args.call.now.created asks)) (sym c.in-Changes.is) c.changes.ensures
+pub returns-in-Get-clause-came : goal.returns-in-Get-clause-came
+returns-in-Get-clause-came g c =
+    looked g.K.EntryKeeper.unkept (base c.args.ledger.now) (ledger_entries c.args.ledger.now) c.args.call.now c.args.stamp.now (Get c.in-Get.arguments.now) c.get.result c.in-Get.is refl c.get.ensures
 
-pub returns-in-Set-clause-reply : goal.returns-in-Set-clause-reply
-returns-in-Set-clause-reply c =
-    subst (λ asks. IfOk c.set.result (λ r. r ≡ answer_to (base c.args.ledger.now) (ledger_entries c.args.ledger.now) c.args.stamp.now.moment c.args.call.now.created asks)) (sym c.in-Set.is) c.set.ensures.reply
+pub returns-in-Changes-clause-came : goal.returns-in-Changes-clause-came
+returns-in-Changes-clause-came g c =
+    looked g.K.EntryKeeper.unkept (base c.args.ledger.now) (ledger_entries c.args.ledger.now) c.args.call.now c.args.stamp.now (Changes c.in-Changes.arguments.now) c.changes.result c.in-Changes.is refl c.changes.ensures
 
-pub returns-in-Query-clause-reply : goal.returns-in-Query-clause-reply
-returns-in-Query-clause-reply c =
-    subst (λ asks. IfOk c.query.result (λ r. r ≡ answer_to (base c.args.ledger.now) (ledger_entries c.args.ledger.now) c.args.stamp.now.moment c.args.call.now.created asks)) (sym c.in-Query.is) c.query.ensures
+pub returns-in-Query-clause-came : goal.returns-in-Query-clause-came
+returns-in-Query-clause-came g c =
+    looked g.K.EntryKeeper.unkept (base c.args.ledger.now) (ledger_entries c.args.ledger.now) c.args.call.now c.args.stamp.now (Query c.in-Query.arguments.now) c.query.result c.in-Query.is refl c.query.ensures
 
-pub returns-in-QueryChanges-clause-reply : goal.returns-in-QueryChanges-clause-reply
-returns-in-QueryChanges-clause-reply c =
-    subst (λ asks. IfOk c.query_changes.result (λ r. r ≡ answer_to (base c.args.ledger.now) (ledger_entries c.args.ledger.now) c.args.stamp.now.moment c.args.call.now.created asks)) (sym c.in-QueryChanges.is) c.query_changes.ensures
+pub returns-in-QueryChanges-clause-came : goal.returns-in-QueryChanges-clause-came
+returns-in-QueryChanges-clause-came g c =
+    looked g.K.EntryKeeper.unkept (base c.args.ledger.now) (ledger_entries c.args.ledger.now) c.args.call.now c.args.stamp.now (QueryChanges c.in-QueryChanges.arguments.now) c.query_changes.result c.in-QueryChanges.is refl
+    c.query_changes.ensures
 
-pub returns-in-Availability-clause-reply : goal.returns-in-Availability-clause-reply
-returns-in-Availability-clause-reply c =
-    subst (λ asks. IfOk c.availability.result (λ r. r ≡ answer_to (base c.args.ledger.now) (ledger_entries c.args.ledger.now) c.args.stamp.now.moment c.args.call.now.created asks)) (sym c.in-Availability.is) c.availability.ensures
+pub returns-in-Availability-clause-came : goal.returns-in-Availability-clause-came
+returns-in-Availability-clause-came g c =
+    looked g.K.EntryKeeper.unkept (base c.args.ledger.now) (ledger_entries c.args.ledger.now) c.args.call.now c.args.stamp.now (Availability c.in-Availability.arguments.now) c.availability.result c.in-Availability.is refl
+    c.availability.ensures

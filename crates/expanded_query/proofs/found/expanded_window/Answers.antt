@@ -2,8 +2,6 @@ use Rattle.std.proofs.Common.{◌∙◌, ap, map, true}
 use Rattle.std.proofs.lemmas.Result.{IfOk-weaker}
 use Rattle.account_store.specs.Store.{entries}
 use Rattle.event_store.specs.EventsBase.{base_of}
-use Rattle.expanded_query.proofs.WindowLemmas.{cut_map, same_part}
-use Rattle.expanded_query.specs.Founds.{id_at}
 use Rattle.spec_history.specs.History.{changes_of}
 use Rattle.spec_json.specs.Data.{items_of, list, text}
 use Rattle.spec_queries.specs.Found.{window_response}
@@ -11,11 +9,8 @@ use Rattle.expanded_query.proofs.found.expanded_window.Goals as goal
 
 pub returns : goal.returns
 returns c =
-    let results = c.args.results.now in
     IfOk-weaker c.window_tree.result _ _
     (λ t reply ids same all.
-    let told = c.in_ok-ids.ensures
-    ∙ ap (λ rs. list (items_of (map text (map id_at rs)))) c.cut_out.ensures
-    ∙ ap (λ is. list (items_of (map text is))) (cut_map id_at c.args.cut results ∙ same_part c.args.cut (map id_at results) ids same) in
+    let told = c.in_ok-ids.ensures ∙ ap (λ is. list (items_of (map text is))) same in
     reply ∙ (λ i. window_response (base_of c.args.events.now) (changes_of (entries c.args.events.now.store.now)) c.args.paging.now true (told i) (all i) c.args.cut))
     c.window_tree.ensures

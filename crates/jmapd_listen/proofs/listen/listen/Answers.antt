@@ -1,6 +1,7 @@
 use Rattle.std.proofs.Common.{map}
 use denote.Exit.{no}
 use denote.Param.Send.{arg_send, param_send}
+use Rattle.account_desk.specs.FreshDesk.{account_rules}
 use Rattle.account_desk.specs.SharedDesk.{shown_by_passes}
 use Rattle.command_line.specs.Shown.{listen_shown}
 use Rattle.jmapd_listen.proofs.ListenLemmas.{not_loaded, served}
@@ -19,4 +20,4 @@ pub returns-clause-listens : goal.returns-clause-listens
 returns-clause-listens g c =
     served (g.O.Opener.shown c.args.opener.now) (g.O.Opener.shown c.load_site.new.opener) (listen_shown c.args.asked.now) (g.H.Host.shown c.args.host.now) (g.H.Host.shown c.serve_site.new.host)
     (record { faults = g.S.Spawner.faults c.args.spawner.now; served = g.S.Spawner.served c.args.spawner.now }) (record { faults = g.S.Spawner.faults c.serve_site.new.spawner; served = g.S.Spawner.served c.serve_site.new.spawner })
-    c.in-Ok.site c.in-Ok.ensures.how c.serve_site.result (map shown_by_passes c.in-Ok-site_desks.desks.items, c.in-Ok-site_desks.ensures.of_site, c.serve_site.ensures)
+    c.in-Ok.site c.in-Ok.ensures.how c.serve_site.result (map (shown_by_passes account_rules) c.in-Ok-site_desks.desks.items, c.in-Ok-site_desks.ensures.of_site, c.serve_site.ensures)

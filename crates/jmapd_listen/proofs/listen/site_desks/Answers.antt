@@ -2,6 +2,7 @@ use Rattle.std.proofs.Common.{◌≡◌, length, map, subst}
 use Rattle.std.proofs.lemmas.List.{map-id}
 use Rattle.std.proofs.lemmas.Result.{IfOk-weaker}
 use Rattle.std.specs.Prelude.{All}
+use Rattle.account_desk.specs.FreshDesk.{account_rules}
 use Rattle.account_desk.specs.SharedDesk.{shown_by_passes}
 use Rattle.jmapd_listen.proofs.DeskLemmas.{are_desks, ok_both}
 use Rattle.jmapd_listen.proofs.JobLemmas.{all_unused}
@@ -13,12 +14,12 @@ pub returns-clause-unused : goal.returns-clause-unused
 returns-clause-unused g c =
     let site = c.args.site.now in
     let accounts = c.in_ok-fresh_accounts.field-0.items in
-    IfOk-weaker c.open_desks.result (λ desks. ShareAccounts (map (λ a. a) accounts) desks.items) (λ desks. All (λ desk. IsUnused site (shown_by_passes desk)) desks.items)
+    IfOk-weaker c.open_desks.result (λ desks. ShareAccounts (map (λ a. a) accounts) desks.items) (λ desks. All (λ desk. IsUnused site (shown_by_passes account_rules desk)) desks.items)
     (λ desks share. all_unused site accounts desks.items c.in_ok-fresh_accounts.ensures.fresh (subst (λ these. ShareAccounts these desks.items) (map-id accounts) share)) c.open_desks.ensures.fresh
 
 pub returns-clause-of_site : goal.returns-clause-of_site
 returns-clause-of_site g c =
     let site = c.args.site.now in
     let accounts = c.in_ok-fresh_accounts.field-0.items in
-    ok_both c.open_desks.result (λ desks. length desks.items ≡ c.args.workers) (λ desks. ShareAccounts (map (λ a. a) accounts) desks.items) (λ desks. AreDesksOf site c.args.workers (map shown_by_passes desks.items))
+    ok_both c.open_desks.result (λ desks. length desks.items ≡ c.args.workers) (λ desks. ShareAccounts (map (λ a. a) accounts) desks.items) (λ desks. AreDesksOf site c.args.workers (map (shown_by_passes account_rules) desks.items))
     (λ desks many share. are_desks site c.args.workers accounts desks.items c.in_ok-fresh_accounts.ensures.fresh many (subst (λ these. ShareAccounts these desks.items) (map-id accounts) share)) c.open_desks.ensures.workers c.open_desks.ensures.fresh

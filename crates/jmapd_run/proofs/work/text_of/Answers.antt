@@ -1,4 +1,4 @@
-use Rattle.std.proofs.Common.{ap, ◌∙◌}
+use Rattle.std.proofs.Common.{ap, refl, ◌∙◌}
 use Rattle.std.specs.Prelude.{string_bytes}
 use denote.Param.Send.{sendable}
 use Rattle.account_desk.proofs.Crossing.{account_sent}
@@ -11,7 +11,7 @@ pub work-requires-send-B : goal.work-requires-send-B
 work-requires-send-B c κs = search (account_sent, sendable) depth 60 fits 20000
 
 pub work-requires-after_bounds : goal.work-requires-after_bounds
-work-requires-after_bounds c κs = pages_lead
+work-requires-after_bounds c κs = (pages_lead, refl)
 
 pub returns : goal.returns
 returns c =

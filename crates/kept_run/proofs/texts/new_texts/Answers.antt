@@ -2,12 +2,12 @@ use Rattle.std.proofs.Common.{◌≡◌, ◌<◌, ◌≤◌, ◌∙◌, List, �
 use Rattle.std.specs.Prelude.{All}
 use Rattle.std.proofs.Math.ListN.{get_or}
 use Rattle.journal_keeper.specs.Journals.{AreKeepable, labelled}
-use Rattle.kept_run.proofs.Keepables.{keepable_behind}
+use Rattle.kept_account.proofs.Keepables.{keepable_behind}
 use Rattle.kept_run.proofs.OpenLemmas.{sound_goes_on}
 use Rattle.kept_run.proofs.TextLemmas.{all_go_on, all_read_back, more_go_on, more_read_back, nameless, no_account, none_goes_on, texts_more, within_at}
 use Rattle.kept_run.proofs.TurnLemmas.{turns_at}
 use Rattle.kept_run.specs.Lines.{AreReadBack}
-use Rattle.kept_run.specs.Values.{IsEntryValue}
+use Rattle.kept_account.specs.Values.{IsEntryValue}
 use Rattle.cal_model.specs.Sound.{unsound_place}
 use Rattle.spec_history.specs.History.{changes_of}
 use Rattle.spec_history.specs.Base.{Base}

@@ -6,6 +6,6 @@ use Rattle.overrides.proofs.exceptions.exceptions_among.Given as goal
 
 abbrev pub invariant-loop-member : goal.invariant-loop-member
 invariant-loop-member l = record {
-  done : option_map (λ xs. l.exceptions.items ++ xs) (all_some (exception_in l.zones (members_in (data_of l.alone))) (map pair_of (drop l.member-index l.overrides))) ≡ all_some (exception_in l.zones (members_in (data_of l.alone))) (map pair_of l.overrides);
-  refused : first_refused l.zones (members_in (data_of l.alone)) (map pair_of (drop l.member-index l.overrides)) ≡ first_refused l.zones (members_in (data_of l.alone)) (map pair_of l.overrides);
+  done : option_map (λ xs. l.exceptions.items ++ xs) (all_some (exception_in l.zones (members_in (data_of l.alone.event))) (map pair_of (drop l.member-index l.overrides))) ≡ all_some (exception_in l.zones (members_in (data_of l.alone.event))) (map pair_of l.overrides);
+  refused : first_refused l.zones (members_in (data_of l.alone.event)) (map pair_of (drop l.member-index l.overrides)) ≡ first_refused l.zones (members_in (data_of l.alone.event)) (map pair_of l.overrides);
 }

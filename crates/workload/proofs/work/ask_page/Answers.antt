@@ -10,4 +10,4 @@ page_of-requires g c =
     let base = g.B.Book.base c.args.account.now in
     let h = g.B.Book.entries c.args.account.now in
     let is : c.in_ok-reply.reply ≡ g.B.Book.answer base h (page_call c.args.since) (pos 0) = c.in_ok-reply.ensures.reply ∙ ap (λ (call : Call). g.B.Book.answer base h call (pos 0)) c.page_call.ensures in
-    subst (λ (r : Reply). count_of_ids r ≤ 500) (sym is) (c.requires.few base h c.args.since)
+    subst (λ (r : Reply). count_of_ids r ≤ 500) (sym is) (c.requires.lead.few base h c.args.since)

@@ -19,7 +19,7 @@ invariant_of-self c =
     let old = c.index_mut.result.now in
     still_sole d.accounts.items d.turns c.args.account c.act-reply.new.self c.args.call.now c.args.moment there c.act-reply.result old
     (get_or_read d.accounts.items c.args.account old there c.index_mut.ensures.value (no_base, []))
-    (record { base = e.base; reply = e.reply; grown = e.grown; unchanged = e.unchanged }) few c.self.invariant
+    (record { base = e.base; came = e.came; unchanged = e.unchanged }) few c.self.invariant
 
 pub returns : goal.returns
 returns c =
@@ -33,7 +33,7 @@ returns c =
     let called : Called (shown_of (d.accounts.items, d.turns)) after c.args.account c.args.call.now moment (of_desk c.act-reply.result) =
     sole_called d.accounts.items d.turns c.args.account c.act-reply.new.self c.args.call.now moment there c.act-reply.result old
     (get_or_read d.accounts.items c.args.account old there c.index_mut.ensures.value (no_base, []))
-    (record { base = e.base; reply = e.reply; grown = e.grown; unchanged = e.unchanged }) few in
+    (record { base = e.base; came = e.came; unchanged = e.unchanged }) few in
     record {
       called =
           subst (λ (y : List (Base × List Entry) × ℕ). Called (shown_of y) after c.args.account c.args.call.now moment c.as_of_desk.result) c.self.view_is

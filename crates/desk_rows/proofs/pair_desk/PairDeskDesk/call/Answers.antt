@@ -25,7 +25,7 @@ returns-else-account-eq0 c =
       called =
           subst (λ (r : Result Reply DeskError). Called (pair_shown d.first.value d.second.value d.calls_left) (pair_shown d.first.value act.new.self (d.calls_left - 1)) c.args.account c.args.call.now c.args.moment r) (sym c.as_of_desk-else-account-eq0.ensures)
           (subst (λ (h : Base × List Entry). Called (pair_shown d.first.value h d.calls_left) (pair_shown d.first.value act.new.self (d.calls_left - 1)) c.args.account c.args.call.now c.args.moment (of_desk act.result)) account.ensures.value
-          (second_called d.first.value account.result.now act.new.self d.calls_left some few c.args.call.now c.args.moment c.args.account stamp act.result c.requires c.if-account-eq0.false next e.base e.reply e.grown e.unchanged));
+          (second_called d.first.value account.result.now act.new.self d.calls_left some few c.args.call.now c.args.moment c.args.account stamp act.result c.requires c.if-account-eq0.false next e.base e.came e.unchanged));
     }
 
 pub returns-then-account-eq0 : goal.returns-then-account-eq0
@@ -41,5 +41,5 @@ returns-then-account-eq0 c =
       called =
           subst (λ (r : Result Reply DeskError). Called (pair_shown d.first.value d.second.value d.calls_left) (pair_shown c.act.new.self d.second.value (d.calls_left - 1)) c.args.account c.args.call.now c.args.moment r) (sym c.as_of_desk.ensures)
           (subst (λ (h : Base × List Entry). Called (pair_shown h d.second.value d.calls_left) (pair_shown c.act.new.self d.second.value (d.calls_left - 1)) c.args.account c.args.call.now c.args.moment (of_desk c.act.result)) account.ensures.value
-          (first_called account.result.now c.act.new.self d.second.value d.calls_left some few c.args.call.now c.args.moment c.args.account stamp c.act.result (sym c.if-account-eq0.true) next e.base e.reply e.grown e.unchanged));
+          (first_called account.result.now c.act.new.self d.second.value d.calls_left some few c.args.call.now c.args.moment c.args.account stamp c.act.result (sym c.if-account-eq0.true) next e.base e.came e.unchanged));
     }

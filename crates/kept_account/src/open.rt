@@ -1,0 +1,73 @@
+//! How an account is opened at what its keeper has of it.
+ghost use Rattle.std.specs.Arc.{arc_value};
+ghost use Rattle.std.specs.Prelude.{◌≡◌, IfErr, IfOk};
+ghost use Rattle.journal_keeper.specs.Journals.{IsSettled};
+ghost use Rattle.kept_account.specs.Opened.{IsKept, OpensNot};
+ghost use Rattle.spec_history.specs.Base.{Base};
+
+use crate::account::KeptAccount;
+use account_core::opening::EntriesError;
+use journal_keeper::keeper::{JournalError, Keeper};
+use spec_json::text::Text;
+use std::alloc::{AllocError, Global};
+use std::sync::Arc;
+use zone_table::Zones;
+
+/// Why an account doesn't open at what its keeper has of it.
+#[derive(Drop)]
+pub enum OpenError {
+    /// The keeper failed.
+    Failed,
+    /// A text of the keeper's is no entry's.
+    Damaged {
+        /// The place of the text among the account's, from 0.
+        place: u64,
+        /// The text.
+        text: Vec<u8>,
+    },
+    /// An entry isn't sound behind those before it.
+    BadEntries {
+        /// The place of the first such entry.
+        place: u64,
+    },
+    /// There was no memory.
+    NoMemory,
+}
+
+impl From<AllocError> for OpenError {
+    ghost use Rattle.kept_account.specs.declared.open.OpenError.TheVariants.{NoMemory};
+
+    ghost from_gives = { λ _ error. error ≡ NoMemory };
+
+    fn from(_: AllocError) -> OpenError {
+        OpenError::NoMemory
+    }
+}
+
+/// The account of this id, with these zones, in this generation of the data, that goes on from the entries that its keeper has of it. The keeper was just opened, so that nothing
+/// is in doubt of it.
+///
+/// Takes memory for the entries, and for what an account keeps of them.
+pub fn open_kept<K: Keeper>(
+    alloc: Global,
+    id: Text,
+    zones: Arc<Zones>,
+    generation: u64,
+    keeper: K,
+) -> Result<KeptAccount<K>, OpenError>
+    requires { IsSettled (K.shown keeper).told }
+    ensures opened { IfOk result (IsKept (K.shown keeper).told (record { account_id = id; zones = arc_value zones; generation = generation })) }
+    ensures refused { IfErr result (OpensNot (K.shown keeper).told (record { account_id = id; zones = arc_value zones; generation = generation })) }
+{
+    let mut keeper = keeper;
+    match keeper.load(id.as_str()) {
+        Ok(entries) => match KeptAccount::open_at(alloc, id, zones, generation, entries, keeper) {
+            Ok(account) => Ok(account),
+            Err(EntriesError::BadEntries { place }) => Err(OpenError::BadEntries { place }),
+            Err(EntriesError::NoMemory) => Err(OpenError::NoMemory),
+        },
+        Err(JournalError::Failed) => Err(OpenError::Failed),
+        Err(JournalError::Damaged { place, text }) => Err(OpenError::Damaged { place, text }),
+        Err(JournalError::NoMemory) => Err(OpenError::NoMemory),
+    }
+}

@@ -1,7 +1,0 @@
-use Rattle.std.proofs.Common.{◌≡◌, ◌<◌, ℕ, false}
-use Rattle.std.specs.List.{list_any}
-use Rattle.patch_object.proofs.PointerLemmas.{front_at}
-use Rattle.patch_object.proofs.pointer_set.has_prefix.Given as goal
-
-abbrev pub invariant-loop-end : goal.invariant-loop-end
-invariant-loop-end l = (n : ℕ) → n < l.end → list_any (front_at l.path n) l.paths.keys ≡ false
