@@ -3,7 +3,7 @@ ghost use Rattle.std.specs.Prelude.{◌≡◌, ◌≤◌, ◌^◌, [], None, IfE
 ghost use Rattle.account_core.specs.Kept.{SetCame, StagedCame};
 ghost use Rattle.account_core.specs.Ledger.{base, ledger_entries, history, staged};
 ghost use Rattle.account_store.specs.Store.{spare};
-ghost use Rattle.cal_model.specs.Answer.{answered};
+ghost use Rattle.cal_model.specs.Answer.{answered, unkept_answer};
 ghost use Rattle.cal_model.specs.SetReply.{set_arguments};
 ghost use Rattle.cal_model.specs.Sets.{new_ids, objects_of, set_changes, set_refusal};
 ghost use Rattle.set_methods.specs.Reports.{Reports};
@@ -99,14 +99,20 @@ fn keep_and_commit<K: EntryKeeper>(
             ledger.commit(stamp, 0);
             Ok(reply)
         }
-        Err(KeepError::Failed) => {
+        Err(error) => {
             ledger.forget();
-            Ok(refusal(ledger.alloc, &ledger.store, MethodError::ServerFail))
+            not_kept(ledger, error)
         }
-        Err(KeepError::NoMemory) => {
-            ledger.forget();
-            Err(AllocError)
-        }
+    }
+}
+
+// What is told of changes that weren't kept.
+fn not_kept(ledger: &Ledger, error: KeepError) -> Result<Reply, AllocError>
+    ensures { IfOk result (λ r. (error ≡ KeepError.Failed) × (r ≡ unkept_answer (ledger_entries ledger.now))) }
+{
+    match error {
+        KeepError::Failed => Ok(refusal(ledger.alloc, &ledger.store, MethodError::ServerFail)),
+        KeepError::NoMemory => Err(AllocError),
     }
 }
 

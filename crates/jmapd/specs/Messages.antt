@@ -3,9 +3,11 @@ use Rattle.std.specs.Prelude.{ℕ, List, ◌++◌, Option, Some, None, codes}
 use Rattle.std.specs.Fmt.{decimal}
 use Rattle.jmapd_run.specs.declared.status.Status.{Status}
 use Rattle.jmapd_run.specs.declared.status.Status.TheVariants.{Config, Cut, Done, NoMemory, OpenFault, ReadFault, Refused, Usage, WriteFault}
-use Rattle.kept_run.specs.declared.status.KeptStatus.{KeptStatus}
-use Rattle.kept_run.specs.declared.status.KeptStatus.TheVariants.{Plain, KeepFault, Damaged, BadJournal}
+use Rattle.jmapd_run.specs.declared.kept_status.KeptStatus.{KeptStatus}
+use Rattle.jmapd_run.specs.declared.kept_status.KeptStatus.TheVariants.{Plain, KeepFault, Damaged, BadJournal}
 use Rattle.spec_site.specs.Configuration.{field_name}
+use Rattle.sql_keeper.specs.declared.open.OpenError.{OpenError}
+use Rattle.sql_keeper.specs.declared.open.OpenError.TheVariants.{CannotOpen, Failed, InUse, NoMemory as NoMemoryToOpen, OtherAccount, OtherProgram, OtherVersion}
 
 -- there is one of every status but `Done`; of a configuration it names the first bad field and the place of its first bad item
 abbrev pub error_line : Status → Option (List ℕ)
@@ -29,3 +31,16 @@ kept_error_line (Plain status) = error_line status
 kept_error_line KeepFault = Some (codes "jmapd: keep fault")
 kept_error_line (Damaged account place text) = Some (place_line (codes "jmapd: damaged entry: ") account place)
 kept_error_line (BadJournal account place) = Some (place_line (codes "jmapd: bad journal: ") account place)
+
+-- why a journal isn't opened; of want of memory the status tells
+abbrev pub unopened_words : OpenError → Option (List ℕ)
+unopened_words InUse = Some (codes "journal in use")
+unopened_words CannotOpen = Some (codes "journal can't be opened")
+unopened_words OtherProgram = Some (codes "no journal")
+unopened_words OtherAccount = Some (codes "journal of another account")
+unopened_words (OtherVersion version) = Some (codes "journal of another version")
+unopened_words (Failed error) = Some (codes "journal failed")
+unopened_words NoMemoryToOpen = None
+
+abbrev pub journal_line : List ℕ → List ℕ → List ℕ
+journal_line words name = codes "jmapd: " ++ words ++ codes ": " ++ name

@@ -7,8 +7,8 @@ ghost use Rattle.jmapd_run.specs.Statuses.{exit_status};
 ghost use Rattle.kept_run.specs.Statuses.{kept_exit_status};
 ghost use Rattle.spec_site.specs.Configuration.{field_name};
 
+use jmapd_run::kept_status::KeptStatus;
 use jmapd_run::status::Status;
-use kept_run::status::KeptStatus;
 use spec_site::field::Field;
 use std::alloc::{AllocError, Global};
 use std::process::ExitCode;

@@ -1,13 +1,13 @@
 //! The command `kept` over a database in a file.
 
+use crate::unopened::tell_unopened;
 use command_line::kept::KeptCommand;
 use io_edge::streams::{ReaderSource, WriterSink};
 use io_edge::system_clock::SystemClock;
 use io_edge::system_files::SystemFiles;
+use jmapd_run::kept_status::KeptStatus;
 use jmapd_run::status::Status;
-use journal_folder::words::tell_unopened;
 use kept_run::run::run_kept;
-use kept_run::status::KeptStatus;
 use sql_keeper::open::{OpenError, open_file};
 use std::io;
 

@@ -2,10 +2,14 @@
 #![tactic(auto)]
 
 mod ending;
+mod folder;
 mod journal;
+mod lock;
+mod unopened;
 mod words;
 
 use crate::ending::{finish, finish_kept};
+use crate::folder::JournalFolder;
 use crate::journal::run_journal;
 use crate::words::program_words;
 use command_line::kept::KeptCommand;
@@ -13,10 +17,9 @@ use command_line::listen_kept::ListenKept;
 use io_edge::streams::{ReaderSource, WriterSink};
 use io_edge::system_clock::SystemClock;
 use io_edge::system_files::SystemFiles;
+use jmapd_listen::listen_kept::listen_kept;
 use jmapd_listen::program::run_program;
 use jmapd_run::status::Status;
-use journal_folder::folder::JournalFolder;
-use kept_listen::listen::listen_kept;
 use listen_edge::real_threads::RealThreads;
 use listen_edge::tcp_host::TcpHost;
 use std::io;

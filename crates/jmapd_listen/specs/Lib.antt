@@ -2,3 +2,5 @@ pub mod Faultless
 pub mod Listens
 pub mod Program
 pub mod Asked
+pub mod Offices
+pub mod ListensKept

@@ -4,4 +4,6 @@
 pub mod job;
 pub mod laws;
 pub mod listen;
+pub mod listen_kept;
+pub mod office;
 pub mod program;

@@ -5,3 +5,4 @@ pub mod Runs
 pub mod Shown
 pub mod Completes
 pub mod Determined
+pub mod SiteIds

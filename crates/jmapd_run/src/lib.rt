@@ -2,6 +2,7 @@
 #![tactic(auto)]
 
 mod batch;
+pub mod kept_status;
 pub mod laws;
 pub mod run;
 pub mod start;

@@ -18,8 +18,8 @@ use Rattle.kept_run.specs.Steps.{IsDone, IsRun, RunsLine}
 use Rattle.kept_run.specs.declared.line.LineEnd.TheVariants as line
 use Rattle.kept_run.specs.declared.lines.TheConstants.{MAX_LINES}
 use Rattle.kept_run.specs.declared.status.KeptDone.{KeptDone}
-use Rattle.kept_run.specs.declared.status.KeptStatus.{KeptStatus}
-use Rattle.kept_run.specs.declared.status.KeptStatus.TheVariants.{Plain, KeepFault}
+use Rattle.jmapd_run.specs.declared.kept_status.KeptStatus.{KeptStatus}
+use Rattle.jmapd_run.specs.declared.kept_status.KeptStatus.TheVariants.{Plain, KeepFault}
 use Rattle.line_edge.specs.Lines.{with_feeds}
 use Rattle.spec_batch.proofs.Chains.{turns_counted}
 use Rattle.spec_connection.specs.Exchanges.{Ticked}

@@ -19,11 +19,12 @@ use Rattle.kept_run.proofs.InputLines.{all_lines, lines_held, status_done, statu
 use Rattle.kept_run.specs.Completes.{FaultlessKeptRunsWork, GivesLinesStatus, GoodListsAreTaken, IsFaultFree, TellsGoodLists, lines_status}
 use Rattle.kept_run.specs.Lines.{Accounts, Line}
 use Rattle.kept_run.specs.Opened.{bad_place}
-use Rattle.kept_run.specs.Runs.{HasId, HoldsLines, IsAnswerable, IsBadJournal, KeptEnds, KeptSetting, NotBegun, RunsLines}
+use Rattle.jmapd_run.specs.SiteIds.{HasId}
+use Rattle.kept_run.specs.Runs.{HoldsLines, IsAnswerable, IsBadJournal, KeptEnds, KeptSetting, NotBegun, RunsLines}
 use Rattle.kept_run.specs.declared.lines.TheConstants.{MAX_LINES}
 use Rattle.kept_run.specs.declared.status.KeptDone.{KeptDone}
-use Rattle.kept_run.specs.declared.status.KeptStatus.{KeptStatus}
-use Rattle.kept_run.specs.declared.status.KeptStatus.TheVariants.{BadJournal, Damaged, KeepFault, Plain}
+use Rattle.jmapd_run.specs.declared.kept_status.KeptStatus.{KeptStatus}
+use Rattle.jmapd_run.specs.declared.kept_status.KeptStatus.TheVariants.{BadJournal, Damaged, KeepFault, Plain}
 use Rattle.line_edge.specs.Lines.{IsTooLong, lines_of}
 use Rattle.spec_core.specs.declared.limits.TheConstants.{MAX_SIZE_REQUEST}
 use Rattle.spec_history.specs.declared.entry.Entry.{Entry}

@@ -19,8 +19,8 @@ use Rattle.kept_run.specs.Lines.{Accounts, AreAnsweredLines, AreReadBack, HasMor
 use Rattle.kept_run.specs.Opened.{AreOpened, GoesOn}
 use Rattle.kept_run.specs.Runs.{KeptEnds, KeptSetting, RunsLines}
 use Rattle.kept_run.specs.declared.status.KeptDone.{KeptDone}
-use Rattle.kept_run.specs.declared.status.KeptStatus.{KeptStatus}
-use Rattle.kept_run.specs.declared.status.KeptStatus.TheVariants.{BadJournal, Damaged, KeepFault, Plain}
+use Rattle.jmapd_run.specs.declared.kept_status.KeptStatus.{KeptStatus}
+use Rattle.jmapd_run.specs.declared.kept_status.KeptStatus.TheVariants.{BadJournal, Damaged, KeepFault, Plain}
 use Rattle.kept_run.proofs.TextLemmas.{nameless, no_account, same_count}
 use Rattle.spec_batch.proofs.Chains.{summary}
 use Rattle.spec_history.specs.Base.{Base}

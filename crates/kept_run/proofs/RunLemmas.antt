@@ -13,8 +13,8 @@ use Rattle.kept_run.specs.Opened.{AreOpened}
 use Rattle.kept_run.specs.Runs.{NotBegun, RunsKept, RunsLines, KeptSetting}
 use Rattle.kept_run.specs.Steps.{IsDone, IsLoad, NotOpened}
 use Rattle.kept_run.specs.declared.status.KeptDone.{KeptDone}
-use Rattle.kept_run.specs.declared.status.KeptStatus.{KeptStatus}
-use Rattle.kept_run.specs.declared.status.KeptStatus.TheVariants.{BadJournal, Damaged, KeepFault, Plain}
+use Rattle.jmapd_run.specs.declared.kept_status.KeptStatus.{KeptStatus}
+use Rattle.jmapd_run.specs.declared.kept_status.KeptStatus.TheVariants.{BadJournal, Damaged, KeepFault, Plain}
 use Rattle.spec_history.specs.Base.{Base}
 use Rattle.spec_history.specs.declared.entry.Entry.{Entry}
 use Rattle.spec_site.specs.Configuration.{Site, user_named}

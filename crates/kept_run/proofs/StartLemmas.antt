@@ -10,8 +10,8 @@ use Rattle.kept_run.proofs.OpenLemmas.{own_entries}
 use Rattle.kept_run.proofs.TextLemmas.{nameless}
 use Rattle.kept_run.specs.Opened.{AreOpened, GoesOn, bad_place}
 use Rattle.kept_run.specs.Steps.{AccountLoadHow, IsLoad, NotOpened, OpenHow, TellsOf, account_base}
-use Rattle.kept_run.specs.declared.status.KeptStatus.{KeptStatus}
-use Rattle.kept_run.specs.declared.status.KeptStatus.TheVariants.{Plain, KeepFault, Damaged, BadJournal}
+use Rattle.jmapd_run.specs.declared.kept_status.KeptStatus.{KeptStatus}
+use Rattle.jmapd_run.specs.declared.kept_status.KeptStatus.TheVariants.{Plain, KeepFault, Damaged, BadJournal}
 use Rattle.jmapd_run.specs.declared.status.Status.TheVariants.{Cut, Config, Done, NoMemory, OpenFault, ReadFault, Refused, Usage, WriteFault}
 use Rattle.spec_history.specs.Base.{Base, no_base}
 use Rattle.spec_history.specs.Signed.{written_by}

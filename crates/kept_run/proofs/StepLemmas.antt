@@ -15,7 +15,7 @@ use Rattle.kept_run.specs.declared.line.LineEnd.{LineEnd}
 use Rattle.kept_run.specs.declared.line.LineEnd.TheVariants.{KeepFault, NoMemory, WriteFault, Written}
 use Rattle.kept_run.specs.declared.lines.TheConstants.{MAX_LINES}
 use Rattle.kept_run.specs.declared.status.KeptDone.{KeptDone}
-use Rattle.kept_run.specs.declared.status.KeptStatus.TheVariants.{Plain}
+use Rattle.jmapd_run.specs.declared.kept_status.KeptStatus.TheVariants.{Plain}
 use Rattle.line_edge.specs.Lines.{HasNoFeed, IsTooLong}
 use Rattle.line_edge.specs.Reading.{GivesLine, TookMore}
 use Rattle.line_edge.specs.declared.next.NextLine.TheVariants as next

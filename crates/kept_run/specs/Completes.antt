@@ -13,8 +13,8 @@ use Rattle.kept_run.specs.Opened.{AreOpened, bad_place}
 use Rattle.kept_run.specs.Runs.{KeptSetting, RunsKept, RunsLines}
 use Rattle.kept_run.specs.declared.lines.TheConstants.{MAX_LINES}
 use Rattle.kept_run.specs.declared.status.KeptDone.{KeptDone}
-use Rattle.kept_run.specs.declared.status.KeptStatus.{KeptStatus}
-use Rattle.kept_run.specs.declared.status.KeptStatus.TheVariants.{Plain}
+use Rattle.jmapd_run.specs.declared.kept_status.KeptStatus.{KeptStatus}
+use Rattle.jmapd_run.specs.declared.kept_status.KeptStatus.TheVariants.{Plain}
 use Rattle.line_edge.specs.Lines.{lines_of}
 use Rattle.spec_core.specs.declared.limits.TheConstants.{MAX_SIZE_REQUEST}
 use Rattle.spec_history.specs.Base.{Base}

@@ -3,6 +3,7 @@ use Rattle.std.specs.Prelude.{◌≡◌, ◌⊎◌, ◌<◌, ◌≤◌, ℕ, ℤ
 use Rattle.std.specs.Io.KnownBytes.{Consumes, IsAtEnd}
 use Rattle.command_line.specs.KeptWords.{KeptCommand}
 use Rattle.io_edge.specs.Outside.{Grows, OpenerShown, Rose, SinkShown, SourceShown}
+use Rattle.jmapd_run.specs.SiteIds.{HasId}
 use Rattle.jmapd_run.specs.Starts.{IsLoaded, IsNotOpened, IsUser}
 use Rattle.jmapd_run.specs.declared.status.Status.TheVariants.{Config, Cut, Done, NoMemory, OpenFault, ReadFault, Usage, WriteFault}
 use Rattle.journal_keeper.specs.EntryText.{IsNoEntryText}
@@ -11,8 +12,8 @@ use Rattle.kept_run.specs.Lines.{Accounts, AreAnsweredLines, HasMore, IsAnswered
 use Rattle.kept_run.specs.Opened.{AreOpened, bad_place}
 use Rattle.kept_run.specs.declared.lines.TheConstants.{MAX_LINES}
 use Rattle.kept_run.specs.declared.status.KeptDone.{KeptDone}
-use Rattle.kept_run.specs.declared.status.KeptStatus.{KeptStatus}
-use Rattle.kept_run.specs.declared.status.KeptStatus.TheVariants.{Plain, KeepFault, Damaged, BadJournal}
+use Rattle.jmapd_run.specs.declared.kept_status.KeptStatus.{KeptStatus}
+use Rattle.jmapd_run.specs.declared.kept_status.KeptStatus.TheVariants.{Plain, KeepFault, Damaged, BadJournal}
 use Rattle.line_edge.specs.Lines.{HasNoFeed, IsTooLong, with_feeds}
 use Rattle.spec_connection.specs.Exchanges.{Ticked}
 use Rattle.spec_connection.specs.Serving.{IsPrefixOf}
@@ -112,10 +113,6 @@ pub record NothingRun (x x' : KeptSetting) (done : KeptDone) : Type 0 where
   pub damages_later : x.keeper.damages ≤ x'.keeper.damages
   pub none_kept : done.kept ≡ 0
   pub none_written : done.written ≡ 0
-
--- an account of this id is one of the site
-abbrev pub HasId : Site → List ℕ → Type 0
-HasId site id = (n : ℕ) × (n < length site.accounts) × ((d : SiteAccount) → id ≡ (slice_index_or site.accounts n d).id)
 
 -- a list of the keeper's, from which an account of a site doesn't go on, first at this place
 abbrev pub IsBadJournal : Site → Option Kept → List ℕ → ℕ → Type 0

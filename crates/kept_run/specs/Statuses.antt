@@ -1,8 +1,8 @@
 -- The exit status of a kept run.
 use Rattle.std.specs.Prelude.{ℕ}
 use Rattle.jmapd_run.specs.Statuses.{exit_status}
-use Rattle.kept_run.specs.declared.status.KeptStatus.{KeptStatus}
-use Rattle.kept_run.specs.declared.status.KeptStatus.TheVariants.{Plain, KeepFault, Damaged, BadJournal}
+use Rattle.jmapd_run.specs.declared.kept_status.KeptStatus.{KeptStatus}
+use Rattle.jmapd_run.specs.declared.kept_status.KeptStatus.TheVariants.{Plain, KeepFault, Damaged, BadJournal}
 
 abbrev pub kept_exit_status : KeptStatus → ℕ
 kept_exit_status (Plain status) = exit_status status

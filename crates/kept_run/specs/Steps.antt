@@ -11,9 +11,10 @@ use Rattle.kept_run.specs.declared.line.LineEnd.{LineEnd}
 use Rattle.kept_run.specs.declared.line.LineEnd.TheVariants.{Written, WriteFault, KeepFault, NoMemory}
 use Rattle.account_desk.specs.SoleDesk.{shown_of}
 use Rattle.kept_run.specs.Opened.{bad_place}
-use Rattle.kept_run.specs.Runs.{HasId, IsBadJournal}
-use Rattle.kept_run.specs.declared.status.KeptStatus.{KeptStatus}
-use Rattle.kept_run.specs.declared.status.KeptStatus.TheVariants as status
+use Rattle.jmapd_run.specs.SiteIds.{HasId}
+use Rattle.kept_run.specs.Runs.{IsBadJournal}
+use Rattle.jmapd_run.specs.declared.kept_status.KeptStatus.{KeptStatus}
+use Rattle.jmapd_run.specs.declared.kept_status.KeptStatus.TheVariants as status
 use Rattle.jmapd_run.specs.declared.status.Status.TheVariants as plain
 use Rattle.spec_batch.specs.Chain.{Chain, Made}
 use Rattle.spec_batch.specs.Reply.{Replies, asked_in}

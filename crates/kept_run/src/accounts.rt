@@ -5,40 +5,16 @@ ghost use Rattle.kept_run.specs.Steps.{IsLoad, AccountLoadHow, NotOpened, OpenHo
 ghost use Rattle.spec_history.specs.Signed.{written_by};
 ghost use Rattle.spec_site.specs.Configuration.{SiteAccount};
 
-use crate::status::KeptStatus;
 use account_core::account::Account;
 use account_core::opening::EntriesError;
+use jmapd_run::kept_status::KeptStatus;
 use jmapd_run::status::Status;
 use journal_keeper::keeper::{JournalError, Keeper};
 use session_doc::Site;
 use spec_history::entry::Entry;
 use spec_json::text::Text;
-use std::alloc::{AllocError, AllocFailed, Global};
+use std::alloc::Global;
 use std::sync::Arc;
-
-impl From<AllocError> for KeptStatus {
-    ghost use Rattle.std.specs.Prelude.{◌≡◌};
-    ghost use Rattle.jmapd_run.specs.declared.status.Status.TheVariants.{NoMemory};
-    ghost use Rattle.kept_run.specs.declared.status.KeptStatus.TheVariants.{Plain};
-
-    ghost from_gives = { λ _ status. status ≡ Plain NoMemory };
-
-    fn from(_: AllocError) -> KeptStatus {
-        KeptStatus::Plain(Status::NoMemory)
-    }
-}
-
-impl<T: Drop> From<AllocFailed<T>> for KeptStatus {
-    ghost use Rattle.std.specs.Prelude.{◌≡◌};
-    ghost use Rattle.jmapd_run.specs.declared.status.Status.TheVariants.{NoMemory};
-    ghost use Rattle.kept_run.specs.declared.status.KeptStatus.TheVariants.{Plain};
-
-    ghost from_gives = { λ _ status. status ≡ Plain NoMemory };
-
-    fn from(_: AllocFailed<T>) -> KeptStatus {
-        KeptStatus::Plain(Status::NoMemory)
-    }
-}
 
 /// The accounts of a site, in its order, each with the entries that the keeper has of it, or why one doesn't open.
 ///

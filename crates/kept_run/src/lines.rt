@@ -5,11 +5,12 @@ ghost use Rattle.kept_run.specs.Steps.{BehindHow, IsDone, StoppedWith};
 ghost use Rattle.line_edge.specs.Reading.{TookMore};
 
 use crate::line::{LineEnd, run_line};
-use crate::status::{KeptDone, KeptStatus};
+use crate::status::KeptDone;
 use account_desk::sole_desk::SoleDesk;
 use io_edge::clock::Clock;
 use io_edge::sink::Sink;
 use io_edge::source::Source;
+use jmapd_run::kept_status::KeptStatus;
 use jmapd_run::status::Status;
 use journal_keeper::keeper::Keeper;
 use line_edge::next::{NextLine, is_followed, next_line};

@@ -8,13 +8,14 @@ ghost use Rattle.spec_site.specs.Configuration.{user_named};
 
 use crate::accounts::open_accounts;
 use crate::lines::run_lines;
-use crate::status::{KeptDone, KeptStatus};
+use crate::status::KeptDone;
 use account_desk::sole_desk::SoleDesk;
 use command_line::kept::KeptCommand;
 use io_edge::clock::Clock;
 use io_edge::opener::Opener;
 use io_edge::sink::Sink;
 use io_edge::source::Source;
+use jmapd_run::kept_status::KeptStatus;
 use jmapd_run::start::load_site;
 use jmapd_run::status::Status;
 use journal_keeper::keeper::Keeper;

@@ -1,32 +1,6 @@
-//! How a kept run ended.
+//! How far a kept run came.
 
-use jmapd_run::status::Status;
-use spec_json::text::Text;
-
-/// How a kept run ended.
-#[derive(Drop)]
-pub enum KeptStatus {
-    /// As a command that keeps nothing ends. `Cut` comes where a line is too long, or where input follows the last line that may be answered.
-    Plain(Status),
-    /// The keeper failed.
-    KeepFault,
-    /// A text of the keeper's is no entry's.
-    Damaged {
-        /// The id of the account.
-        account: Text,
-        /// The place of the text among the account's, from 0.
-        place: u64,
-        /// The text.
-        text: Vec<u8>,
-    },
-    /// An account doesn't go on from the entries that the keeper has of it.
-    BadJournal {
-        /// The id of the account.
-        account: Text,
-        /// The place of the first entry that isn't sound, from 0.
-        place: u64,
-    },
-}
+use jmapd_run::kept_status::KeptStatus;
 
 /// How a kept run ended, and how far it came.
 #[derive(Drop)]

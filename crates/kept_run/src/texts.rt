@@ -6,10 +6,10 @@ ghost use Rattle.kept_run.specs.Lines.{HasMore, MayAllGoOn, NewAreReadBack, coun
 ghost use Rattle.kept_run.specs.Steps.{AreWithin, HaveTurns};
 
 use account_desk::sole_desk::SoleDesk;
-use kept_account::values::are_entry_values;
 use journal_keeper::keeper::{KeepError, Keeper};
 use journal_keeper::kept_text::KeptText;
 use journal_keeper::texts::entry_texts;
+use kept_account::values::are_entry_values;
 use session_doc::Site;
 use spec_batch::desk::Desk;
 use std::alloc::{AllocError, Global};

@@ -1,15 +1,15 @@
 //! The command `listen` over accounts whose entries are kept.
 ghost use Rattle.std.specs.Prelude.{◌≡◌, ◌≤◌, ◌+◌};
 ghost use Rattle.command_line.specs.Shown.{listen_shown};
-ghost use Rattle.kept_listen.specs.ListensKept.{ListensKept};
+ghost use Rattle.jmapd_listen.specs.ListensKept.{ListensKept};
 
+use crate::listen::serve_site;
 use crate::office::Office;
 use command_line::listen::Listen;
 use io_edge::clock::Clock;
 use io_edge::opener::Opener;
-use jmapd_listen::listen::serve_site;
+use jmapd_run::kept_status::KeptStatus;
 use jmapd_run::start::load_site;
-use kept_run::status::KeptStatus;
 use listen_edge::host::Host;
 use listen_edge::spawner::Spawner;
 use std::alloc::Global;

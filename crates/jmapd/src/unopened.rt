@@ -1,6 +1,6 @@
 //! What an operator is told of a journal that isn't opened.
 ghost use Rattle.std.specs.Prelude.{◌≡◌, IfOk, option_map, string_bytes};
-ghost use Rattle.journal_folder.specs.Words.{journal_line, unopened_words};
+ghost use Rattle.jmapd.specs.Messages.{journal_line, unopened_words};
 
 use sql_keeper::open::OpenError;
 use std::alloc::{AllocError, Global};

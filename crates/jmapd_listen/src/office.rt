@@ -1,8 +1,8 @@
 //! Where the accounts of a site come from, each at what its keeper has of it.
 ghost use Rattle.std.specs.Prelude.{◌≡◌, ◌≤◌, IfErr, IfOk, map};
-ghost use Rattle.kept_listen.specs.Offices.{AreKeptDesks, NotOpened, OfficeShown};
+ghost use Rattle.jmapd_listen.specs.Offices.{AreKeptDesks, NotOpened, OfficeShown};
 
-use kept_run::status::KeptStatus;
+use jmapd_run::kept_status::KeptStatus;
 use session_doc::Site;
 use spec_batch::desk::Desk;
 use std::alloc::Global;

@@ -6,9 +6,9 @@ use Rattle.jmapd_listen.specs.Listens.{ServesSite, SpawnerShown}
 use Rattle.jmapd_run.specs.Starts.{IsStart, Start, misconfigured, not_opened, workers_for}
 use Rattle.jmapd_run.specs.declared.status.Status.{Status}
 use Rattle.jmapd_run.specs.declared.status.Status.TheVariants.{Config, NoMemory, OpenFault}
-use Rattle.kept_listen.specs.Offices.{AreKeptDesks, NotOpened, OfficeShown}
-use Rattle.kept_run.specs.declared.status.KeptStatus.{KeptStatus}
-use Rattle.kept_run.specs.declared.status.KeptStatus.TheVariants.{Plain}
+use Rattle.jmapd_listen.specs.Offices.{AreKeptDesks, NotOpened, OfficeShown}
+use Rattle.jmapd_run.specs.declared.kept_status.KeptStatus.{KeptStatus}
+use Rattle.jmapd_run.specs.declared.kept_status.KeptStatus.TheVariants.{Plain}
 use Rattle.listen_edge.specs.Listening.{HostShown}
 use Rattle.spec_batch.specs.Chain.{Shown}
 use Rattle.spec_site.specs.Configuration.{Site}

@@ -3,18 +3,18 @@ ghost use Rattle.std.specs.Prelude.{◌≡◌, ◌<◌, ◌≤◌, All, IfErr, I
 ghost use Rattle.account_desk.specs.FreshDesk.{bases};
 ghost use Rattle.cal_model.specs.Sound.{unsound_place};
 ghost use Rattle.io_edge.specs.Outside.{Rose};
-ghost use Rattle.kept_listen.specs.Offices.{NotOpened};
+ghost use Rattle.jmapd_listen.specs.Offices.{NotOpened};
 ghost use Rattle.kept_run.specs.Steps.{account_base};
 ghost use Rattle.spec_history.specs.History.{changes_of};
 ghost use Rattle.spec_site.specs.Configuration.{SiteAccount};
 
 use crate::lock::{FileAccount, FileLock};
-use crate::words::tell_unopened;
+use crate::unopened::tell_unopened;
 use account_desk::shared_desk::SharedDesk;
+use jmapd_listen::office::Office;
+use jmapd_run::kept_status::KeptStatus;
 use jmapd_run::status::Status;
 use kept_account::open::{OpenError, open_kept};
-use kept_listen::office::Office;
-use kept_run::status::KeptStatus;
 use listen_workers::desks::open_desks;
 use session_doc::Site;
 use spec_json::text::Text;

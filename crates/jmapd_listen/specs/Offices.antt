@@ -8,9 +8,9 @@ use Rattle.jmapd_listen.specs.Listens.{AreDesksAt}
 use Rattle.jmapd_run.specs.declared.status.Status.TheVariants as plain
 use Rattle.journal_keeper.specs.EntryText.{IsNoEntryText}
 use Rattle.journal_keeper.specs.Journals.{HasDamage, Kept, Lists}
-use Rattle.kept_run.specs.Runs.{HasId}
-use Rattle.kept_run.specs.declared.status.KeptStatus.{KeptStatus}
-use Rattle.kept_run.specs.declared.status.KeptStatus.TheVariants.{BadJournal, Damaged, KeepFault, Plain}
+use Rattle.jmapd_run.specs.SiteIds.{HasId}
+use Rattle.jmapd_run.specs.declared.kept_status.KeptStatus.{KeptStatus}
+use Rattle.jmapd_run.specs.declared.kept_status.KeptStatus.TheVariants.{BadJournal, Damaged, KeepFault, Plain}
 use Rattle.spec_batch.specs.Chain.{Shown}
 use Rattle.spec_history.specs.Base.{Base}
 use Rattle.spec_history.specs.History.{changes_of}
