@@ -11,7 +11,7 @@ Lines of definition are those of a file without its imports, its comments and it
 
 It reads crates.txt, the sources and bench/gate.txt alone, so it needs no toolchain. bench/gate.txt has a line for each crate that was measured: its
 name, and the seconds of processor that its proofs with its tests and programs took from nothing, and the tries of its mutants, or - where
-these weren't measured.
+these weren't measured or there are none.
 """
 import os
 import re
