@@ -19,16 +19,16 @@ abbrev pub IsPlaced : Option (List Entry → Reply) → Type 0
 IsPlaced unkept = IfSome unkept (λ f. (h : List Entry) → (f h).place ≡ length h)
 
 -- what accounts of calendars and events reply, and how they grow; and the reply where the entries of a call could not be kept, None where those of every call are
-abbrev pub rules_of : (unkept : Option (List Entry → Reply)) → IsPlaced unkept → Rules
-rules_of unkept placed = record { answer = answer; added = added; unkept = unkept; placed = answer_place; unkept_placed = placed; signed = added_signed }
+abbrev pub account_rules_with : (unkept : Option (List Entry → Reply)) → IsPlaced unkept → Rules
+account_rules_with unkept placed = record { answer = answer; added = added; unkept = unkept; placed = answer_place; unkept_placed = placed; signed = added_signed }
 
 -- those of accounts in memory alone: the entries of every call are kept
 abbrev pub account_rules : Rules
-account_rules = rules_of None tt
+account_rules = account_rules_with None tt
 
 -- those of accounts whose entries are kept before they have them
 abbrev pub kept_rules : Rules
-kept_rules = rules_of (Some unkept_answer) unkept_place
+kept_rules = account_rules_with (Some unkept_answer) unkept_place
 
 -- a desk over the accounts of a site, before any call
 abbrev pub fresh_desk : Site → Shown

@@ -65,10 +65,10 @@ impl<W: Wait, L: AccountLock> SharedDesk<W, L> {
 }
 
 impl<W: Wait, L: AccountLock> Desk for SharedDesk<W, L> {
-    ghost use Rattle.account_desk.specs.FreshDesk.{rules_of};
+    ghost use Rattle.account_desk.specs.FreshDesk.{account_rules_with};
     ghost use Rattle.account_desk.specs.SharedDesk.{shown_by_passes};
 
-    ghost shown = { shown_by_passes (rules_of L.unkept L.unkept_placed) };
+    ghost shown = { shown_by_passes (account_rules_with L.unkept L.unkept_placed) };
 
     fn accounts(&self) -> u32 {
         self.passes.len() as u32

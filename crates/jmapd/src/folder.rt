@@ -3,7 +3,7 @@ ghost use Rattle.std.specs.Prelude.{◌≡◌, ◌<◌, ◌≤◌, All, IfErr, I
 ghost use Rattle.account_desk.specs.FreshDesk.{bases};
 ghost use Rattle.cal_model.specs.Sound.{unsound_place};
 ghost use Rattle.io_edge.specs.Outside.{Rose};
-ghost use Rattle.jmapd_listen.specs.Offices.{NotOpened};
+ghost use Rattle.jmapd_listen.specs.Offices.{OpensNone};
 ghost use Rattle.kept_run.specs.Steps.{account_base};
 ghost use Rattle.spec_history.specs.History.{changes_of};
 ghost use Rattle.spec_site.specs.Configuration.{SiteAccount};
@@ -14,11 +14,11 @@ use account_desk::shared_desk::SharedDesk;
 use jmapd_listen::office::Office;
 use jmapd_run::kept_status::KeptStatus;
 use jmapd_run::status::Status;
-use kept_account::open::{OpenError, open_kept};
+use kept_account::open::{UnopenedAccount, open_kept};
 use listen_workers::desks::open_desks;
 use session_doc::Site;
 use spec_json::text::Text;
-use sql_keeper::open::{OpenError as FileError, open_account};
+use sql_keeper::open::{OpenError, open_account};
 use std::alloc::{AllocError, Global};
 use std::sync::{Arc, Wait};
 
@@ -88,7 +88,7 @@ fn open_accounts(
 ) -> Result<Vec<FileAccount>, KeptStatus>
     ensures bases { IfOk result (λ v. map (λ a. a.0) v.items ≡ bases site.now) }
     ensures sound { IfOk result (λ v. All (λ a. unsound_place a.0.zones (changes_of a.1) ≡ None) v.items) }
-    ensures refused { IfErr result (NotOpened site.now (record { told = λ id. None; faults = faults.old; damages = damages.old }) (record { told = λ id. None; faults = faults.new; damages = damages.new })) }
+    ensures refused { IfErr result (OpensNone site.now (record { told = λ id. None; faults = faults.old; damages = damages.old }) (record { told = λ id. None; faults = faults.new; damages = damages.new })) }
     ensures later { (faults.old ≤ faults.new) × (damages.old ≤ damages.new) }
 {
     let count = site.accounts();
@@ -113,14 +113,14 @@ fn open_one(
     requires { n < length site.now.accounts }
     ensures base { IfOk result (λ a. (d : SiteAccount) → a.0 ≡ account_base site.now (slice_index_or site.now.accounts n d).id) }
     ensures sound { IfOk result (λ a. unsound_place a.0.zones (changes_of a.1) ≡ None) }
-    ensures refused { IfErr result (NotOpened site.now (record { told = λ id. None; faults = faults.old; damages = damages.old }) (record { told = λ id. None; faults = faults.new; damages = damages.new })) }
+    ensures refused { IfErr result (OpensNone site.now (record { told = λ id. None; faults = faults.old; damages = damages.old }) (record { told = λ id. None; faults = faults.new; damages = damages.new })) }
     ensures later { (faults.old ≤ faults.new) × (damages.old ≤ damages.new) }
 {
     let id = site.account_id(n);
     let name = file_name(alloc, folder, id)?;
     let keeper = match open_account(rt, name.as_str(), id.as_str()) {
         Ok(keeper) => keeper,
-        Err(FileError::NoMemory) => return Err(KeptStatus::Plain(Status::NoMemory)),
+        Err(OpenError::NoMemory) => return Err(KeptStatus::Plain(Status::NoMemory)),
         Err(error) => {
             tell_unopened(rt, error, name.as_str());
             rise(faults);
@@ -130,11 +130,11 @@ fn open_one(
     let zones = Arc::try_clone(site.zones())?;
     match open_kept(alloc, id.copy()?, zones, site.generation(), keeper) {
         Ok(account) => Ok(account),
-        Err(OpenError::Failed) => {
+        Err(UnopenedAccount::Failed) => {
             rise(faults);
             Err(KeptStatus::KeepFault)
         }
-        Err(OpenError::Damaged { place, text }) => {
+        Err(UnopenedAccount::Damaged { place, text }) => {
             rise(damages);
             Err(KeptStatus::Damaged {
                 account: id.copy()?,
@@ -142,11 +142,11 @@ fn open_one(
                 text,
             })
         }
-        Err(OpenError::BadEntries { place }) => Err(KeptStatus::BadJournal {
+        Err(UnopenedAccount::BadEntries { place }) => Err(KeptStatus::BadJournal {
             account: id.copy()?,
             place,
         }),
-        Err(OpenError::NoMemory) => Err(KeptStatus::Plain(Status::NoMemory)),
+        Err(UnopenedAccount::NoMemory) => Err(KeptStatus::Plain(Status::NoMemory)),
     }
 }
 

@@ -6,7 +6,7 @@ use Rattle.jmapd_listen.specs.Listens.{ServesSite, SpawnerShown}
 use Rattle.jmapd_run.specs.Starts.{IsStart, Start, misconfigured, not_opened, workers_for}
 use Rattle.jmapd_run.specs.declared.status.Status.{Status}
 use Rattle.jmapd_run.specs.declared.status.Status.TheVariants.{Config, NoMemory, OpenFault}
-use Rattle.jmapd_listen.specs.Offices.{AreKeptDesks, NotOpened, OfficeShown}
+use Rattle.jmapd_listen.specs.Offices.{AreKeptDesks, OpensNone, OfficeShown}
 use Rattle.jmapd_run.specs.declared.kept_status.KeptStatus.{KeptStatus}
 use Rattle.jmapd_run.specs.declared.kept_status.KeptStatus.TheVariants.{Plain}
 use Rattle.listen_edge.specs.Listening.{HostShown}
@@ -25,7 +25,7 @@ module _ (f f' : OfficeShown) (h h' : HostShown) (s s' : SpawnerShown) where
 
   -- An account doesn't open: then no listener is asked for.
   abbrev pub DoesNotOpen : Site → KeptStatus → Type 0
-  DoesNotOpen site status = NotOpened site f f' status × (h' ≡ h) × (s' ≡ s)
+  DoesNotOpen site status = OpensNone site f f' status × (h' ≡ h) × (s' ≡ s)
 
   -- what comes of a start, and with which status
   abbrev pub KeptFrom : Start → KeptStatus → Type 0

@@ -37,10 +37,10 @@ pub record AreKeptDesks (site : Site) (told : List ℕ → Option Kept) (workers
 
 -- why the accounts of a site don't open
 module _ (site : Site) (o o' : OfficeShown) where
-  abbrev pub NotOpened : KeptStatus → Type 0
-  NotOpened KeepFault = Rose o.faults o'.faults
-  NotOpened (Plain plain.OpenFault) = Rose o.faults o'.faults
-  NotOpened (Damaged account place text) = HasId site account × IsNoEntryText text.items × HasDamage (o.told account) account place text.items × Rose o.damages o'.damages
-  NotOpened (BadJournal account place) = HasId site account × ((list : List Entry) × Lists (o.told account) account list × (unsound_place site.zones (changes_of list) ≡ Some place))
-  NotOpened (Plain plain.NoMemory) = ⊤
-  NotOpened _ = ⊥
+  abbrev pub OpensNone : KeptStatus → Type 0
+  OpensNone KeepFault = Rose o.faults o'.faults
+  OpensNone (Plain plain.OpenFault) = Rose o.faults o'.faults
+  OpensNone (Damaged account place text) = HasId site account × IsNoEntryText text.items × HasDamage (o.told account) account place text.items × Rose o.damages o'.damages
+  OpensNone (BadJournal account place) = HasId site account × ((list : List Entry) × Lists (o.told account) account list × (unsound_place site.zones (changes_of list) ≡ Some place))
+  OpensNone (Plain plain.NoMemory) = ⊤
+  OpensNone _ = ⊥

@@ -1,6 +1,6 @@
 //! Where the accounts of a site come from, each at what its keeper has of it.
 ghost use Rattle.std.specs.Prelude.{◌≡◌, ◌≤◌, IfErr, IfOk, map};
-ghost use Rattle.jmapd_listen.specs.Offices.{AreKeptDesks, NotOpened, OfficeShown};
+ghost use Rattle.jmapd_listen.specs.Offices.{AreKeptDesks, OpensNone, OfficeShown};
 
 use jmapd_run::kept_status::KeptStatus;
 use session_doc::Site;
@@ -28,5 +28,5 @@ pub trait Office {
         requires { (1 ≤ workers) × (workers ≤ 256) }
         ensures same { (shown self.new).told ≡ (shown self.old).told }
         ensures opened { IfOk result (λ desks. AreKeptDesks site.now (shown self.old).told workers (map D.shown desks.items)) }
-        ensures refused { IfErr result (NotOpened site.now (shown self.old) (shown self.new)) };
+        ensures refused { IfErr result (OpensNone site.now (shown self.old) (shown self.new)) };
 }

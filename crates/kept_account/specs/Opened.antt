@@ -3,8 +3,8 @@ use Rattle.std.specs.Prelude.{◌≡◌, List, Option, Some, None, ⊤}
 use Rattle.cal_model.specs.Sound.{unsound_place}
 use Rattle.journal_keeper.specs.EntryText.{IsNoEntryText}
 use Rattle.journal_keeper.specs.Journals.{HasDamage, Kept, KeeperShown, Lists}
-use Rattle.kept_account.specs.declared.open.OpenError.{OpenError}
-use Rattle.kept_account.specs.declared.open.OpenError.TheVariants.{BadEntries, Damaged, Failed, NoMemory}
+use Rattle.kept_account.specs.declared.open.UnopenedAccount.{UnopenedAccount}
+use Rattle.kept_account.specs.declared.open.UnopenedAccount.TheVariants.{BadEntries, Damaged, Failed, NoMemory}
 use Rattle.spec_history.specs.Base.{Base}
 use Rattle.spec_history.specs.History.{changes_of}
 use Rattle.spec_history.specs.declared.entry.Entry.{Entry}
@@ -17,7 +17,7 @@ pub record IsKept (told : Option Kept) (base : Base) (a : Base × List Entry × 
   pub same : a.2.told ≡ told
 
 -- when each refusal comes
-abbrev pub OpensNot : Option Kept → Base → OpenError → Type 0
+abbrev pub OpensNot : Option Kept → Base → UnopenedAccount → Type 0
 OpensNot told base Failed = ⊤
 OpensNot told base (Damaged place text) = IsNoEntryText text.items × HasDamage told base.account_id place text.items
 OpensNot told base (BadEntries place) = (list : List Entry) × Lists told base.account_id list × (unsound_place base.zones (changes_of list) ≡ Some place)

@@ -15,7 +15,7 @@ use zone_table::Zones;
 
 /// Why an account doesn't open at what its keeper has of it.
 #[derive(Drop)]
-pub enum OpenError {
+pub enum UnopenedAccount {
     /// The keeper failed.
     Failed,
     /// A text of the keeper's is no entry's.
@@ -34,13 +34,13 @@ pub enum OpenError {
     NoMemory,
 }
 
-impl From<AllocError> for OpenError {
-    ghost use Rattle.kept_account.specs.declared.open.OpenError.TheVariants.{NoMemory};
+impl From<AllocError> for UnopenedAccount {
+    ghost use Rattle.kept_account.specs.declared.open.UnopenedAccount.TheVariants.{NoMemory};
 
     ghost from_gives = { λ _ error. error ≡ NoMemory };
 
-    fn from(_: AllocError) -> OpenError {
-        OpenError::NoMemory
+    fn from(_: AllocError) -> UnopenedAccount {
+        UnopenedAccount::NoMemory
     }
 }
 
@@ -54,7 +54,7 @@ pub fn open_kept<K: Keeper>(
     zones: Arc<Zones>,
     generation: u64,
     keeper: K,
-) -> Result<KeptAccount<K>, OpenError>
+) -> Result<KeptAccount<K>, UnopenedAccount>
     requires { IsSettled (K.shown keeper).told }
     ensures opened { IfOk result (IsKept (K.shown keeper).told (record { account_id = id; zones = arc_value zones; generation = generation })) }
     ensures refused { IfErr result (OpensNot (K.shown keeper).told (record { account_id = id; zones = arc_value zones; generation = generation })) }
@@ -63,11 +63,11 @@ pub fn open_kept<K: Keeper>(
     match keeper.load(id.as_str()) {
         Ok(entries) => match KeptAccount::open_at(alloc, id, zones, generation, entries, keeper) {
             Ok(account) => Ok(account),
-            Err(EntriesError::BadEntries { place }) => Err(OpenError::BadEntries { place }),
-            Err(EntriesError::NoMemory) => Err(OpenError::NoMemory),
+            Err(EntriesError::BadEntries { place }) => Err(UnopenedAccount::BadEntries { place }),
+            Err(EntriesError::NoMemory) => Err(UnopenedAccount::NoMemory),
         },
-        Err(JournalError::Failed) => Err(OpenError::Failed),
-        Err(JournalError::Damaged { place, text }) => Err(OpenError::Damaged { place, text }),
-        Err(JournalError::NoMemory) => Err(OpenError::NoMemory),
+        Err(JournalError::Failed) => Err(UnopenedAccount::Failed),
+        Err(JournalError::Damaged { place, text }) => Err(UnopenedAccount::Damaged { place, text }),
+        Err(JournalError::NoMemory) => Err(UnopenedAccount::NoMemory),
     }
 }

@@ -55,7 +55,7 @@ module _ (site : Site) (user : ℕ) (before : Accounts) (x x' : KeptSetting) (wr
   AllDone = AllWritten × AllKept × (more ≡ [])
 
   -- This line stands next, and was answered but not kept. A stop leaves all its texts, or none.
-  pub record IsUnkept (l : Line) : Type 0 where
+  pub record IsLineUnkept (l : Line) : Type 0 where
     pub rest : List ℕ
     pub next : HoldsLines x'.source.left behind (l.bytes ∷ []) rest
     pub answerable : IsAnswerable l.bytes
@@ -72,7 +72,7 @@ module _ (site : Site) (user : ℕ) (before : Accounts) (x x' : KeptSetting) (wr
   KeptEnds (Plain ReadFault) = AllDone × HasNoFeed behind × Rose x.source.faults x'.source.faults
   KeptEnds (Plain WriteFault) = AllKept × (more ≡ []) × Rose x.sink.faults x'.sink.faults × (l : Line) × (unwritten ≡ l ∷ []) × IsPrefixOf tail (response l)
   KeptEnds (Plain NoMemory) = AllWritten × AllKept
-  KeptEnds KeepFault = AllWritten × Rose x.keeper.faults x'.keeper.faults × (l : Line) × IsUnkept l
+  KeptEnds KeepFault = AllWritten × Rose x.keeper.faults x'.keeper.faults × (l : Line) × IsLineUnkept l
   KeptEnds _ = ⊥
 
 -- The lines of an input were run on these accounts, in order: each was answered, what it added was kept, and then its response was written.

@@ -7,7 +7,7 @@ use Rattle.spec_batch.specs.Chain.{Called, Rules}
 use Rattle.spec_calls.specs.declared.call.Reply.{Reply}
 use Rattle.spec_batch.specs.declared.desk.DeskError.{DeskError}
 use Rattle.spec_history.specs.MostTurns.{most_turns}
-use Rattle.account_desk.specs.FreshDesk.{rules_of}
+use Rattle.account_desk.specs.FreshDesk.{account_rules_with}
 use Rattle.account_desk.specs.SharedDesk.{IsSharedDesk, shown_by_passes, through_pass}
 use Rattle.account_desk.proofs.SharedLemmas.{lock_at, of_all, shared_called, state_at, still_shared}
 use Rattle.account_desk.proofs.shared_desk.SharedDeskDesk.call.Goals as goal
@@ -31,7 +31,7 @@ call-requires g c =
 
 pub invariant_of-self : goal.invariant_of-self
 invariant_of-self g c =
-    let rules : Rules = rules_of g.L.AccountLock.unkept g.L.AccountLock.unkept_placed in
+    let rules : Rules = account_rules_with g.L.AccountLock.unkept g.L.AccountLock.unkept_placed in
     let d = c.self.inside in
     let state = g.L.AccountLock.state in
     let passes = map state d.passes.items in
@@ -49,7 +49,7 @@ invariant_of-self g c =
 
 pub returns : goal.returns
 returns g c =
-    let rules : Rules = rules_of g.L.AccountLock.unkept g.L.AccountLock.unkept_placed in
+    let rules : Rules = account_rules_with g.L.AccountLock.unkept g.L.AccountLock.unkept_placed in
     let d = c.self.inside in
     let state = g.L.AccountLock.state in
     let passes = map state d.passes.items in
