@@ -11,7 +11,7 @@ mod words;
 use crate::ending::{finish, finish_kept};
 use crate::folder::JournalFolder;
 use crate::journal::run_journal;
-use crate::words::program_words;
+use crate::words::{asks_to_listen, program_words};
 use command_line::kept::KeptCommand;
 use command_line::listen_kept::ListenKept;
 use io_edge::streams::{ReaderSource, WriterSink};
@@ -51,7 +51,9 @@ fn main(rt: HostRuntime) -> ExitCode {
         Ok(None) => {}
         Err(_) => return finish(&rt, Status::NoMemory),
     }
-    tell_kept_not(&rt, &words);
+    if asks_to_listen(rt.alloc(), &words) {
+        let _ = rt.eprintln("jmapd: nothing is kept: no --journals");
+    }
     let status = run_program(
         rt.alloc(),
         rt,
@@ -64,13 +66,4 @@ fn main(rt: HostRuntime) -> ExitCode {
         &mut RealThreads::new(rt),
     );
     finish(&rt, status)
-}
-
-// Tells on standard error that `listen` without journals keeps nothing.
-fn tell_kept_not(rt: &HostRuntime, words: &[String]) {
-    if let [command, ..] = words {
-        if command.as_str() == "listen" {
-            let _ = rt.eprintln("jmapd: nothing is kept: no --journals");
-        }
-    }
 }
