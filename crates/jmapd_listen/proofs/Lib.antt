@@ -7,3 +7,4 @@ pub mod ProgramLemmas
 pub mod Sending
 pub mod ServeLemmas
 pub mod ZipLemmas
+pub mod KeptLemmas
