@@ -1,5 +1,5 @@
 -- The texts of the entries that the changes of a call become.
-use Rattle.std.proofs.Common.{◌≡◌, ◌≤◌, ◌<◌, ◌+◌, ◌^◌, ◌++◌, ◌∷◌, ◌∙◌, [], ℕ, suc, List, None, ap, arith, drop, get_or, length, map, subst, sym, take, refl}
+use Rattle.std.proofs.Common.{◌≡◌, ◌≤◌, ◌<◌, ◌+◌, ◌^◌, ◌++◌, ◌∷◌, ◌∙◌, [], ℕ, suc, List, None, Result, Ok, Err, OnOk, ap, arith, drop, get_or, length, length-append, map, subst, sym, take, refl}
 use Rattle.std.proofs.Math.Seq.{drop-append_seam}
 use Rattle.std.proofs.lemmas.List.{take_more}
 use Rattle.std.proofs.lemmas.List.Elements.{All-from_recursion, All-head, All-tail}
@@ -24,21 +24,29 @@ use Rattle.spec_time.specs.Moments.{IsMoment}
 -- ---- a loop over the changes
 
 -- the entries of the changes so far, with the next
-so_far : (stamp : Stamp) (cs : List Change) (i : ℕ) (c : Change) → i < length cs → c ≡ get_or cs i c → entries_from stamp 0 (take (i + 1) cs) ≡ entries_from stamp 0 (take i cs) ++ entry_of stamp (length (take i cs)) c ∷ []
-so_far stamp cs i c there at =
+so_far : (stamp : Stamp) (cs : List Change) (i : ℕ) (c : Change) → i < length cs → c ≡ get_or cs i c → length (take i cs) ≡ i → entries_from stamp 0 (take (i + 1) cs) ≡ entries_from stamp 0 (take i cs) ++ entry_of stamp i c ∷ []
+so_far stamp cs i c there at upto =
+    let part : 0 + length (take i cs) ≡ i = omega (arith, upto) in
     ap (entries_from stamp 0) (take_more cs i c there ∙ ap (λ (x : Change). take i cs ++ x ∷ []) (sym at)) ∙ entries_push stamp (take i cs) 0 c
+    ∙ ap (λ (n : ℕ). entries_from stamp 0 (take i cs) ++ entry_of stamp n c ∷ []) part
 
-pub texts_step : (account : List ℕ) (stamp : Stamp) (cs : List Change) (i : ℕ) (c : Change) (old new : List Labelled) (text : List ℕ) → i < length cs → c ≡ get_or cs i c
-    → old ≡ labelled account (entries_from stamp 0 (take i cs)) → new ≡ old ++ (account, text) ∷ [] → text ≡ entry_text (entry_of stamp (length (take i cs)) c) → new ≡ labelled account (entries_from stamp 0 (take (i + 1) cs))
-texts_step account stamp cs i c old new text there at before push is =
-    push ∙ (λ k. before k ++ (account, is k) ∷ []) ∙ sym (labelled_more account (entries_from stamp 0 (take i cs)) (entry_of stamp (length (take i cs)) c)) ∙ ap (labelled account) (sym (so_far stamp cs i c there at))
+pub upto_step : (cs : List Change) (i : ℕ) (c : Change) → i < length cs → length (take i cs) ≡ i → length (take (i + 1) cs) ≡ i + 1
+upto_step cs i c there upto =
+    let more = ap length (take_more cs i c there) in
+    let count = length-append (take i cs) (get_or cs i c ∷ []) in
+    omega (arith, more, count, upto)
 
-pub back_step : (stamp : Stamp) (cs : List Change) (i : ℕ) (c : Change) → i < length cs → c ≡ get_or cs i c
+pub texts_step : (account : List ℕ) (stamp : Stamp) (cs : List Change) (i : ℕ) (c : Change) (old new : List Labelled) (text : List ℕ) → i < length cs → c ≡ get_or cs i c → length (take i cs) ≡ i
+    → old ≡ labelled account (entries_from stamp 0 (take i cs)) → new ≡ old ++ (account, text) ∷ [] → text ≡ entry_text (entry_of stamp i c) → new ≡ labelled account (entries_from stamp 0 (take (i + 1) cs))
+texts_step account stamp cs i c old new text there at upto before push is =
+    push ∙ (λ k. before k ++ (account, is k) ∷ []) ∙ sym (labelled_more account (entries_from stamp 0 (take i cs)) (entry_of stamp i c)) ∙ ap (labelled account) (sym (so_far stamp cs i c there at upto))
+
+pub back_step : (stamp : Stamp) (cs : List Change) (i : ℕ) (c : Change) → i < length cs → c ≡ get_or cs i c → length (take i cs) ≡ i
     → (AreKeepable (entries_from stamp 0 (take i cs)) → AreEntriesOf (entries_from stamp 0 (take i cs)) (map entry_text (entries_from stamp 0 (take i cs))))
-    → (IsKeepable (entry_of stamp (length (take i cs)) c) → IsEntryText (entry_of stamp (length (take i cs)) c) (entry_text (entry_of stamp (length (take i cs)) c)))
+    → (IsKeepable (entry_of stamp i c) → IsEntryText (entry_of stamp i c) (entry_text (entry_of stamp i c)))
     → AreKeepable (entries_from stamp 0 (take (i + 1) cs)) → AreEntriesOf (entries_from stamp 0 (take (i + 1) cs)) (map entry_text (entries_from stamp 0 (take (i + 1) cs)))
-back_step stamp cs i c there at all one =
-    subst (λ (es : List Entry). AreKeepable es → AreEntriesOf es (map entry_text es)) (sym (so_far stamp cs i c there at)) (written_more (entries_from stamp 0 (take i cs)) (entry_of stamp (length (take i cs)) c) all one)
+back_step stamp cs i c there at upto all one =
+    subst (λ (es : List Entry). AreKeepable es → AreEntriesOf es (map entry_text es)) (sym (so_far stamp cs i c there at upto)) (written_more (entries_from stamp 0 (take i cs)) (entry_of stamp i c) all one)
 
 -- ---- they have texts
 
@@ -64,3 +72,7 @@ keepable_call zones h stamp cs sound author moment turn few values =
     subst AreKeepable seam
     (keepable_behind zones all (length h) sound' (subst (All IsEntryValue) (sym seam) (All-from_recursion IsEntryValue es (values_from stamp 0 cs author moment (omega (arith, few)) values)))
     (subst (All (λ (e : Entry). e.turn ≤ most_turns)) (sym seam) (All-from_recursion (λ (e : Entry). e.turn ≤ most_turns) es (turns_from stamp 0 cs turn))))
+
+pub still_ok : {T E P Q : Type 0} (r : Result T E) → (P → Q) → OnOk r P → OnOk r Q
+still_ok (Ok x) so p = so p
+still_ok (Err e) so p = tt

@@ -1,11 +1,13 @@
 -- What the keeper of an account has of it behind a keep, and what a stop leaves.
-use Rattle.std.proofs.Common.{◌≡◌, ◌∙◌, ◌++◌, [], ℕ, List, Option, Some, None, ap, append-nil, inl, inr, map, option_map, refl, subst, sym}
+use Rattle.std.proofs.Common.{◌≡◌, ◌∙◌, ◌++◌, [], ℕ, List, Option, Some, None, Result, Ok, Err, OnErr, ap, append-nil, inl, inr, map, option_map, refl, subst, sym}
 use Rattle.cal_model.specs.Answer.{entries_from}
 use Rattle.cal_model.specs.Sound.{unsound_place}
 use Rattle.account_core.proofs.Committing.{changes_committed}
 use Rattle.journal_keeper.proofs.AccountTexts.{bytes_same, entries_join, texts_own}
 use Rattle.journal_keeper.proofs.Loading.{texts-append}
 use Rattle.journal_keeper.specs.EntryText.{entry_text}
+use Rattle.journal_keeper.specs.declared.keeper.KeepError.{KeepError}
+use Rattle.journal_keeper.specs.declared.keeper.KeepError.TheVariants.{Failed, NoMemory}
 use Rattle.journal_keeper.specs.Journals.{AreEntriesOf, FailsToKeep, IsLeft, Keeps, Kept, Labelled, labelled, texts_of}
 use Rattle.kept_account.specs.HasKept.{HasKept, IsDoubt, LeavesSound}
 use Rattle.spec_history.specs.Base.{Base}
@@ -59,3 +61,9 @@ module _ (base : Base) (h : List Entry) where
   pub leaves_sound : (told : Option Kept) → unsound_place base.zones (changes_of h) ≡ None → HasKept told base h → LeavesSound told base h
   leaves_sound None sound has = tt
   leaves_sound (Some k) sound has = λ found left. opens_left k found has.listed sound has.doubted left
+
+-- what follows of each error follows where there is one
+pub by_error : {P : Type 0} (r : Result (Unit {0}) KeepError) → (r ≡ Err Failed → P) → (r ≡ Err NoMemory → P) → OnErr r P
+by_error (Ok x) failed wanted = tt
+by_error (Err Failed) failed wanted = failed refl
+by_error (Err NoMemory) failed wanted = wanted refl
