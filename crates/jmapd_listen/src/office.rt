@@ -27,6 +27,6 @@ pub trait Office {
     ) -> Result<Vec<Self::D>, KeptStatus>
         requires { (1 ≤ workers) × (workers ≤ 256) }
         ensures same { (shown self.new).told ≡ (shown self.old).told }
-        ensures opened { IfOk result (λ desks. AreKeptDesks site.now (shown self.old).told workers (map D.shown desks.items)) }
+        ensures opened { IfOk result (λ desks. AreKeptDesks site.now (shown self.old).told workers (map Self.D.shown desks.items)) }
         ensures refused { IfErr result (OpensNone site.now (shown self.old) (shown self.new)) };
 }

@@ -1,5 +1,5 @@
 -- The turns of what came to the accounts.
-use Rattle.std.proofs.Common.{◌≡◌, ◌≤◌, ◌<◌, ◌+◌, ◌∷◌, ◌==◌, [], ℕ, zero, suc, List, drop, flat_map, length, refl, sym, ◌∙◌, subst, arith}
+use Rattle.std.proofs.Common.{◌≡◌, ◌≤◌, ◌<◌, ◌+◌, ◌∷◌, ◌==◌, [], ℕ, zero, suc, List, drop, take, flat_map, length, refl, sym, ◌∙◌, subst, arith}
 use Rattle.std.proofs.Math.ListN.{get_or}
 use Rattle.std.proofs.lemmas.List.Elements.{All-append, All-cons, All-nil}
 use Rattle.std.specs.Prelude.{All}
@@ -10,11 +10,13 @@ use Rattle.kept_run.proofs.TextLemmas.{no_account}
 use Rattle.kept_run.specs.Lines.{Accounts, counts}
 use Rattle.kept_run.specs.Steps.{HaveTurns}
 use Rattle.spec_batch.proofs.Chains.{summary}
-use Rattle.spec_batch.specs.Chain.{Chain, Made, Rules, Stand, added_by, on, stamp_of}
+use Rattle.spec_batch.specs.Chain.{Chain, Made, Rules, Stand, on, stamp_of}
+use Rattle.spec_books.proofs.ActLemmas.{came_signed}
 use Rattle.spec_history.specs.Base.{Base}
 use Rattle.spec_history.specs.MostTurns.{most_turns}
 use Rattle.spec_history.specs.Signed.{AreSigned, written_by}
 use Rattle.spec_history.specs.declared.entry.Entry.{Entry}
+use Rattle.spec_history.specs.declared.stamp.Stamp.{Stamp}
 
 -- a turn that a call may have
 abbrev pub IsTurn : Entry → Type 0
@@ -27,21 +29,27 @@ signed_turns author turn (e ∷ es) signed within =
     let here : e.turn ≤ most_turns = omega (arith, is, within) in
     All-cons IsTurn e es here (signed_turns author turn es signed.2 within)
 
+abbrev came_of : List Made → List Entry
+came_of ms = flat_map (λ (m : Made). m.came) ms
+
 module _ (rules : Rules) (base : Base) (author : ℕ) (h : List Entry) where
   no_later : (from late upto : ℕ) (ms : List Made) → Stand rules base author h from late upto ms → late ≤ upto
   no_later from late upto [] stand = stand
   no_later from late upto (m ∷ ms) stand =
-      let rest = no_later (m.reply.place + length (added_by rules base author h m)) m.turn upto ms stand.1 in
+      let rest = no_later (m.reply.place + length m.came) m.turn upto ms stand.1 in
       let here = stand.0.later in
       omega (arith, rest, here)
 
-  made_turns : (from late upto : ℕ) (ms : List Made) → Stand rules base author h from late upto ms → upto ≤ most_turns → All IsTurn (flat_map (added_by rules base author h) ms)
+  made_turns : (from late upto : ℕ) (ms : List Made) → Stand rules base author h from late upto ms → upto ≤ most_turns → All IsTurn (came_of ms)
   made_turns from late upto [] stand within = All-nil IsTurn
   made_turns from late upto (m ∷ ms) stand within =
-      let next : ℕ = m.reply.place + length (added_by rules base author h m) in
+      let next : ℕ = m.reply.place + length m.came in
       let last = no_later next m.turn upto ms stand.1 in
-      let here : All IsTurn (added_by rules base author h m) = signed_turns author m.turn (added_by rules base author h m) (rules.signed base _ m.call (stamp_of rules base author m)) (omega (arith, last, within)) in
-      All-append IsTurn (added_by rules base author h m) (flat_map (added_by rules base author h) ms) here (made_turns next m.turn upto ms stand.1 within)
+      let before : List Entry = take m.reply.place h in
+      let stamp : Stamp = stamp_of rules base author m in
+      let signed : AreSigned author m.turn m.came = came_signed rules.answer rules.added rules.unkept base before m.call stamp m.reply m.came (rules.signed base before m.call stamp) stand.0.acts in
+      let here : All IsTurn m.came = signed_turns author m.turn m.came signed (omega (arith, last, within)) in
+      All-append IsTurn m.came (came_of ms) here (made_turns next m.turn upto ms stand.1 within)
 
 -- behind the first so many of a desk's own entries there are no others
 own_behind : (es : List Entry) (place : ℕ) → written_by 0 es ≡ es → written_by 0 (drop place es) ≡ drop place es

@@ -1,5 +1,5 @@
 -- What a kept run does, whatever bytes come and whichever calls of the keeper and of the output fail.
-use Rattle.std.specs.Prelude.{◌≡◌, ◌⊎◌, ◌<◌, ◌≤◌, ℕ, ℤ, List, [], ◌∷◌, ◌++◌, All, Option, Some, None, Ok, Err, length, map, slice_index_or, ⊤}
+use Rattle.std.specs.Prelude.{◌≡◌, ◌⊎◌, ◌<◌, ◌≤◌, ℕ, ℤ, List, [], ◌∷◌, ◌++◌, All, Option, Some, None, Ok, Err, length, map, ⊤}
 use Rattle.std.specs.Io.KnownBytes.{Consumes, IsAtEnd}
 use Rattle.command_line.specs.KeptWords.{KeptCommand}
 use Rattle.io_edge.specs.Outside.{Grows, OpenerShown, Rose, SinkShown, SourceShown}
@@ -20,7 +20,7 @@ use Rattle.spec_connection.specs.Serving.{IsPrefixOf}
 use Rattle.spec_core.specs.declared.limits.TheConstants.{MAX_SIZE_REQUEST}
 use Rattle.spec_history.specs.Base.{Base}
 use Rattle.spec_history.specs.declared.entry.Entry.{Entry}
-use Rattle.spec_site.specs.Configuration.{Site, SiteAccount, user_named}
+use Rattle.spec_site.specs.Configuration.{Site, user_named}
 
 -- what is shown of all that a kept run touches besides the files
 pub record KeptSetting : Type 0 where
