@@ -25,11 +25,22 @@ pub fn told(
         return Ok(None);
     };
     let keeper = MemKeeper::new(alloc, Vec::new(alloc), failing, leaves);
+    match opened(alloc, keeper)? {
+        Some(mut account) => answers(alloc, &mut account, names),
+        None => Ok(Some(String::from_str(alloc, "not opened")?)),
+    }
+}
+
+// The account at what its keeper has of it, or none where the keeper fails. It stands in a box, since a function that holds one by value is proved with all its parts.
+fn opened(
+    alloc: Global,
+    keeper: MemKeeper,
+) -> Result<Option<Box<KeptAccount<MemKeeper>>>, AllocError> {
     let id = Text::from_str(alloc, "A1")?;
     match open_kept(alloc, id, no_zones(alloc)?, 0, keeper) {
-        Ok(account) => answers(alloc, account, names),
+        Ok(account) => Ok(Some(Box::new(alloc, account)?)),
         Err(UnopenedAccount::NoMemory) => Err(AllocError),
-        Err(_) => Ok(Some(String::from_str(alloc, "not opened")?)),
+        Err(_) => Ok(None),
     }
 }
 
@@ -49,10 +60,9 @@ fn numbers(alloc: Global, trees: &[Tree]) -> Result<Option<Vec<u64>>, AllocError
 
 fn answers(
     alloc: Global,
-    account: KeptAccount<MemKeeper>,
+    account: &mut KeptAccount<MemKeeper>,
     names: &[Tree],
 ) -> Result<Option<String>, AllocError> {
-    let mut account = account;
     let mut line = String::new(alloc);
     for name in names {
         let call = create_call(alloc, name.copy()?)?;

@@ -1,9 +1,11 @@
-//! The folder.
-ghost use Rattle.std.specs.Prelude.{◌≡◌, ◌<◌, ◌≤◌, All, IfErr, IfOk, List, None, length, map, slice_index_or};
+//! The journals of accounts in a folder.
+ghost use Rattle.std.specs.Prelude.{◌≡◌, ◌<◌, ◌≤◌, All, IfErr, IfOk, None, length, map, slice_index_or};
 ghost use Rattle.account_desk.specs.FreshDesk.{bases};
 ghost use Rattle.cal_model.specs.Sound.{unsound_place};
 ghost use Rattle.io_edge.specs.Outside.{Rose};
+ghost use Rattle.jmapd.specs.Untold.{untold};
 ghost use Rattle.jmapd_listen.specs.Offices.{OpensNone};
+ghost use Rattle.kept_account.specs.Opened.{OpensNot};
 ghost use Rattle.kept_run.specs.Steps.{account_base};
 ghost use Rattle.spec_history.specs.History.{changes_of};
 ghost use Rattle.spec_site.specs.Configuration.{SiteAccount};
@@ -50,7 +52,7 @@ impl<'a, W: Wait + Copy + Send + Drop + 'static> JournalFolder<'a, W> {
 impl<'a, W: Wait + Copy + Send + Drop + 'static> Office for JournalFolder<'a, W> {
     type D = SharedDesk<W, FileLock>;
 
-    ghost shown = { λ f. record { told = λ id. None; faults = f.faults; damages = f.damages } };
+    ghost shown = { λ f. untold f.faults f.damages };
 
     fn desks(
         &mut self,
@@ -88,14 +90,13 @@ fn open_accounts(
 ) -> Result<Vec<FileAccount>, KeptStatus>
     ensures bases { IfOk result (λ v. map (λ a. a.0) v.items ≡ bases site.now) }
     ensures sound { IfOk result (λ v. All (λ a. unsound_place a.0.zones (changes_of a.1) ≡ None) v.items) }
-    ensures refused { IfErr result (OpensNone site.now (record { told = λ id. None; faults = faults.old; damages = damages.old }) (record { told = λ id. None; faults = faults.new; damages = damages.new })) }
-    ensures later { (faults.old ≤ faults.new) × (damages.old ≤ damages.new) }
+    ensures refused { IfErr result (OpensNone site.now (untold faults.old damages.old) (untold faults.new damages.new)) }
 {
     let count = site.accounts();
     let mut accounts = Vec::with_capacity(alloc, count as usize)?;
     for n in 0..count {
         let account = open_one(alloc, rt, folder, site, n, faults, damages)?;
-        accounts.push(account)?;
+        accounts.push_reserved(account);
     }
     Ok(accounts)
 }
@@ -113,40 +114,57 @@ fn open_one(
     requires { n < length site.now.accounts }
     ensures base { IfOk result (λ a. (d : SiteAccount) → a.0 ≡ account_base site.now (slice_index_or site.now.accounts n d).id) }
     ensures sound { IfOk result (λ a. unsound_place a.0.zones (changes_of a.1) ≡ None) }
-    ensures refused { IfErr result (OpensNone site.now (record { told = λ id. None; faults = faults.old; damages = damages.old }) (record { told = λ id. None; faults = faults.new; damages = damages.new })) }
+    ensures refused { IfErr result (OpensNone site.now (untold faults.old damages.old) (untold faults.new damages.new)) }
     ensures later { (faults.old ≤ faults.new) × (damages.old ≤ damages.new) }
 {
-    let id = site.account_id(n);
-    let name = file_name(alloc, folder, id)?;
-    let keeper = match open_account(rt, name.as_str(), id.as_str()) {
-        Ok(keeper) => keeper,
-        Err(OpenError::NoMemory) => return Err(KeptStatus::Plain(Status::NoMemory)),
+    let id = site.account_id(n).copy()?;
+    let zones = Arc::try_clone(site.zones())?;
+    let name = file_name(alloc, folder, &id)?;
+    match open_account(rt, name.as_str(), id.as_str()) {
+        Ok(keeper) => match open_kept(alloc, id, zones, site.generation(), keeper) {
+            Ok(account) => Ok(account),
+            Err(error) => Err(not_opened(site, n, error, faults, damages)),
+        },
+        Err(OpenError::NoMemory) => Err(KeptStatus::Plain(Status::NoMemory)),
         Err(error) => {
             tell_unopened(rt, error, name.as_str());
             rise(faults);
-            return Err(KeptStatus::Plain(Status::OpenFault));
+            Err(KeptStatus::Plain(Status::OpenFault))
         }
+    }
+}
+
+// The status that tells why the account of a number of a site doesn't open at what its keeper has of it.
+fn not_opened(
+    site: &Site,
+    n: u32,
+    error: UnopenedAccount,
+    faults: &mut u64,
+    damages: &mut u64,
+) -> KeptStatus
+    requires within { n < length site.now.accounts }
+    requires why { (d : SiteAccount) → OpensNot None (account_base site.now (slice_index_or site.now.accounts n d).id) error }
+    ensures refused { OpensNone site.now (untold faults.old damages.old) (untold faults.new damages.new) result }
+    ensures later { (faults.old ≤ faults.new) × (damages.old ≤ damages.new) }
+{
+    let Ok(account) = site.account_id(n).copy() else {
+        return KeptStatus::Plain(Status::NoMemory);
     };
-    let zones = Arc::try_clone(site.zones())?;
-    match open_kept(alloc, id.copy()?, zones, site.generation(), keeper) {
-        Ok(account) => Ok(account),
-        Err(UnopenedAccount::Failed) => {
+    match error {
+        UnopenedAccount::Failed => {
             rise(faults);
-            Err(KeptStatus::KeepFault)
+            KeptStatus::KeepFault
         }
-        Err(UnopenedAccount::Damaged { place, text }) => {
+        UnopenedAccount::Damaged { place, text } => {
             rise(damages);
-            Err(KeptStatus::Damaged {
-                account: id.copy()?,
+            KeptStatus::Damaged {
+                account,
                 place,
                 text,
-            })
+            }
         }
-        Err(UnopenedAccount::BadEntries { place }) => Err(KeptStatus::BadJournal {
-            account: id.copy()?,
-            place,
-        }),
-        Err(UnopenedAccount::NoMemory) => Err(KeptStatus::Plain(Status::NoMemory)),
+        UnopenedAccount::BadEntries { place } => KeptStatus::BadJournal { account, place },
+        UnopenedAccount::NoMemory => KeptStatus::Plain(Status::NoMemory),
     }
 }
 
