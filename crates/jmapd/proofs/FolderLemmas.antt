@@ -27,7 +27,7 @@ refused_earlier site f g g' d e e' faults damages (Plain ReadFault) how = absurd
 refused_earlier site f g g' d e e' faults damages (Plain WriteFault) how = absurd how
 refused_earlier site f g g' d e e' faults damages (Plain Cut) how = absurd how
 
-nameless : SiteAccount
+pub nameless : SiteAccount
 nameless = record { id = []; name = [] }
 
 -- the bases of the accounts so far, with one more

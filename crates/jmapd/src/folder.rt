@@ -74,7 +74,8 @@ impl<'a, W: Wait + Copy + Send + Drop + 'static> Office for JournalFolder<'a, W>
 
 // A count of what failed that is one more, or stands at its last value.
 fn rise(count: &mut u64)
-    ensures { Rose count.old count.new }
+    ensures rose { Rose count.old count.new }
+    ensures later { count.old ≤ count.new }
 {
     *count = count.saturating_add(1);
 }

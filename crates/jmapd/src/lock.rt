@@ -9,13 +9,12 @@ use account_lock::pass::Pass;
 use kept_account::account::KeptAccount;
 use spec_calls::call::{Call, Reply};
 use spec_time::moment::Moment;
-use sql_keeper::sql_keeper::SqlKeeper;
-use sqlite::{File, FileStore};
+use sql_keeper::file_keeper::FileKeeper;
 use std::alloc::{AllocError, Global};
 use std::sync::Wait;
 
 /// An account that is kept in a database in a file.
-pub type FileAccount = KeptAccount<SqlKeeper<FileStore<File>>>;
+pub type FileAccount = KeptAccount<FileKeeper>;
 
 /// A lock round such an account.
 #[derive(Drop)]

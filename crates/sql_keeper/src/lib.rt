@@ -1,6 +1,7 @@
 //! A keeper in a database of SQLite, in one file.
 #![tactic(auto)]
 
+pub mod file_keeper;
 mod insert;
 mod next_place;
 pub mod open;

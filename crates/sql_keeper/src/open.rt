@@ -1,5 +1,6 @@
 //! How a keeper is opened.
 
+use crate::file_keeper::FileKeeper;
 use crate::insert::insertion;
 use crate::read_back::reading;
 use crate::sql_keeper::SqlKeeper;
@@ -81,16 +82,19 @@ pub fn open_file(rt: &HostRuntime, name: &str) -> Result<SqlKeeper<FileStore<Fil
 }
 
 /// The keeper over the file of this name, for one account. `OtherAccount` where its first entry is of another one.
-pub fn open_account(
-    rt: &HostRuntime,
-    name: &str,
-    account: &str,
-) -> Result<SqlKeeper<FileStore<File>>, OpenError> {
-    let mut keeper = open_file(rt, name)?;
-    if begins_with_another(&mut keeper.conn, account)? {
+pub fn open_account(rt: &HostRuntime, name: &str, account: &str) -> Result<FileKeeper, OpenError> {
+    let mut keeper = boxed(rt.alloc(), open_file(rt, name)?)?;
+    if begins_with_another(&mut keeper.keeper.conn, account)? {
         return Err(OpenError::OtherAccount);
     }
     Ok(keeper)
+}
+
+fn boxed(alloc: Global, keeper: SqlKeeper<FileStore<File>>) -> Result<FileKeeper, OpenError> {
+    match Box::new(alloc, keeper) {
+        Ok(keeper) => Ok(FileKeeper { keeper }),
+        Err(_) => Err(OpenError::NoMemory),
+    }
 }
 
 fn begins_with_another<S: Alter>(conn: &mut Connection<S>, account: &str) -> Result<bool, Error> {
