@@ -1,7 +1,6 @@
-//! The history of an account: its entries, the changes in them, and what holds a history.
+//! The history of an account: its entries, and the changes in them.
 #![tactic(auto)]
 
-pub mod book;
 pub mod entry;
 pub mod ids;
 pub mod stamp;
