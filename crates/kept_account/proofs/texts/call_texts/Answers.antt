@@ -26,8 +26,8 @@ loop-change-preserved c =
     let text : c.in_ok-text.text.items ≡ entry_text (entry_of stamp i change) = c.in_ok-text.ensures.text ∙ ap (λ (n : ℕ). entry_text (entry_of stamp n change)) part in
     let labelled_is : c.new.result ≡ (c.args.account.now, c.in_ok-text.text.items) = c.new.ensures ∙ ap (λ (a : List ℕ). (a, c.in_ok-text.text.items)) c.in_ok-copy.ensures in
     let one : IsKeepable (entry_of stamp i change) → IsEntryText (entry_of stamp i change) (entry_text (entry_of stamp i change)) = λ keepable.
-        subst (IsEntryText (entry_of stamp i change)) text
-        (subst (λ (n : ℕ). IsKeepable (entry_of stamp n change) → IsEntryText (entry_of stamp n change) c.in_ok-text.text.items) part c.in_ok-text.ensures.reads_back keepable) in
+    subst (IsEntryText (entry_of stamp i change)) text
+    (subst (λ (n : ℕ). IsKeepable (entry_of stamp n change) → IsEntryText (entry_of stamp n change) c.in_ok-text.text.items) part c.in_ok-text.ensures.reads_back keepable) in
     record {
       part = ap (λ (n : ℕ). n + 1) part;
       upto = upto_step cs i change c.loop-change-test.true c.loop-change.invariant.upto;

@@ -13,8 +13,8 @@ returns-clause-kept g c =
     let told = (g.K.Keeper.shown c.args.self.now.keeper).told in
     let told' = (g.K.Keeper.shown c.keep.new.self).told in
     still_ok c.keep.result (λ keeps base h sound has.
-        let texts = c.in_ok-texts.ensures.texts ∙ ap (λ (id : List ℕ). labelled id es) has.0 in
-        (has.0, kept_more base h told told' es (subst (Keeps told told') texts keeps) (c.in_ok-texts.ensures.read_back base.zones h sound) has.1)) c.keep.ensures.kept
+    let texts = c.in_ok-texts.ensures.texts ∙ ap (λ (id : List ℕ). labelled id es) has.0 in
+    (has.0, kept_more base h told told' es (subst (Keeps told told') texts keeps) (c.in_ok-texts.ensures.read_back base.zones h sound) has.1)) c.keep.ensures.kept
 
 pub returns-clause-not_kept : goal.returns-clause-not_kept
 returns-clause-not_kept g c =
@@ -23,6 +23,6 @@ returns-clause-not_kept g c =
     let told' = (g.K.Keeper.shown c.keep.new.self).told in
     by_error c.keep.result
     (λ failed base h sound has.
-        let texts = c.in_ok-texts.ensures.texts ∙ ap (λ (id : List ℕ). labelled id es) has.0 in
-        (has.0, kept_same base h told told' es (subst (FailsToKeep told told') texts (c.keep.ensures.failed failed)) (c.in_ok-texts.ensures.read_back base.zones h sound) (sound_call base h c.args.stamp.now c.args.changes.now sound) has.1))
+    let texts = c.in_ok-texts.ensures.texts ∙ ap (λ (id : List ℕ). labelled id es) has.0 in
+    (has.0, kept_same base h told told' es (subst (FailsToKeep told told') texts (c.keep.ensures.failed failed)) (c.in_ok-texts.ensures.read_back base.zones h sound) (sound_call base h c.args.stamp.now c.args.changes.now sound) has.1))
     (λ wanted base h sound has. (has.0, subst (λ (t : Option Kept). HasKept t base h) (sym (c.keep.ensures.no_memory wanted)) has.1))
