@@ -18,8 +18,8 @@ pub fn open_account(alloc: Global, id: Text) -> Result<Box<Account>, AllocError>
     Ok(Box::new(alloc, account)?)
 }
 
-/// No zones beside `Etc/UTC`.
-pub fn no_zones(alloc: Global) -> Result<Arc<Zones>, AllocError>
+// No zones beside `Etc/UTC`.
+fn no_zones(alloc: Global) -> Result<Arc<Zones>, AllocError>
     ensures { IfOk result (λ zones. arc_value zones ≡ []) }
 {
     match Zones::read(alloc, &[]) {

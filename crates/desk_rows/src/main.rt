@@ -4,7 +4,6 @@
 mod accounts;
 mod batches;
 mod connections;
-mod kept;
 mod openings;
 mod pair_desk;
 
@@ -15,15 +14,11 @@ use spec_json::tree::Tree;
 use std::alloc::{AllocError, Global};
 use std::io;
 
-/// What comes of a row, where it can be read: an account opens at `entries`, each so many times as it says, or doesn't; or a kept account, whose keeper is `failing`, is asked to create calendars of `names`; or a `request` is answered after those `before` it, and an `input` is served as a connection, each on a
+/// What comes of a row, where it can be read: an account opens at `entries`, each so many times as it says, or doesn't; or a `request` is answered after those `before` it, and an `input` is served as a connection, each on a
 /// desk that makes `most` calls.
 fn came(alloc: Global, asked: &Tree) -> Result<Option<String>, AllocError> {
     if let Some(entries) = asked.list_at("entries") {
         return openings::told(alloc, entries);
-    }
-    if let (Some(failing), Some(names)) = (asked.list_at("failing"), asked.list_at("names")) {
-        let leaves = matches!(asked.get("leaves"), Some(Tree::Truth(true)));
-        return kept::told(alloc, failing, leaves, names);
     }
     let Some(most) = asked.number_at("most") else {
         return Ok(None);
