@@ -89,7 +89,7 @@ def main():
             with open(os.path.join(folder, name), "w", encoding="utf-8") as file:
                 json.dump(configuration, file)
         trials = [(run["what"], came(program, folder, run), wanted(run)) for run in table["runs"]]
-        trials.append(("workers that have served", listen_ends(program, folder), (0, "", "")))
+        trials.append(("workers that have served", listen_ends(program, folder), (0, "", "jmapd: nothing is kept: no --journals\n")))
     for what, it, want in trials:
         if it != want:
             bad += 1

@@ -174,7 +174,7 @@ def words_and_ports(program, port):
     """The port is taken; and words that the program can't have."""
     config = ("--config", CONFIGURATION)
     taken = ended_with(program, *config, "--port", str(port))
-    yield "a port that is taken", taken.returncode == 6 and taken.stderr == b"jmapd: open fault\n"
+    yield "a port that is taken", taken.returncode == 6 and taken.stderr == b"jmapd: nothing is kept: no --journals\njmapd: open fault\n"
     for words in (("--port", "0"), ("--port", str(port), "--workers", "0"), ("--port", str(port), "--workers", "17"), ("--port", str(port), "--connections", "0")):
         refused = ended_with(program, *config, *words)
         yield " ".join(words[-2:]), refused.returncode == 2 and refused.stderr.startswith(b"usage: jmapd ")

@@ -2,16 +2,23 @@
 #![tactic(auto)]
 
 mod ending;
+mod folder;
 mod journal;
+mod lock;
+mod unclaimed;
+mod unopened;
 mod words;
 
 use crate::ending::{finish, finish_kept};
+use crate::folder::JournalFolder;
 use crate::journal::run_journal;
-use crate::words::program_words;
+use crate::words::{asks_to_listen, program_words};
 use command_line::kept::KeptCommand;
+use command_line::listen_kept::ListenKept;
 use io_edge::streams::{ReaderSource, WriterSink};
 use io_edge::system_clock::SystemClock;
 use io_edge::system_files::SystemFiles;
+use jmapd_listen::listen_kept::listen_kept;
 use jmapd_listen::program::run_program;
 use jmapd_run::status::Status;
 use listen_edge::real_threads::RealThreads;
@@ -28,6 +35,25 @@ fn main(rt: HostRuntime) -> ExitCode {
         Ok(Some(asked)) => return finish_kept(&rt, run_journal(rt, asked)),
         Ok(None) => {}
         Err(_) => return finish(&rt, Status::NoMemory),
+    }
+    match ListenKept::read(rt.alloc(), &words) {
+        Ok(Some(asked)) => {
+            let status = listen_kept(
+                rt.alloc(),
+                &asked.listen,
+                &mut SystemFiles::new(rt.alloc(), rt),
+                &mut JournalFolder::new(rt, rt, asked.journals),
+                &mut TcpHost::new(rt),
+                &mut RealThreads::new(rt),
+                SystemClock::new(rt),
+            );
+            return finish_kept(&rt, status);
+        }
+        Ok(None) => {}
+        Err(_) => return finish(&rt, Status::NoMemory),
+    }
+    if asks_to_listen(rt.alloc(), &words) {
+        let _ = rt.eprintln("jmapd: nothing is kept: no --journals");
     }
     let status = run_program(
         rt.alloc(),

@@ -2,6 +2,7 @@
 ghost use Rattle.std.specs.Prelude.{◌≡◌, ◌≢◌, IfOk, drop};
 ghost use Rattle.std.specs.Vec.Iter.{into_iter_items};
 
+use command_line::command::{Command, read_command};
 use jmapd_run::status::Status;
 use std::alloc::{AllocError, Global};
 use std::env;
@@ -15,6 +16,14 @@ pub fn program_words(rt: &HostRuntime) -> Result<Vec<String>, Status> {
             Err(_) => Err(Status::NoMemory),
         },
         Err(error) => Err(unread(error.kind())),
+    }
+}
+
+/// Whether the words are those of `listen` without journals. Where there is no memory to read them, it says that they aren't.
+pub fn asks_to_listen(alloc: Global, words: &[String]) -> bool {
+    match read_command(alloc, words) {
+        Ok(Some(Command::Listen(_))) => true,
+        _ => false,
     }
 }
 

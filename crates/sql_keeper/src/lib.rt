@@ -5,6 +5,7 @@ pub mod file_keeper;
 mod insert;
 mod next_place;
 pub mod open;
+mod owner;
 mod read_back;
 pub mod sql_keeper;
 mod tables;

@@ -2,10 +2,11 @@
 
 use crate::file_keeper::FileKeeper;
 use crate::insert::insertion;
+use crate::owner::claim;
 use crate::read_back::reading;
 use crate::sql_keeper::SqlKeeper;
 use crate::tables::{Found, VERSION, prepare};
-use sqlite::{Alter, Connection, Error, ErrorCode, File, FileStore, Options, Unknown, params};
+use sqlite::{Alter, Connection, Error, ErrorCode, File, FileStore, Options, Unknown};
 use sqlite_std_file::OpenError as PathError;
 use std::alloc::Global;
 use std::hash::{BuildHasher, RandomState};
@@ -26,7 +27,7 @@ pub enum OpenError {
     CannotOpen,
     /// The file is of another program, or no database.
     OtherProgram,
-    /// The file has entries of another account than it is opened for.
+    /// The file is another account's than it is opened for.
     OtherAccount,
     /// The file has tables of this version, which this program doesn't know.
     OtherVersion(i64),
@@ -81,13 +82,15 @@ pub fn open_file(rt: &HostRuntime, name: &str) -> Result<SqlKeeper<FileStore<Fil
     open_keeper(rt.alloc(), conn)
 }
 
-/// The keeper over the file of this name, for one account. `OtherAccount` where its first entry is of another one.
+/// The keeper over the file of this name, for one account: the file becomes that account's where it is nobody's. `OtherAccount` where it
+/// is another one's.
 pub fn open_account(rt: &HostRuntime, name: &str, account: &str) -> Result<FileKeeper, OpenError> {
     let mut keeper = boxed(rt.alloc(), open_file(rt, name)?)?;
-    if begins_with_another(&mut keeper.keeper.conn, account)? {
-        return Err(OpenError::OtherAccount);
+    if claim(&mut keeper.keeper.conn, account)? {
+        Ok(keeper)
+    } else {
+        Err(OpenError::OtherAccount)
     }
-    Ok(keeper)
 }
 
 fn boxed(alloc: Global, keeper: SqlKeeper<FileStore<File>>) -> Result<FileKeeper, OpenError> {
@@ -95,16 +98,6 @@ fn boxed(alloc: Global, keeper: SqlKeeper<FileStore<File>>) -> Result<FileKeeper
         Ok(keeper) => Ok(FileKeeper { keeper }),
         Err(_) => Err(OpenError::NoMemory),
     }
-}
-
-fn begins_with_another<S: Alter>(conn: &mut Connection<S>, account: &str) -> Result<bool, Error> {
-    let others: i64 = conn
-        .query_row(
-            "SELECT COUNT(*) FROM entry WHERE rowid = 1 AND account <> ?1",
-            params![account],
-        )?
-        .get(0)?;
-    Ok(others > 0)
 }
 
 fn connect(rt: &HostRuntime, name: &str) -> Result<Connection<FileStore<File>>, OpenError> {

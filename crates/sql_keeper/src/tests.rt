@@ -1,6 +1,7 @@
 //! What keepers give back, and which databases are no journals. The texts are written by hand.
 
 use crate::open::{OpenError, open_keeper};
+use crate::owner::claim;
 use journal_keeper::keeper::{JournalError, KeepError, Keeper};
 use journal_keeper::kept_text::KeptText;
 use journal_keeper::memory_keeper::MemKeeper;
@@ -160,5 +161,36 @@ fn what_is_no_journal_is_refused(rt: HostRuntime) -> Result<(), Fail> {
         alloc,
         "CREATE TABLE about (program TEXT NOT NULL, version INTEGER NOT NULL) STRICT; INSERT INTO about VALUES ('notes', 1)",
         OpenError::OtherProgram,
+    )
+}
+
+// Asks for a database as one account and another, with a text of the account A1 in it or without.
+fn claims(
+    rt: &impl Abort,
+    alloc: Global,
+    is_empty: bool,
+    wanted: &[(&str, bool)],
+) -> Result<(), Fail> {
+    let Ok(mut keeper) = open_keeper(alloc, Connection::open_in_memory(alloc)?) else {
+        panic!(rt; "no journal");
+    };
+    if !is_empty {
+        assert!(rt; put(&mut keeper.conn, 0, CALENDAR));
+    }
+    for (account, is_own) in wanted {
+        assert_eq!(rt; claim(&mut keeper.conn, account), Ok(*is_own));
+    }
+    Ok(())
+}
+
+#[test]
+fn a_journal_is_one_accounts(rt: HostRuntime) -> Result<(), Fail> {
+    let alloc = rt.alloc();
+    claims(&rt, alloc, true, &[("B", true), ("A1", false), ("B", true)])?;
+    claims(
+        &rt,
+        alloc,
+        false,
+        &[("B", false), ("A1", true), ("B", false), ("A1", true)],
     )
 }

@@ -1,0 +1,57 @@
+-- A keeper over a file may go to another thread.
+use denote.RattleType.{RattleType}
+use denote.Param.Send.{IsSend, sendable}
+use Rattle.std.proofs.Crossing.{crosses, frees, send}
+use Rattle.spec_json.proofs.Crossing.{text_sent}
+use Rattle.sql_keeper.specs.contracts.file_keeper.FileKeeper as file_keeper
+use Rattle.sql_keeper.specs.contracts.next_place.NextPlace as next_place
+use Rattle.sql_keeper.specs.contracts.sql_keeper.SqlKeeper as sql_keeper
+use Rattle.sqlite.below.sqlite_disk.specs.declared.Disk
+use Rattle.sqlite.below.sqlite_disk.specs.contracts.modelled.Modelled
+use Rattle.sqlite.below.sqlite_disk.specs.contracts.modelled.ModelledDisk.TheImpl as disk
+use Rattle.sqlite.below.sqlite_disk.specs.contracts.start.UnknownStart.TheImpl as unknown
+use Rattle.sqlite.below.sqlite_store.specs.contracts.store.FileStoreStore.TheImpl as stored
+use Rattle.sqlite.below.sqlite_disk.proofs.modelled.Modelled.TheSendSync as file_crosses
+use Rattle.sqlite.specs.contracts.FileStore
+use Rattle.sqlite.specs.contracts.Unknown
+use Rattle.sqlite.specs.contracts.connection.Connection
+use Rattle.sqlite.specs.contracts.statement.Statement
+use Rattle.sqlite.proofs.FileStore.TheSendSync as store_crosses
+use Rattle.sqlite.proofs.connection.Connection.TheSendSync as connection_crosses
+use Rattle.sqlite_std_file.specs.contracts.host.Host
+use Rattle.sqlite_std_file.specs.contracts.host.HostCalls.TheImpl as calls
+
+-- a file, a store over it and a connection over that, as `sqlite` names them
+abbrev file_row : RattleType
+file_row = Modelled.the_row Host.the_row Unknown.the_row calls.ghosts unknown.ghosts
+
+abbrev of_disk : Disk.Ghosts file_row.Denot
+of_disk = disk.ghosts Host.the_row Unknown.the_row calls.ghosts disk.no_dict unknown.ghosts disk.no_dict disk.no_dict
+
+abbrev store_row : RattleType
+store_row = FileStore.the_row file_row of_disk
+
+abbrev connection_row : RattleType
+connection_row = Connection.the_row store_row (stored.ghosts file_row of_disk stored.no_dict)
+
+abbrev sql_keeper_row : RattleType
+sql_keeper_row = sql_keeper.the_row store_row (stored.ghosts file_row of_disk stored.no_dict)
+
+host_sent : IsSend Host.the_row
+host_sent = search (crosses, sendable) depth 60 fits 20000
+
+connection_sent : IsSend connection_row
+connection_sent = connection_crosses.the_send store_row (stored.ghosts file_row of_disk stored.no_dict)
+    (store_crosses.the_send file_row of_disk (file_crosses.the_send Host.the_row Unknown.the_row calls.ghosts unknown.ghosts host_sent))
+
+statement_sent : IsSend Statement.the_row
+statement_sent = search (crosses, sendable) depth 60 fits 20000
+
+place_sent : IsSend next_place.the_row
+place_sent = search (text_sent, crosses, sendable) depth 60 fits 20000
+
+sql_keeper_sent : IsSend sql_keeper_row
+sql_keeper_sent = search (connection_sent, statement_sent, place_sent, crosses, frees, send, sendable) depth 60 fits 20000
+
+pub file_keeper_sent : IsSend file_keeper.the_row
+file_keeper_sent = search (sql_keeper_sent, crosses, sendable) depth 60 fits 20000
