@@ -126,18 +126,38 @@ fn respond_from_account<D: Desk>(
     requires { account < (D.shown desk.old).accounts }
     ensures { IsCallResponse fronts.old.items fronts.new.items (D.shown desk.old) (D.shown desk.new) account call moment name call_id created.new result }
 {
-    let reply = match ask(desk, account, &call, moment, fronts) {
-        Ok(reply) => reply,
-        Err(error) => return Err(error),
-    };
-    match with_added(call.created, reply.created) {
-        Ok(pairs) => *created = pairs,
-        Err(_) => return Err(DeskError::NoMemory),
+    let asked = ask(desk, account, &call, moment, fronts);
+    let given = given_to(call);
+    match asked {
+        Ok(reply) => match response_to_reply(alloc, given, reply, created, name, call_id) {
+            Ok(response) => Ok(response),
+            Err(_) => Err(DeskError::NoMemory),
+        },
+        Err(error) => Err(error),
     }
-    match reply_of(alloc, name, call_id, reply.arguments, reply.error) {
-        Ok(response) => Ok(response),
-        Err(_) => Err(DeskError::NoMemory),
-    }
+}
+
+/// The created ids of the request so far, as a call has them.
+fn given_to(call: Call) -> Pairs
+    ensures { result ≡ call.created }
+{
+    call.created
+}
+
+/// The response that a reply is, whose created ids go after those given.
+fn response_to_reply(
+    alloc: Global,
+    given: Pairs,
+    reply: Reply,
+    created: &mut Pairs,
+    name: Text,
+    call_id: Text,
+) -> Result<MethodResponse, AllocError>
+    ensures created { IfOk result (λ r. created.new ≡ given ++ reply.created) }
+    ensures response { IfOk result (λ r. r ≡ reply_response name call_id reply.arguments reply.error) }
+{
+    *created = with_added(given, reply.created)?;
+    reply_of(alloc, name, call_id, reply.arguments, reply.error)
 }
 
 /// The response to an invocation, by the responses and the created ids before it.
