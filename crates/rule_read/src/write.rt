@@ -1,8 +1,8 @@
 //! Writes recurrence rules.
-ghost use Rattle.std.specs.Prelude.{◌≡◌, ◌<◌, ◌∷◌, [], codes, map, true, unsigned_abs, IfOk};
+ghost use Rattle.std.specs.Prelude.{◌≡◌, ◌<◌, ◌∷◌, ◌++◌, [], codes, map, pos, true, unsigned_abs, IfOk};
 ghost use Rattle.std.specs.Option.{option_map_or};
 ghost use Rattle.spec_json.specs.Data.{items_of, list, text, whole};
-ghost use Rattle.spec_json.specs.TreeData.{data_of};
+ghost use Rattle.spec_json.specs.TreeData.{data_of, keyed};
 ghost use Rattle.spec_series.specs.RuleLimits.{is_end};
 ghost use Rattle.spec_series.specs.RuleObjects.{count_data, frequency_text, month_data, nday_data, nth_data, parts_of, rule_data, skip_members, until_data, weekday_text, year_day_members};
 
@@ -47,30 +47,64 @@ fn with_lists(alloc: Global, rule: &Rule, lists: Lists) -> Result<Tree, AllocErr
     requires places { data_of lists.by_set ≡ list (items_of (map whole rule.now.by_set)) }
     ensures { IfOk result (λ t. data_of t ≡ rule_data (parts_of rule.now)) }
 {
+    let mut members = list_members(alloc, lists)?;
+    members.append(&mut other_members(alloc, rule)?)?;
+    Tree::object(alloc, members)
+}
+
+// The members up to the lists, in byte order of their names.
+fn list_members(alloc: Global, lists: Lists) -> Result<Vec<(&'static str, Tree)>, AllocError>
+    ensures { IfOk result (λ ms. map keyed ms.items ≡
+        (codes "@type", text (codes "RecurrenceRule"))
+        ∷ (codes "byDay", data_of lists.by_day)
+        ∷ (codes "byMonth", data_of lists.by_month)
+        ∷ (codes "byMonthDay", data_of lists.by_month_day)
+        ∷ (codes "bySetPosition", data_of lists.by_set)
+        ∷ option_map_or (λ t. (codes "byYearDay", data_of t) ∷ []) lists.by_year_day []) }
+{
+    let Lists {
+        by_day,
+        by_month,
+        by_month_day,
+        by_year_day,
+        by_set,
+    } = lists;
     let kind = text_tree(alloc, "RecurrenceRule")?;
-    let week_start = text_tree(alloc, weekday_name(rule.week_start))?;
-    let frequency = text_tree(alloc, frequency_name(rule.frequency))?;
-    let skip = skip_tree(alloc, rule.skip)?;
-    let until = until_tree(alloc, rule.end)?;
     let mut members = vec![in alloc;
         ("@type", kind),
-        ("byDay", lists.by_day),
-        ("byMonth", lists.by_month),
-        ("byMonthDay", lists.by_month_day),
-        ("bySetPosition", lists.by_set),
+        ("byDay", by_day),
+        ("byMonth", by_month),
+        ("byMonthDay", by_month_day),
+        ("bySetPosition", by_set),
     ]?;
-    if let Some(by_year_day) = lists.by_year_day {
+    if let Some(by_year_day) = by_year_day {
         members.push(("byYearDay", by_year_day))?;
     }
-    members.push(("count", count_tree(rule.end)))?;
-    members.push(("firstDayOfWeek", week_start))?;
-    members.push(("frequency", frequency))?;
-    members.push(("interval", Tree::Whole(Num::new(i128::from(rule.interval)))))?;
-    if let Some(skip) = skip {
+    Ok(members)
+}
+
+// The members after the lists, in byte order of their names.
+fn other_members(alloc: Global, rule: &Rule) -> Result<Vec<(&'static str, Tree)>, AllocError>
+    ensures { IfOk result (λ ms. map keyed ms.items ≡
+        (codes "count", count_data rule.now.end)
+        ∷ (codes "firstDayOfWeek", text (weekday_text rule.now.week_start))
+        ∷ (codes "frequency", text (frequency_text rule.now.frequency))
+        ∷ (codes "interval", whole (pos rule.now.interval))
+        ∷ (skip_members rule.now.skip ++ (codes "until", until_data rule.now.end) ∷ [])) }
+{
+    let week_start = text_tree(alloc, weekday_name(rule.week_start))?;
+    let frequency = text_tree(alloc, frequency_name(rule.frequency))?;
+    let mut members = vec![in alloc;
+        ("count", count_tree(rule.end)),
+        ("firstDayOfWeek", week_start),
+        ("frequency", frequency),
+        ("interval", Tree::Whole(Num::new(i128::from(rule.interval)))),
+    ]?;
+    if let Some(skip) = skip_tree(alloc, rule.skip)? {
         members.push(("skip", skip))?;
     }
-    members.push(("until", until))?;
-    Tree::object(alloc, members)
+    members.push(("until", until_tree(alloc, rule.end)?))?;
+    Ok(members)
 }
 
 fn text_tree(alloc: Global, word: &str) -> Result<Tree, AllocError>
