@@ -1,7 +1,8 @@
 //! A calendar.
-ghost use Rattle.std.specs.Prelude.{◌≡◌, IfOk, option_map};
+ghost use Rattle.std.specs.Prelude.{◌≡◌, ◌∷◌, [], IfOk, codes, map, option_map};
 ghost use Rattle.cal_model.specs.Calendar.{stored, text_or_null};
-ghost use Rattle.spec_json.specs.TreeData.{data_of};
+ghost use Rattle.spec_json.specs.Data.{text, truth, whole};
+ghost use Rattle.spec_json.specs.TreeData.{data_of, keyed};
 ghost use Rattle.spec_json.specs.declared.tree.Tree.TheVariants.{Object};
 
 use spec_json::num::Num;
@@ -44,19 +45,50 @@ impl Calendar {
     pub fn tree(&self, alloc: Global) -> Result<Tree, AllocError>
         ensures { IfOk result (λ t. t ≡ Object (stored self.now)) }
     {
-        let members = vec![in alloc;
-            ("color", text_or_null(&self.color)?),
-            ("description", text_or_null(&self.description)?),
-            ("id", Tree::Text(self.id.copy()?)),
-            ("isSubscribed", Tree::Truth(self.is_subscribed)),
-            ("isVisible", Tree::Truth(self.is_visible)),
-            ("name", Tree::Text(self.name.copy()?)),
-            ("resourceZone", text_or_null(&self.resource_zone)?),
-            ("sortOrder", Tree::Whole(self.sort_order)),
-            ("timeZone", text_or_null(&self.time_zone)?),
-        ]?;
+        let mut members = leading(alloc, self)?;
+        members.append(&mut trailing(alloc, self)?)?;
         Tree::object(alloc, members)
     }
+}
+
+// The properties up to whether it is visible, in byte order of their names.
+fn leading(alloc: Global, calendar: &Calendar) -> Result<Vec<(&'static str, Tree)>, AllocError>
+    ensures { IfOk result (λ ms. map keyed ms.items ≡
+        (codes "color", text_or_null calendar.now.color)
+        ∷ (codes "description", text_or_null calendar.now.description)
+        ∷ (codes "id", text calendar.now.id)
+        ∷ (codes "isSubscribed", truth calendar.now.is_subscribed)
+        ∷ (codes "isVisible", truth calendar.now.is_visible) ∷ []) }
+{
+    let color = text_or_null(&calendar.color)?;
+    let description = text_or_null(&calendar.description)?;
+    let id = Tree::Text(calendar.id.copy()?);
+    Ok(vec![in alloc;
+        ("color", color),
+        ("description", description),
+        ("id", id),
+        ("isSubscribed", Tree::Truth(calendar.is_subscribed)),
+        ("isVisible", Tree::Truth(calendar.is_visible)),
+    ]?)
+}
+
+// The properties after whether it is visible, in byte order of their names.
+fn trailing(alloc: Global, calendar: &Calendar) -> Result<Vec<(&'static str, Tree)>, AllocError>
+    ensures { IfOk result (λ ms. map keyed ms.items ≡
+        (codes "name", text calendar.now.name)
+        ∷ (codes "resourceZone", text_or_null calendar.now.resource_zone)
+        ∷ (codes "sortOrder", whole calendar.now.sort_order)
+        ∷ (codes "timeZone", text_or_null calendar.now.time_zone) ∷ []) }
+{
+    let name = Tree::Text(calendar.name.copy()?);
+    let resource_zone = text_or_null(&calendar.resource_zone)?;
+    let time_zone = text_or_null(&calendar.time_zone)?;
+    Ok(vec![in alloc;
+        ("name", name),
+        ("resourceZone", resource_zone),
+        ("sortOrder", Tree::Whole(calendar.sort_order)),
+        ("timeZone", time_zone),
+    ]?)
 }
 
 fn text_or_null(text: &Option<Text>) -> Result<Tree, AllocError>
