@@ -20,12 +20,17 @@ module _ (site : Site) where
   from_first [] = refl
   from_first (g ∷ gs) = ap (λ ps. account_member site true g ∷ ps) (all_others gs)
 
-  -- the members put together
-  pub members_together : (user : User) (accounts : List Pair) (api known download events primary upload : Data) (state name : List ℕ)
-      → accounts ≡ put_all (account_members site user.grants) [] → api ≡ text (site.base_url ++ codes "/jmap") → known ≡ capabilities
-      → download ≡ text (site.base_url ++ codes "/download/{accountId}/{blobId}/{name}?accept={type}")
-      → events ≡ text (site.base_url ++ codes "/events?types={types}&closeafter={closeafter}&ping={ping}")
-      → primary ≡ primary_accounts site user.grants → upload ≡ text (site.base_url ++ codes "/upload/{accountId}") → state ≡ codes "1" → name ≡ user.name
-      → object (members_of ((codes "accounts", object (members_of accounts)) ∷ (codes "apiUrl", api) ∷ (codes "capabilities", known) ∷ (codes "downloadUrl", download) ∷ (codes "eventSourceUrl", events)
-      ∷ (codes "primaryAccounts", primary) ∷ (codes "state", text state) ∷ (codes "uploadUrl", upload) ∷ (codes "username", text name) ∷ [])) ≡ session_object site user
-  members_together user accounts api known download events primary upload state name a b c d e f g h i = rw (a, b, c, d, e, f, g, h, i) refl
+  -- the members put together, in two parts
+  abbrev pub leading_members : List ℕ → List Grant → List Pair
+  leading_members base grants =
+      (codes "accounts", object (members_of (put_all (account_members site grants) []))) ∷ (codes "apiUrl", text (base ++ codes "/jmap")) ∷ (codes "capabilities", capabilities)
+      ∷ (codes "downloadUrl", text (base ++ codes "/download/{accountId}/{blobId}/{name}?accept={type}")) ∷ []
+
+  abbrev pub trailing_members : List ℕ → List Grant → List ℕ → List Pair
+  trailing_members base grants name =
+      (codes "eventSourceUrl", text (base ++ codes "/events?types={types}&closeafter={closeafter}&ping={ping}")) ∷ (codes "primaryAccounts", primary_accounts site grants)
+      ∷ (codes "state", text (codes "1")) ∷ (codes "uploadUrl", text (base ++ codes "/upload/{accountId}")) ∷ (codes "username", text name) ∷ []
+
+  pub members_together : (user : User) (base : List ℕ) (grants others : List Grant) (name : List ℕ) → base ≡ site.base_url → grants ≡ user.grants → others ≡ user.grants → name ≡ user.name
+      → object (members_of (leading_members base grants ++ trailing_members base others name)) ≡ session_object site user
+  members_together user base grants others name a b c d = rw (a, b, c, d) refl

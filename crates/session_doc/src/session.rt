@@ -1,9 +1,10 @@
 //! Session objects.
-ghost use Rattle.std.specs.Prelude.{◌≡◌, ◌<◌, ◌++◌, IfOk, length};
-ghost use Rattle.spec_json.specs.Data.{text};
+ghost use Rattle.std.specs.Prelude.{◌≡◌, ◌<◌, ◌∷◌, ◌++◌, [], All, IfOk, codes, length, map};
+ghost use Rattle.spec_json.specs.Data.{members_of, object, text};
+ghost use Rattle.spec_json.specs.Edit.{put_all};
 ghost use Rattle.spec_site.specs.Configuration.{Site as SiteRecord, user_at};
-ghost use Rattle.spec_site.specs.SessionObject.{primary_accounts, session_object};
-ghost use Rattle.spec_json.specs.TreeData.{data_of};
+ghost use Rattle.spec_site.specs.SessionObject.{account_members, capabilities, primary_accounts, session_object};
+ghost use Rattle.spec_json.specs.TreeData.{data_of, keyed};
 
 use crate::capabilities::capabilities;
 use crate::session_accounts::accounts_object;
@@ -23,32 +24,74 @@ impl Site {
         let user = self.user(user);
         let base = self.base_url();
         let grants = user.grants.items();
-        let accounts = Tree::Object(accounts_object(alloc, self, grants)?);
-        let api = address(alloc, base, "/jmap")?;
-        let download = address(
-            alloc,
-            base,
-            "/download/{accountId}/{blobId}/{name}?accept={type}",
-        )?;
-        let events = address(
-            alloc,
-            base,
-            "/events?types={types}&closeafter={closeafter}&ping={ping}",
-        )?;
-        let upload = address(alloc, base, "/upload/{accountId}")?;
-        let members = vec![in alloc;
-            ("accounts", accounts),
-            ("apiUrl", api),
-            ("capabilities", capabilities(alloc)?),
-            ("downloadUrl", download),
-            ("eventSourceUrl", events),
-            ("primaryAccounts", primary_accounts(alloc, grants)?),
-            ("state", Tree::Text(Text::from_str(alloc, "1")?)),
-            ("uploadUrl", upload),
-            ("username", Tree::Text(user.name.copy()?)),
-        ]?;
+        let mut members = leading(alloc, self, base, grants)?;
+        members.append(&mut trailing(alloc, base, grants, &user.name)?)?;
         Tree::object(alloc, members)
     }
+}
+
+// The members up to the address of downloads, in byte order of their names.
+fn leading(
+    alloc: Global,
+    site: &Site,
+    base: &Text,
+    grants: &[Grant],
+) -> Result<Vec<(&'static str, Tree)>, AllocError>
+    requires { All (λ g. g.account < length site.now.accounts) grants.now }
+    ensures { IfOk result (λ ms. map keyed ms.items ≡
+        (codes "accounts", object (members_of (put_all (account_members site.now grants.now) [])))
+        ∷ (codes "apiUrl", text (base.now ++ codes "/jmap"))
+        ∷ (codes "capabilities", capabilities)
+        ∷ (codes "downloadUrl", text (base.now ++ codes "/download/{accountId}/{blobId}/{name}?accept={type}")) ∷ []) }
+{
+    let accounts = Tree::Object(accounts_object(alloc, site, grants)?);
+    let api = address(alloc, base, "/jmap")?;
+    let known = capabilities(alloc)?;
+    let download = address(
+        alloc,
+        base,
+        "/download/{accountId}/{blobId}/{name}?accept={type}",
+    )?;
+    let members = vec![in alloc;
+        ("accounts", accounts),
+        ("apiUrl", api),
+        ("capabilities", known),
+        ("downloadUrl", download),
+    ]?;
+    Ok(members)
+}
+
+// The members after the address of downloads, in byte order of their names.
+fn trailing(
+    alloc: Global,
+    base: &Text,
+    grants: &[Grant],
+    name: &Text,
+) -> Result<Vec<(&'static str, Tree)>, AllocError>
+    ensures { (site : SiteRecord) → IfOk result (λ ms. map keyed ms.items ≡
+        (codes "eventSourceUrl", text (base.now ++ codes "/events?types={types}&closeafter={closeafter}&ping={ping}"))
+        ∷ (codes "primaryAccounts", primary_accounts site grants.now)
+        ∷ (codes "state", text (codes "1"))
+        ∷ (codes "uploadUrl", text (base.now ++ codes "/upload/{accountId}"))
+        ∷ (codes "username", text name.now) ∷ []) }
+{
+    let events = address(
+        alloc,
+        base,
+        "/events?types={types}&closeafter={closeafter}&ping={ping}",
+    )?;
+    let primary = primary_accounts(alloc, grants)?;
+    let state = Tree::Text(Text::from_str(alloc, "1")?);
+    let upload = address(alloc, base, "/upload/{accountId}")?;
+    let name = Tree::Text(name.copy()?);
+    let members = vec![in alloc;
+        ("eventSourceUrl", events),
+        ("primaryAccounts", primary),
+        ("state", state),
+        ("uploadUrl", upload),
+        ("username", name),
+    ]?;
+    Ok(members)
 }
 
 // An address: the base, and a path or a template of one (RFC 6570).
