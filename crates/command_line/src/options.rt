@@ -1,7 +1,7 @@
 //! The commands as `clap` knows them.
 
 ghost use Rattle.std.specs.Prelude.{◌≡◌, IfNone, IfOk, IfSome, false, map, string_bytes, true};
-ghost use Rattle.clap.specs.Words.{HasMatchesOf, app_of, is_simple_and_free, rule_of};
+ghost use Rattle.clap.specs.Words.{HasMatchesOf, app_of, is_simple_and_free, rule_of, with_rule};
 ghost use Rattle.command_line.specs.KeptWords.{kept_app};
 ghost use Rattle.command_line.specs.ListenKeptWords.{listen_kept_app};
 ghost use Rattle.command_line.specs.Commands.{without_flags, batch_app, listen_app, option_named, stdio_app, workload_app, accepts};
@@ -11,71 +11,57 @@ use clap::{Arg, ArgAction, ArgMatches, Command};
 use std::alloc::{AllocError, Global};
 
 /// `batch [--config NAME] [--user NAME]`. Takes memory for its options.
+#[tactic(auto, unfolding(crate::specs::Commands::batch_app))]
 pub fn batch_command<'a>(alloc: Global) -> Result<Command<'a>, AllocError>
     ensures { IfOk result (λ command. app_of command ≡ batch_app) }
 {
-    let config = option_named(alloc, "config", false);
-    let user = option_named(alloc, "user", false);
-    let command = bare_command(alloc, "batch").arg(config)?.arg(user)?;
-    Ok(command)
+    let command = with_option(alloc, bare_command(alloc, "batch"), "config", false)?;
+    with_option(alloc, command, "user", false)
 }
 
 /// `stdio --config NAME`. Takes memory for its option.
+#[tactic(auto, unfolding(crate::specs::Commands::stdio_app))]
 pub fn stdio_command<'a>(alloc: Global) -> Result<Command<'a>, AllocError>
     ensures { IfOk result (λ command. app_of command ≡ stdio_app) }
 {
-    let config = option_named(alloc, "config", true);
-    let command = bare_command(alloc, "stdio").arg(config)?;
-    Ok(command)
+    with_option(alloc, bare_command(alloc, "stdio"), "config", true)
 }
 
 /// `workload --number N --size M`. Takes memory for its options.
+#[tactic(auto, unfolding(crate::specs::Commands::workload_app))]
 pub fn workload_command<'a>(alloc: Global) -> Result<Command<'a>, AllocError>
     ensures { IfOk result (λ command. app_of command ≡ workload_app) }
 {
-    let number = option_named(alloc, "number", true);
-    let size = option_named(alloc, "size", true);
-    let command = bare_command(alloc, "workload").arg(number)?.arg(size)?;
-    Ok(command)
+    let command = with_option(alloc, bare_command(alloc, "workload"), "number", true)?;
+    with_option(alloc, command, "size", true)
 }
 
 /// `listen --config NAME --port P [--workers W] [--connections N]`. Takes memory for its options.
+#[tactic(auto, unfolding(crate::specs::Commands::listen_app))]
 pub fn listen_command<'a>(alloc: Global) -> Result<Command<'a>, AllocError>
     ensures { IfOk result (λ command. app_of command ≡ listen_app) }
 {
-    let config = option_named(alloc, "config", true);
-    let port = option_named(alloc, "port", true);
-    let workers = option_named(alloc, "workers", false);
-    let connections = option_named(alloc, "connections", false);
-    let command = bare_command(alloc, "listen")
-        .arg(config)?
-        .arg(port)?
-        .arg(workers)?
-        .arg(connections)?;
-    Ok(command)
+    let command = with_option(alloc, bare_command(alloc, "listen"), "config", true)?;
+    let command = with_option(alloc, command, "port", true)?;
+    let command = with_option(alloc, command, "workers", false)?;
+    with_option(alloc, command, "connections", false)
 }
 
 /// `listen --config NAME --port P [--workers W] [--connections N] --journals FOLDER`. Takes memory for its options.
 pub fn listen_kept_command<'a>(alloc: Global) -> Result<Command<'a>, AllocError>
     ensures { IfOk result (λ command. app_of command ≡ listen_kept_app) }
 {
-    let journals = option_named(alloc, "journals", true);
-    let command = listen_command(alloc)?.arg(journals)?;
-    Ok(command)
+    with_option(alloc, listen_command(alloc)?, "journals", true)
 }
 
 /// `kept --config NAME --journal NAME [--user NAME]`. Takes memory for its options.
+#[tactic(auto, unfolding(crate::specs::KeptWords::kept_app))]
 pub fn kept_command<'a>(alloc: Global) -> Result<Command<'a>, AllocError>
     ensures { IfOk result (λ command. app_of command ≡ kept_app) }
 {
-    let config = option_named(alloc, "config", true);
-    let journal = option_named(alloc, "journal", true);
-    let user = option_named(alloc, "user", false);
-    let command = bare_command(alloc, "kept")
-        .arg(config)?
-        .arg(journal)?
-        .arg(user)?;
-    Ok(command)
+    let command = with_option(alloc, bare_command(alloc, "kept"), "config", true)?;
+    let command = with_option(alloc, command, "journal", true)?;
+    with_option(alloc, command, "user", false)
 }
 
 /// What `clap` finds in the words of a command, or `None` where it finds a fault with them.
@@ -106,6 +92,18 @@ fn bare_command<'a>(alloc: Global, name: &'a str) -> Command<'a>
         .no_binary_name(true)
         .disable_help_flag(true)
         .disable_version_flag(true)
+}
+
+// A command with one more option. Where there is no memory for it nothing is left to be dropped.
+fn with_option<'a>(
+    alloc: Global,
+    command: Command<'a>,
+    name: &'a str,
+    required: bool,
+) -> Result<Command<'a>, AllocError>
+    ensures { IfOk result (λ c. app_of c ≡ with_rule (app_of command.entry) (option_named name.entry.now required)) }
+{
+    Ok(command.arg(option_named(alloc, name, required))?)
 }
 
 fn option_named<'a>(alloc: Global, name: &'a str, required: bool) -> Arg<'a>
