@@ -1,5 +1,5 @@
 //! The journals of accounts in a folder.
-ghost use Rattle.std.specs.Prelude.{◌≡◌, ◌<◌, ◌≤◌, ◌^◌, All, IfErr, IfOk, None, length, map, slice_index_or};
+ghost use Rattle.std.specs.Prelude.{◌≡◌, ◌<◌, ◌≤◌, ◌^◌, ◌++◌, All, IfErr, IfOk, None, codes, length, map, slice_index_or, string_bytes};
 ghost use Rattle.account_desk.specs.FreshDesk.{bases};
 ghost use Rattle.cal_model.specs.Sound.{unsound_place};
 ghost use Rattle.io_edge.specs.Outside.{Rose};
@@ -174,9 +174,11 @@ fn not_opened(
 }
 
 // The name of the file of an account.
-fn file_name(alloc: Global, folder: &str, id: &Text) -> Result<String, AllocError> {
+fn file_name(alloc: Global, folder: &str, id: &Text) -> Result<String, AllocError>
+    ensures { IfOk result (λ name. string_bytes name ≡ folder.now ++ codes "/" ++ id.now ++ codes ".db") }
+{
     let mut name = String::from_str(alloc, folder)?;
-    name.push('/')?;
+    name.push_str("/")?;
     name.push_str(id.as_str())?;
     name.push_str(".db")?;
     Ok(name)
