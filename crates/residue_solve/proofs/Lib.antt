@@ -5,3 +5,4 @@ pub mod EuclidLemmas
 pub mod SolutionLemmas
 pub mod JointLemmas
 pub mod LeastLemmas
+pub mod Bits

@@ -4,3 +4,4 @@ pub mod Cong
 pub mod Euclid
 pub mod Least
 pub mod ResidueClass
+pub mod ResidueMap

@@ -4,5 +4,7 @@
 mod congruence;
 mod euclid;
 mod residue_class;
+mod residue_map;
 
 pub use congruence::{Cong, least};
+pub use residue_map::{Residues, fill, has_bit, joined, unmet_from};
