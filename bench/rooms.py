@@ -19,9 +19,50 @@ def hour(number, **rule):
     return series(MONDAY + datetime.timedelta(hours=number), 3600, **rule)
 
 
-def date(number):
-    """An hour at nine on one of the first 28 days of a month, each year."""
-    return series(datetime.datetime(2024, number // 28 + 1, number % 28 + 1, 9), 3600, frequency="yearly")
+def date(number, at=9):
+    """An hour on one of the first 28 days of a month, each year."""
+    return series(datetime.datetime(2024, number // 28 + 1, number % 28 + 1, at), 3600, frequency="yearly")
+
+
+DAYS = ("mo", "tu", "we", "th", "fr", "sa", "su")
+
+
+def named(day, place=None):
+    return {"@type": "NDay", "day": day, **({"nthOfPeriod": place} if place else {})}
+
+
+def nth(number):
+    """An hour on one of the first four Mondays to Sundays of each month."""
+    day, place, at = number % 7, number // 7 % 4, number // 28
+    return series(datetime.datetime(2024, 1, 1 + day + 7 * place, at), 3600, frequency="monthly", byDay=[named(DAYS[day], place + 1)])
+
+
+def working_day(number):
+    """The day of a place among the working days of 2024, of which the first is a Monday."""
+    return MONDAY + datetime.timedelta(days=number // 5 * 7 + number % 5)
+
+
+def placed(number):
+    """An hour on the working day of some place of each year."""
+    place, at = number % 250, 9 + number // 250
+    return series(working_day(place) + datetime.timedelta(hours=at), 3600, frequency="yearly", byDay=[named(day) for day in DAYS[:5]], bySetPosition=[place + 1])
+
+
+def crowded(series):
+    """The same with 128 days of the past left out."""
+    return {**series, "exceptions": [{"rid": f"{1000 + number:04d}-01-01T09:00:00"} for number in range(128)]}
+
+
+def four(number):
+    """Four yearly rules by places among working days, ten days apart."""
+    days = [named(day) for day in DAYS[:5]]
+    rules = [{"frequency": "yearly", "byDay": days, "bySetPosition": [number + 1 + 60 * rule]} for rule in range(4)]
+    return {"start": (working_day(number) + datetime.timedelta(hours=9)).isoformat(), "seconds": 3600, "rules": rules}
+
+
+def mixed(number):
+    """Of four kinds in turn; each of them at hours of its own."""
+    return (hour(24 * number + 20, frequency="weekly"), nth(number % 224), date(number % 336, 10), placed(number % 250))[number % 4]
 
 
 def drawn(number, requests):
@@ -58,6 +99,12 @@ DAILY = [series(MONDAY + datetime.timedelta(seconds=120 * number), 120, frequenc
 ONCE = [hour(24 * number) for number in range(500)]
 DATES = [date(number) for number in range(335)]
 DRAWN = booked(drawn(1, 2000))
+NTHS = [nth(number) for number in range(499)]
+YEARLY = [date(number % 336, 9 + number // 336) for number in range(499)]
+PLACED = [placed(number) for number in range(499)]
+MIXED = [mixed(number) for number in range(499)]
+MOST = series(datetime.datetime(2024, 1, 1, 9), 3600, frequency="yearly", byMonthDay=list(range(1, 29)), byMonth=[str(month) for month in range(1, 13)])
+REST = series(datetime.datetime(2024, 1, 29, 9), 3600, frequency="yearly", byMonthDay=[29, 30, 31], byMonth=[str(month) for month in range(1, 13)])
 
 # The bookings, what is proposed, the answer, the times of the longer run, and the goal in milliseconds, if there is one.
 ROOMS = {
@@ -66,7 +113,16 @@ ROOMS = {
     "500 daily bookings, and one more": (DAILY, series(MONDAY + datetime.timedelta(seconds=60000), 120, frequency="daily"), "none", 51, 20),
     "500 hours, and a daily one": (ONCE, hour(1, frequency="daily"), "none", 51, 20),
     f"the {len(DRAWN)} bookings of a workload, and an hour in the evening": (DRAWN, hour(20, frequency="weekly"), "none", 51, 20),
-    "335 yearly hours at nine, each on its own date, and one more": (DATES, date(335), "none", 2, None),
+    "335 yearly hours at nine, each on its own date, and one more": (DATES, date(335), "none", 21, 5),
+    "four yearly rules by places, and four more": ([four(0)], four(30), "none", 11, 20),
+    "most days of the year, and the rest": ([MOST], REST, "none", 11, 20),
+    "the rest of the days of the year, and most": ([REST], MOST, "none", 11, 20),
+    "499 monthly hours by weekdays, and one more": (NTHS, nth(499), "none", 11, None),
+    "499 yearly hours, and one more": (YEARLY, date(499 - 336, 10), "none", 11, None),
+    "499 yearly hours by places, and one more": (PLACED, placed(499), "none", 11, None),
+    "499 bookings of these kinds, and a yearly hour by a place": (MIXED, placed(250 + 3), "none", 11, None),
+    "499 weekly hours with 128 exceptions each, and one more": ([crowded(room) for room in WEEKLY[:499]], crowded(WEEKLY[499]), "none", 51, None),
+    "499 yearly hours with 128 exceptions each, and one more": ([crowded(room) for room in YEARLY], crowded(date(499 - 336, 10)), "none", 11, None),
 }
 
 

@@ -27,7 +27,7 @@ use Rattle.residue_clash.specs.declared.rule_track.RuleTrack.{RuleTrack}
 use Rattle.residue_clash.specs.Tracks.{IsGiven, Gives}
 use Rattle.residue_clash.specs.Covers.{IsDay, IsOccurrenceAt, Blocks}
 use Rattle.residue_clash.specs.Parts.{IsSharedAs}
-use Rattle.residue_clash.specs.RuleTracks.{IsTrackOf, IsSlotOf, AreTracks}
+use Rattle.residue_clash.specs.RuleTracks.{IsTrackOf, IsSlotOf, AreTracks, IsOutlineOf}
 
 -- the track in the slot of a rule
 slot_of : (s : Series) (k : ℕ) (kind : Bool) (r : Rule) (o : Option RuleTrack) → slice_get s.rules k ≡ Some r → has_kind kind r ≡ true → IsSlotOf s k kind o → (t : RuleTrack) × ((o ≡ Some t) × IsTrackOf r s.start kind t)
@@ -85,14 +85,6 @@ rule_at s (t0 ∷ t1 ∷ t2 ∷ t3 ∷ t4 ∷ t5 ∷ []) h k t e = absurd h
 rule_at s (t0 ∷ t1 ∷ t2 ∷ t3 ∷ t4 ∷ t5 ∷ t6 ∷ []) h k t e = absurd h
 rule_at s (t0 ∷ t1 ∷ t2 ∷ t3 ∷ t4 ∷ t5 ∷ t6 ∷ t7 ∷ t8 ∷ ts) h k t e = absurd h
 
--- the outline is that of the series
-pub record IsOutlineOf (s : Series) (a : Outline) : Type 0 where
-  pub first : a.first ≡ day_of_wall s.start
-  pub time : a.time ≡ second_of_wall s.start
-  pub length : a.length ≡ s.length
-  pub occupying : a.occupying ≡ s.occupying
-  pub exceptions : a.exceptions.now ≡ s.exceptions
-
 -- the days that the track of a rule gives
 abbrev pub TrackGives : RuleTrack → ℤ → ℤ → Type 0
 TrackGives = Gives (λ t n. days_of t.pushed t.rule.now n) (λ t n. phase_by t.pushed t.rule.now t.first n) (λ t. t.last)
@@ -142,13 +134,13 @@ module _ (s : Series) (a : Outline) (ts : List (Option RuleTrack)) (is : IsOutli
   days_to : (n : ℤ) → IsDay TrackGives a ts n → is_day s.rules s.start n ≡ true
   days_to n (inl e) =
       let same : n ≡ day_of_wall s.start = e ∙ is.first in
-      rw same (start_day s.rules s.start (λ r at. (track_at s ts tracks false 0 r (omega arith) at refl).1.1.start_in))
+      rw same (start_day s.rules s.start (λ r at. (track_at s ts tracks false 0 r (omega arith) at refl).1.1.end.start_in))
   days_to n (inr g) =
       let t = g.1 in
       let m = rule_at s ts tracks g.0 t g.2 in
       let r = m.1.1.0 in
       let of = m.1.1.1.1 in
-      in_day s.rules s.start n m.1.0 r m.1.1.1.0 (of.from n (given_by t r m.0 a.first (day_of_wall s.start) n of.rule of.pushed of.first is.first g.3))
+      in_day s.rules s.start n m.1.0 r m.1.1.1.0 (of.end.from n (given_by t r m.0 a.first (day_of_wall s.start) n of.rule of.pushed of.first is.first g.3))
 
   days_from : (n : ℤ) → is_day s.rules s.start n ≡ true → IsDay TrackGives a ts n
   days_from n h =
@@ -164,7 +156,7 @@ module _ (s : Series) (a : Outline) (ts : List (Option RuleTrack)) (is : IsOutli
               | inr of ↦
                   let kind = of.0 in
                   let t = track_at s ts tracks kind k r (omega (arith, few, within)) m.1.1.0 of.1.0 in
-                  elim (t.1.1.to n of.1.1.0 of.1.1.1 m.1.1.1) [
+                  elim (t.1.1.end.to n of.1.1.0 of.1.1.1 m.1.1.1) [
                     | inl same ↦ inl (same ∙ sym is.first)
                     | inr given ↦ inr (slot_place kind k, t.0, t.1.0, by_given t.0 r kind a.first (day_of_wall s.start) n t.1.1.rule t.1.1.pushed t.1.1.first is.first given)
                   ]
@@ -222,3 +214,7 @@ self-least s a ra ia ta o h =
     same-least (IsSharedAs true TrackGives TrackGives a ra a ra) (IsSelfShared s) o
     (λ x (i, v, j, t, p, q, apart, bs, bt). (at_rid i v, at_rid j t, occurrence_to s a ra ia ta i v p, occurrence_to s a ra ia ta j t q, apart, covers_to v i x bs, covers_to t j x bt))
     (λ x (p, q, hp, hq, apart, cp, cq). (p.rid, span_of p, q.rid, span_of q, occurrence_from s a ra ia ta p hp, occurrence_from s a ra ia ta q hq, apart, to_covers p x cp, to_covers q x cq)) h
+
+-- the other way round
+pub turned_shared : (s u : Series) (o : Option ℤ) → IsLeastOf (IsShared u s) o → IsLeastOf (IsShared s u) o
+turned_shared s u o h = same-least (IsShared u s) (IsShared s u) o (λ x (p, q, hp, hq, cp, cq). (q, p, hq, hp, cq, cp)) (λ x (p, q, hp, hq, cp, cq). (q, p, hq, hp, cq, cp)) h

@@ -7,4 +7,6 @@ pub mod Hidden
 pub mod Repeats
 pub mod Kinds
 pub mod Again
+pub mod RuleMaps
 pub mod RuleTracks
+pub mod Timetables

@@ -1,14 +1,14 @@
 //! The days of recurrence rules as tracks.
 ghost use Rattle.std.specs.Prelude.{◌≡◌, ◌<◌, ◌&&◌, unsigned_abs};
-ghost use Rattle.spec_series.specs.RuleLimits.{is_empty};
 ghost use Rattle.rule_expand.specs.Repeats.{repeats_after};
 ghost use Rattle.residue_clash.specs.Kinds.{days_of, phase_by};
+ghost use Rattle.residue_clash.specs.RuleMaps.{HasBits, residue_of};
 
-use crate::kept::{is_pushed_on, is_steady_on, moves_backward};
+use crate::kept::{is_given_on, ungiven_days};
 use crate::phase::{is_phase_day, looks_at_weekdays, phase_day, phase_of};
+use crate::rule_map::residue;
 use crate::track::Track;
-use residue_solve::Cong;
-use rule_expand::{unkept_days, unmoved_days};
+use residue_solve::{Cong, has_bit};
 use spec_series::rule::Rule;
 
 /// The days of a rule after the start's.
@@ -23,16 +23,10 @@ pub struct RuleTrack<'a> {
     pub pushed: bool,
     /// The last day of the rule's set, where there is one.
     pub last: Option<i64>,
+    /// A map of the days, where there is one.
+    pub map: Option<&'a [u64]>,
     pub ghost first_in: { unsigned_abs first < 4000000 },
-}
-
-// Whether a rule has neither places nor days of the month or of the year.
-fn names_no_dates(rule: &Rule) -> bool
-    ensures { result ≡ (is_empty rule.now.by_set && (is_empty rule.now.by_month_day && is_empty rule.now.by_year_day)) }
-{
-    rule.by_set.items().is_empty()
-        && rule.by_month_day.items().is_empty()
-        && rule.by_year_day.items().is_empty()
+    pub ghost map_in: { HasBits map (residue_of pushed rule.now) },
 }
 
 impl Track for RuleTrack<'_> {
@@ -48,10 +42,9 @@ impl Track for RuleTrack<'_> {
     ghost repeats = { λ t c. repeats_after t.rule.now c };
 
     fn is_kept(&self, day: i64) -> bool {
-        if self.pushed {
-            is_pushed_on(self.rule, day)
-        } else {
-            is_steady_on(self.rule, day)
+        match self.map {
+            Some(words) => has_bit(words, residue(day)),
+            None => is_given_on(self.rule, self.pushed, day),
         }
     }
 
@@ -64,17 +57,11 @@ impl Track for RuleTrack<'_> {
     }
 
     fn unkept(&self, day: i64) -> u32 {
-        if self.pushed {
-            return unmoved_days(self.rule, day);
-        }
-        // Of days of the week and months alone one day after another is told at less cost.
-        if names_no_dates(self.rule) {
-            return 0;
-        }
-        if moves_backward(self.rule) {
-            return 0;
-        }
-        unkept_days(self.rule, day)
+        ungiven_days(self.rule, self.pushed, day)
+    }
+
+    fn map(&self) -> Option<&[u64]> {
+        self.map
     }
 
     fn last(&self) -> Option<i64> {

@@ -101,15 +101,19 @@ put_bit words r bit b is len small e none =
       ];
     }
 
--- what lies before a place that is reached by passing over what isn't in
-pub passed : (test : ℕ → Bool) (words : List ℕ) (r n : ℕ) → ((k : ℕ) → k < r → map_bit words k ≡ as_bit (test k)) → ((k : ℕ) → r ≤ k → k < 146097 → map_bit words k ≡ 0)
-    → ((i : ℕ) → i < n → test (r + i) ≡ false) → (k : ℕ) → k < r + n → k < 146097 → map_bit words k ≡ as_bit (test k)
-passed test words r n done rest absent k lt small =
+-- what lies before a place that is reached from one that is told by passing over what isn't in
+pub passed : (test : ℕ → Bool) (old new : List ℕ) (r n : ℕ) → ((k : ℕ) → k < r → k < 146097 → map_bit old k ≡ as_bit (test k)) → ((k : ℕ) → r ≤ k → k < 146097 → map_bit old k ≡ 0)
+    → ((k : ℕ) → ((k ≡ r) → ⊥) → map_bit new k ≡ map_bit old k) → map_bit new r ≡ as_bit (test r) → ((i : ℕ) → 0 < i → i < n → test (r + i) ≡ false)
+    → (k : ℕ) → k < r + n → k < 146097 → map_bit new k ≡ as_bit (test k)
+passed test old new r n done rest others here absent k lt small =
     elim (cases_lt k r) [
-      | inl below ↦ done k below
-      | inr late ↦
-          let at : r + (k - r) ≡ k = omega (arith, late) in
-          rest k late small ∙ sym (ap as_bit (ap test (sym at) ∙ absent (k - r) (omega (arith, lt, late))))
+      | inl below ↦ others k (λ e. omega (arith, e, below)) ∙ done k below small
+      | inr late ↦ elim (cases_lt r k) [
+        | inl past ↦
+            let at : r + (k - r) ≡ k = omega (arith, late) in
+            others k (λ e. omega (arith, e, past)) ∙ rest k late small ∙ sym (ap as_bit (ap test (sym at) ∙ absent (k - r) (omega (arith, past)) (omega (arith, lt, late))))
+        | inr same ↦ let e : k ≡ r = omega (arith, late, same) in rw e here
+      ]
     ]
 
 pub or_clear : (x y i : ℕ) → bit_at (bit_or x y) i ≡ 0 → (bit_at x i ≡ 0) × (bit_at y i ≡ 0)

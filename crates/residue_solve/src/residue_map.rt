@@ -32,6 +32,20 @@ fn put(words: &mut [u64], r: u32, is_in: bool)
     }
 }
 
+// How far the next residue is that may pass.
+fn step_from<T: Residues>(days: &T, r: u32, is_in: bool) -> u32
+    requires { r < 146097 }
+    ensures some { 1 ≤ result }
+    ensures near { result ≤ 367 }
+    ensures absent { (i : ℕ) → 0 < i → i < result → T.has days.now (r + i) ≡ false }
+{
+    if is_in {
+        return 1;
+    }
+    let absent = days.absent(r);
+    if absent == 0 { 1 } else { absent }
+}
+
 /// Fills a map with the answers of a test. Takes no memory.
 pub fn fill<T: Residues>(words: &mut [u64], days: &T)
     requires { words.old ≡ replicate 2283 0 }
@@ -39,12 +53,9 @@ pub fn fill<T: Residues>(words: &mut [u64], days: &T)
 {
     let mut r: u32 = 0;
     while r < 146_097 {
-        let next = r + days.absent(r);
-        if next >= 146_097 {
-            return;
-        }
-        put(words, next, days.is_in(next));
-        r = next + 1;
+        let is_in = days.is_in(r);
+        put(words, r, is_in);
+        r += step_from(days, r, is_in);
     }
 }
 

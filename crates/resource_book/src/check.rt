@@ -8,8 +8,8 @@ ghost use Rattle.spec_bookings.specs.Clashes.{IsClash, IsClear, first_clash, sec
 ghost use Rattle.resource_book.specs.SharedSeconds.{is_shared_with, earlier_of, IsEarliestOf, clash_of};
 
 use crate::places::place_but;
-use residue_clash::{Shared, first_self_shared, first_shared};
-use spec_bookings::booking::Booking;
+use crate::prepared_booking::PreparedBooking;
+use residue_clash::{Shared, Timetable, fill_map, first_self_shared_by, wants_maps};
 use spec_bookings::clash::Clash;
 use spec_series::series::Series;
 
@@ -45,28 +45,26 @@ fn earlier_of(
 // Goes on from the shared second so far, which was found among earlier bookings, with these.
 fn earliest_among(
     best: Option<SharedSecond>,
-    bookings: &[Booking],
-    series: &Series,
+    bookings: &[PreparedBooking],
+    series: &Timetable<'_>,
 ) -> Option<SharedSecond>
-    requires week { IsWeekLong series.now }
     ensures { (before : List BookingView) → IsEarliestOf (is_shared_with before series.now) before best
         → IsEarliestOf (is_shared_with (before ++ bookings.now) series.now) (before ++ bookings.now) result }
 {
     let mut best = best;
     for booking in bookings {
-        let found = first_shared(booking.series.series(), series);
-        best = earlier_of(best, found, Some(booking.number));
+        let found = booking.first_shared(series);
+        best = earlier_of(best, found, Some(booking.number()));
     }
     best
 }
 
 // The earliest second that the series shares with a booking that isn't excepted.
 fn earliest_among_others(
-    bookings: &[Booking],
+    bookings: &[PreparedBooking],
     except: Option<u64>,
-    series: &Series,
+    series: &Timetable<'_>,
 ) -> Option<SharedSecond>
-    requires week { IsWeekLong series.now }
     ensures { IsEarliestOf (is_shared_with (but except bookings.now) series.now) (but except bookings.now) result }
 {
     match place_but(bookings, except) {
@@ -92,13 +90,59 @@ fn clash_of(found: Option<SharedSecond>) -> Option<Clash>
     }
 }
 
-/// The first second at which a series clashes with bookings but the excepted one, or with itself.
-pub fn check(bookings: &[Booking], except: Option<u64>, series: &Series) -> Option<Clash>
-    requires week { IsWeekLong series.now }
+// The first second at which a series clashes with bookings but the excepted one, or with itself.
+fn check_with(
+    bookings: &[PreparedBooking],
+    except: Option<u64>,
+    series: &Timetable<'_>,
+) -> Option<Clash>
     ensures exact { result ≡ first_clash (but except bookings.now) series.now }
     ensures clear { IfNone result (IsClear (but except bookings.now) series.now) }
     ensures least { IsLeastOf (IsClash (but except bookings.now) series.now) (option_map second_of result) }
 {
     let shared = earliest_among_others(bookings, except, series);
-    clash_of(earlier_of(shared, first_self_shared(series), None))
+    clash_of(earlier_of(shared, first_self_shared_by(series), None))
+}
+
+// The same by maps of the days of its rules.
+fn check_by_maps(
+    bookings: &[PreparedBooking],
+    except: Option<u64>,
+    series: &Series,
+) -> Option<Clash>
+    requires week { IsWeekLong series.now }
+    ensures exact { result ≡ first_clash (but except bookings.now) series.now }
+    ensures clear { IfNone result (IsClear (but except bookings.now) series.now) }
+    ensures least { IsLeastOf (IsClash (but except bookings.now) series.now) (option_map second_of result) }
+{
+    let mut first = [0u64; 2283];
+    let mut second = [0u64; 2283];
+    let mut third = [0u64; 2283];
+    let mut fourth = [0u64; 2283];
+    fill_map(&mut first, series, 0);
+    fill_map(&mut second, series, 1);
+    fill_map(&mut third, series, 2);
+    fill_map(&mut fourth, series, 3);
+    let table = Timetable::with_maps(
+        series,
+        Some(&first),
+        Some(&second),
+        Some(&third),
+        Some(&fourth),
+    );
+    check_with(bookings, except, &table)
+}
+
+/// The first second at which a series clashes with bookings but the excepted one, or with itself.
+pub fn check(bookings: &[PreparedBooking], except: Option<u64>, series: &Series) -> Option<Clash>
+    requires week { IsWeekLong series.now }
+    ensures exact { result ≡ first_clash (but except bookings.now) series.now }
+    ensures clear { IfNone result (IsClear (but except bookings.now) series.now) }
+    ensures least { IsLeastOf (IsClash (but except bookings.now) series.now) (option_map second_of result) }
+{
+    if !bookings.is_empty() && wants_maps(series) {
+        check_by_maps(bookings, except, series)
+    } else {
+        check_with(bookings, except, &Timetable::of(series))
+    }
 }

@@ -3,6 +3,7 @@
 
 mod check;
 mod places;
+mod prepared_booking;
 mod room;
 mod round;
 

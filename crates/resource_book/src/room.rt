@@ -7,8 +7,9 @@ ghost use Rattle.spec_bookings.specs.Clashes.{IsClash, IsClear, first_clash, sec
 
 use crate::check::check;
 use crate::places::{count_but, place_for, place_of};
+use crate::prepared_booking::PreparedBooking;
 use crate::round::{Undo, book_at, retire_at, take_all_back};
-use spec_bookings::booking::{Bookable, Booking};
+use residue_clash::Prepared;
 use spec_bookings::clash::Clash;
 use spec_series::series::Series;
 use std::alloc::{AllocError, Global};
@@ -20,9 +21,9 @@ use std::marker::Model;
 #[derive(Drop)]
 pub struct Room {
     alloc: Global,
-    booked: Vec<Booking>,
+    booked: Vec<PreparedBooking>,
     steps: Vec<Undo>,
-    waiting: Option<Bookable>,
+    waiting: Option<Prepared>,
 }
 
 impl Model for Room {
@@ -73,7 +74,8 @@ impl Room {
         check(&self.booked, except, series)
     }
 
-    /// Makes a series ready, so that its booking takes no memory. After running out of memory none is ready.
+    /// Makes a series ready, so that its booking takes no memory, and works out what checks want of it. After running out of memory none is
+    /// ready.
     /// No occurrence of the series lasts longer than 7 days.
     pub fn reserve(&mut self, series: &Series) -> Result<(), AllocError>
         requires week { IsWeekLong series.now }
@@ -83,12 +85,12 @@ impl Room {
         ensures err { OnErr result (self.new.ready ≡ None) }
     {
         self.waiting = None;
-        let copy = Bookable::new(series.copy(self.alloc)?);
+        let prepared = Prepared::of(self.alloc, series)?;
         let places = self.steps.len() + 2;
         self.booked.reserve(places)?;
         let places = self.booked.len() + 2;
         self.steps.reserve(places)?;
-        self.waiting = Some(copy);
+        self.waiting = Some(prepared);
         Ok(())
     }
 
@@ -104,7 +106,7 @@ impl Room {
                     &mut self.booked,
                     &mut self.steps,
                     index,
-                    Booking { number, series },
+                    PreparedBooking::new(number, series),
                 );
             }
             None => unreachable!(),

@@ -2,19 +2,24 @@
 ghost use Rattle.std.specs.Prelude.{◌≡◌, ◌+◌, ◌<◌, ◌≤◌, [], insert, remove, vec_len, vec_capacity};
 ghost use Rattle.resource_book.specs.Rounds.{before_step, before_steps, IsWayBack, AreWaysBack};
 
-use spec_bookings::booking::Booking;
+use crate::prepared_booking::PreparedBooking;
 
 /// The way back from a step.
 #[derive(Drop)]
 pub enum Undo {
     /// The booking that stood at this place was taken out.
-    Retired { index: usize, booking: Booking },
+    Retired {
+        index: usize,
+        booking: PreparedBooking,
+    },
     /// The booking at this place was put in.
-    Booked { index: usize },
+    Booked {
+        index: usize,
+    },
 }
 
 // Takes back one step.
-fn take_back(bookings: &mut Vec<Booking>, step: Undo)
+fn take_back(bookings: &mut Vec<PreparedBooking>, step: Undo)
     requires fits { IsWayBack step bookings.old.items }
     requires place { vec_len bookings.old < vec_capacity bookings.old }
     ensures items { bookings.new.items ≡ before_step step bookings.old.items }
@@ -33,7 +38,7 @@ fn take_back(bookings: &mut Vec<Booking>, step: Undo)
 }
 
 /// Takes back all steps, the last first. Takes no memory.
-pub fn take_all_back(bookings: &mut Vec<Booking>, steps: &mut Vec<Undo>)
+pub fn take_all_back(bookings: &mut Vec<PreparedBooking>, steps: &mut Vec<Undo>)
     requires fits { AreWaysBack steps.old.items bookings.old.items }
     requires places { vec_len bookings.old + vec_len steps.old ≤ vec_capacity bookings.old }
     ensures items { bookings.new.items ≡ before_steps steps.old.items bookings.old.items }
@@ -48,7 +53,7 @@ pub fn take_all_back(bookings: &mut Vec<Booking>, steps: &mut Vec<Undo>)
 }
 
 /// Takes out the booking at a place, and notes the way back. Takes no memory.
-pub fn retire_at(bookings: &mut Vec<Booking>, steps: &mut Vec<Undo>, index: usize)
+pub fn retire_at(bookings: &mut Vec<PreparedBooking>, steps: &mut Vec<Undo>, index: usize)
     requires index { index < vec_len bookings.old }
     requires fits { AreWaysBack steps.old.items bookings.old.items }
     requires place { vec_len steps.old < vec_capacity steps.old }
@@ -68,7 +73,12 @@ pub fn retire_at(bookings: &mut Vec<Booking>, steps: &mut Vec<Undo>, index: usiz
 }
 
 /// Puts a booking in at a place, and notes the way back. Takes no memory.
-pub fn book_at(bookings: &mut Vec<Booking>, steps: &mut Vec<Undo>, index: usize, booking: Booking)
+pub fn book_at(
+    bookings: &mut Vec<PreparedBooking>,
+    steps: &mut Vec<Undo>,
+    index: usize,
+    booking: PreparedBooking,
+)
     requires index { index ≤ vec_len bookings.old }
     requires fits { AreWaysBack steps.old.items bookings.old.items }
     requires place { vec_len bookings.old < vec_capacity bookings.old }

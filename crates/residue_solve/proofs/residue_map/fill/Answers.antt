@@ -9,29 +9,26 @@ use Rattle.residue_solve.proofs.residue_map.fill.Goals as goal
 pub loop-r-init : goal.loop-r-init
 loop-r-init g c = record {
   length = rw c.requires (length-replicate {A = ℕ} 2283 0);
-  done = λ k lt. absurd (omega (arith, lt));
+  done = λ k lt few. absurd (omega (arith, lt));
   rest = λ k le lt. rw c.requires (empty_bit k lt);
 }
-
-pub returns-then-next-ge146097 : goal.returns-then-next-ge146097
-returns-then-next-ge146097 g c =
-    let inv = c.loop-r.invariant in
-    record {
-      length = inv.length;
-      bits = λ k lt. passed (g.T.Residues.has c.args.days.now) c.loop-r.words c.loop-r.r c.absent.result inv.done inv.rest c.absent.ensures.absent k (omega (arith, lt, c.if-next-ge146097.true)) lt;
-    }
 
 pub loop-r-preserved : goal.loop-r-preserved
 loop-r-preserved g c =
     let inv = c.loop-r.invariant in
-    let next = c.loop-r.r + c.absent.result in
+    let r = c.loop-r.r in
+    let step = c.step_from-r.result in
     let put = c.put.ensures in
     let test = g.T.Residues.has c.args.days.now in
+    let some = c.step_from-r.ensures.some in
     record {
       length = put.length;
-      done = λ k lt. elim (cases_lt k next) [
-        | inl below ↦ put.others k (λ e. omega (arith, e, below)) ∙ passed test c.loop-r.words c.loop-r.r c.absent.result inv.done inv.rest c.absent.ensures.absent k below (omega (arith, below, c.if-next-ge146097.false))
-        | inr here ↦ let same : k ≡ next = omega (arith, lt, here) in rw same (put.here ∙ ap as_bit c.is_in.ensures)
-      ];
-      rest = λ k le lt. put.others k (λ e. omega (arith, e, le)) ∙ inv.rest k (omega (arith, le)) lt;
+      done = passed test c.loop-r.words _ r step inv.done inv.rest put.others (put.here ∙ ap as_bit c.is_in-is_in.ensures) c.step_from-r.ensures.absent;
+      rest = λ k le lt. put.others k (λ e. omega (arith, e, le, some)) ∙ inv.rest k (omega (arith, le, some)) lt;
     }
+
+pub returns : goal.returns
+returns g c =
+    let inv = c.loop-r.invariant in
+    let end = c.loop-r-test.false in
+    record { length = inv.length; bits = λ k lt. inv.done k (omega (arith, lt, end)) lt }

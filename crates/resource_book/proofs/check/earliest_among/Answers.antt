@@ -13,5 +13,5 @@ loop-booking-preserved c = λ before h.
     let b = c.booking-item.result in
     let found = c.first_shared-found.result in
     let step : before ++ take (i + 1) bs ≡ (before ++ take i bs) ++ b ∷ [] = rw (add-one, take-suc bs i b c.loop-booking-test.true, ← c.booking-item.is) (sym (append_assoc before (take i bs) (b ∷ []))) in
-    rw (step, c.earlier_of-best.ensures)
-    (one_more (before ++ take i bs) s b c.loop-booking.best found (c.loop-booking.invariant before h) (shared_by_tests b.series s found (rw c.series.ensures.same at c.first_shared-found.ensures.least)) c.first_shared-found.ensures.near)
+    rw (step, c.earlier_of-best.ensures, c.number.ensures)
+    (one_more (before ++ take i bs) s b c.loop-booking.best found (c.loop-booking.invariant before h) (shared_by_tests b.series s found c.first_shared-found.ensures.least) c.first_shared-found.ensures.near)

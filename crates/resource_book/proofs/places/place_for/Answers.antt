@@ -6,11 +6,11 @@ use Rattle.spec_bookings.specs.declared.booking.Booking.{Booking}
 use Rattle.resource_book.proofs.Orders.{with-end, with-at}
 use Rattle.resource_book.proofs.places.place_for.Goals as goal
 
-pub returns-then-number-booking-clause-at : goal.returns-then-number-booking-clause-at
-returns-then-number-booking-clause-at c = λ s.
+pub returns-then-number-booked-clause-at : goal.returns-then-number-booked-clause-at
+returns-then-number-booked-clause-at c = λ s.
     let bs = c.args.bookings.now in
     let here = slice_get_read {X = Booking} bs (length bs) c.loop-i.i c.index-bookings-i.result refl c.loop-i-test.true c.index-bookings-i.is in
-    with-at c.args.number s bs c.loop-i.i c.index-bookings-i.result c.loop-i.invariant here c.if-number-booking.true
+    with-at c.args.number s bs c.loop-i.i c.index-bookings-i.result c.loop-i.invariant here (rw c.number-booked.ensures at c.if-number-booked.true)
 
 pub returns-clause-at : goal.returns-clause-at
 returns-clause-at c = λ s.

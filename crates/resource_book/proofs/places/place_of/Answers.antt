@@ -6,13 +6,13 @@ use Rattle.spec_bookings.specs.declared.booking.Booking.{Booking}
 use Rattle.resource_book.proofs.Orders.{without-none, without-at, is_booked-at}
 use Rattle.resource_book.proofs.places.place_of.Goals as goal
 
-pub returns-then-booking-number-clause-some : goal.returns-then-booking-number-clause-some
-returns-then-booking-number-clause-some c =
+pub returns-then-booked-number-clause-some : goal.returns-then-booked-number-clause-some
+returns-then-booked-number-clause-some c =
     let bs = c.args.bookings.now in
     let here = slice_get_read {X = Booking} bs (length bs) c.loop-i.i c.index-bookings-i.result refl c.loop-i-test.true c.index-bookings-i.is in (
       c.loop-i-test.true,
-      is_booked-at c.args.number bs c.loop-i.i c.index-bookings-i.result here c.if-booking-number.true,
-      without-at c.args.number bs c.loop-i.i c.index-bookings-i.result c.loop-i.invariant here c.if-booking-number.true,
+      is_booked-at c.args.number bs c.loop-i.i c.index-bookings-i.result here (rw c.number-booked.ensures at c.if-booked-number.true),
+      without-at c.args.number bs c.loop-i.i c.index-bookings-i.result c.loop-i.invariant here (rw c.number-booked.ensures at c.if-booked-number.true),
     )
 
 pub returns-clause-none : goal.returns-clause-none
