@@ -5,7 +5,7 @@ use Rattle.std.proofs.lemmas.Bool.{false_from_ne_true}
 use Rattle.jiff_core.proofs.SignedLemmas.{signed_arith}
 use borrow.Author.Differences.{up, down}
 use Rattle.spec_time.specs.Floor.{floor_div, modulo}
-use Rattle.residue_solve.specs.ResidueMap.{as_bit, joined_bit, map_bit, met_bit, shifted, IsMap}
+use Rattle.residue_solve.specs.ResidueMap.{as_bit, map_bit, met_bit, shifted, IsMap}
 use Rattle.rule_expand.proofs.Places.{and_both}
 use Rattle.residue_clash.specs.RuleMaps.{HasBits}
 use Rattle.residue_clash.proofs.Cycles.{same_later}

@@ -1,5 +1,5 @@
 -- Why not both keep where no bit is met.
-use Rattle.std.proofs.Common.{◌≡◌, rules, arith, pos, ◌+ℤ◌, ◌-ℤ◌, FitsSigned, w64}
+use Rattle.std.proofs.Common.{arith, pos, ◌+ℤ◌, ◌-ℤ◌, FitsSigned, w64}
 use Rattle.std.proofs.lemmas.Int.{to_z-of_z}
 use Rattle.residue_clash.proofs.Maps.{unmet_by_map, unkept_unmet}
 use Rattle.residue_clash.proofs.pairs.unmet.Goals as goal

@@ -1,5 +1,5 @@
 -- Why occurrences overlap at these offsets alone.
-use Rattle.std.proofs.Common.{◌≡◌, ◌<◌, ◌≤◌, pos, ◌-ℤ◌, arith}
+use Rattle.std.proofs.Common.{arith}
 use Rattle.std.proofs.lemmas.Int.{ints, clamps}
 use Rattle.residue_clash.proofs.shifts.shifts_of.Goals as goal
 

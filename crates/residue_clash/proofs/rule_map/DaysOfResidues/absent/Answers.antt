@@ -1,5 +1,5 @@
 -- Why the residues are those of days that aren't given.
-use Rattle.std.proofs.Common.{◌≡◌, pos, ◌+ℤ◌, ℤ, rules, FitsSigned, w64}
+use Rattle.std.proofs.Common.{rules, FitsSigned, w64}
 use Rattle.std.proofs.lemmas.Int.{to_z-of_z}
 use Rattle.residue_clash.proofs.rule_map.DaysOfResidues.absent.Goals as goal
 

@@ -1,5 +1,5 @@
 -- Why the map tells what the rule gives.
-use Rattle.std.proofs.Common.{◌≡◌, ◌∙◌, refl, FitsSigned, w64}
+use Rattle.std.proofs.Common.{◌∙◌, refl, FitsSigned, w64}
 use Rattle.std.proofs.lemmas.Int.{to_z-of_z}
 use Rattle.residue_clash.specs.Again.{days_again}
 use Rattle.residue_clash.specs.Kinds.{days_of}
