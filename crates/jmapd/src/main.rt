@@ -43,7 +43,7 @@ fn main(rt: HostRuntime) -> ExitCode {
                 &asked.listen,
                 &mut SystemFiles::new(rt.alloc(), rt),
                 &mut JournalFolder::new(rt, rt, asked.journals),
-                &mut TcpHost::new(rt),
+                &mut TcpHost::new(rt.alloc(), rt),
                 &mut RealThreads::new(rt),
                 SystemClock::new(rt),
             );
@@ -63,7 +63,7 @@ fn main(rt: HostRuntime) -> ExitCode {
         &mut ReaderSource::new(rt.reader()),
         &mut WriterSink::new(io::writer(&rt)),
         &mut SystemClock::new(rt),
-        &mut TcpHost::new(rt),
+        &mut TcpHost::new(rt.alloc(), rt),
         &mut RealThreads::new(rt),
     );
     finish(&rt, status)

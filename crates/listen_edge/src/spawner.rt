@@ -4,8 +4,10 @@ ghost use Rattle.std.specs.Prelude.{◌≡◌, ℕ};
 use crate::job::{Finished, Job, WorkerDone};
 use std::marker::Model;
 use std::snapshot::Snapshot;
-use std::thread;
-use std::thread::{Promise, PromisedHandle, Threads};
+use std::thread::{Builder, Promise, PromisedHandle, Threads};
+
+/// The bytes of a thread's stack. The system gives a thread what it has used of them, and counts all of them against a limit of addresses.
+const STACK: usize = 2 << 20;
 
 /// The promise that a job gives an answer that it may give.
 #[derive(Drop)]
@@ -104,7 +106,8 @@ fn start_thread<R: Threads, J: Job>(runtime: &R, job: J) -> Started<J>
 {
     let of = Snapshot::of(&job);
     let promise = KeptJob(Snapshot::of(&job));
-    let running = match thread::spawn_with(runtime, promise, move || job.go()) {
+    let builder = Builder::new().stack_size(STACK);
+    let running = match builder.spawn_with(runtime, promise, move || job.go()) {
         Ok(handle) => Running::Thread(handle),
         Err(refused) => Running::Here((refused.value)()),
     };

@@ -1,101 +1,109 @@
 //! Connections over TCP.
 ghost use Rattle.std.specs.Prelude.{◌≡◌, None};
 
+use crate::connection::{Connection, Look, moment};
 use crate::listener::{Listener, ThreadListener};
+use crate::lobby::{Lobby, Next};
+use crate::tcp_ends::{TcpSink, TcpSource};
 use io_edge::fault::Failed;
-use io_edge::source::Source;
-use io_edge::streams::{ReaderSource, WriterSink};
-use spec_connection::served::Served;
-use std::io::{self, Read, Write};
-use std::net::{OpenListener, OpenStream, Shutdown};
-use std::sync::Wait;
-use std::time::{Clock, Duration};
+use spec_connection::served::{ConnEnd, Served};
+use std::alloc::{AllocError, Global};
+use std::io::{Read, Write};
+use std::net::{OpenListener, OpenStream};
+use std::os::fd::AsRawFd;
+use std::sync::{Arc, Mutex, Wait};
+use std::time::Clock;
 
-/// For how many seconds a connection may wait for its peer, to read and to write: a timeout is a fault of that connection alone.
-const PATIENCE_SECONDS: u64 = 60;
-
-/// How many milliseconds pass before the next try where the system has no room for another connection.
-const PAUSE_MILLISECONDS: u64 = 10;
-
-/// For how many seconds a read behind the last response may wait for its peer.
-const LINGER_SECONDS: u64 = 1;
-
-/// How many reads there may be behind the last response.
-const LINGER_READS: u32 = 64;
-
-/// Hands out the connections of a listening socket, which listeners may share. It tells none of them.
+/// Hands out the connections of a lobby, which listeners may share. It tells none of them.
 #[derive(Drop)]
-pub struct TcpConnections<R, L> {
+pub struct TcpConnections<R, L: OpenListener> {
+    alloc: Global,
     runtime: R,
-    listener: L,
+    lobby: Arc<Lobby<L>>,
     faults: u64,
 }
 
-impl<R, L> TcpConnections<R, L> {
-    /// Makes a listener of a listening socket. Takes no memory.
-    pub fn new(runtime: R, listener: L) -> TcpConnections<R, L>
+impl<R: Copy + Drop, L: OpenListener + Drop> TcpConnections<R, L>
+where
+    L::Stream: Drop,
+{
+    /// Makes a listener over a lobby. Takes no memory.
+    pub(crate) fn new(alloc: Global, runtime: R, lobby: Arc<Lobby<L>>) -> TcpConnections<R, L>
         ensures { result.faults ≡ 0 }
     {
         TcpConnections {
+            alloc,
             runtime,
-            listener,
+            lobby,
             faults: 0,
         }
+    }
+
+    // Both ends of a connection. Takes memory for what they share.
+    fn ends_of(
+        &self,
+        connection: Connection<L::Stream>,
+    ) -> Result<(TcpSource<R, L>, TcpSink<R, L>), AllocError> {
+        let connection = Arc::new(self.alloc, Mutex::new(connection))?;
+        let sink = TcpSink {
+            runtime: self.runtime,
+            lobby: Arc::try_clone(&self.lobby)?,
+            connection: Arc::try_clone(&connection)?,
+            faults: 0,
+        };
+        let source = TcpSource {
+            runtime: self.runtime,
+            lobby: Arc::try_clone(&self.lobby)?,
+            connection,
+            faults: 0,
+        };
+        Ok((source, sink))
     }
 }
 
 impl<
     R: Wait + Clock + Copy + Send + Drop + 'static,
-    L: OpenListener + Send + Drop + 'static,
+    L: OpenListener + AsRawFd + Send + Drop + 'static,
 > Listener for TcpConnections<R, L>
 where
-    L::Stream: Read + Write + OpenStream + Drop,
+    L::Stream: Read + Write + OpenStream + AsRawFd + Drop,
 {
-    type In = ReaderSource<L::Stream>;
+    type In = TcpSource<R, L>;
 
-    type Out = WriterSink<L::Stream>;
+    type Out = TcpSink<R, L>;
 
     ghost shown = { λ l. record { connections = None; faults = l.faults } };
 
-    // It tries again where the cause passes: a peer that went away, or too many open files. Only a broken listening socket is a fault.
-    fn accept(&mut self) -> Result<(ReaderSource<L::Stream>, WriterSink<L::Stream>), Failed> {
+    // Only a broken listening socket is a fault: where the system has no room for another connection, it goes on waiting.
+    fn accept(&mut self) -> Result<(TcpSource<R, L>, TcpSink<R, L>), Failed> {
         let runtime = self.runtime;
         for _ in runtime.forever() {
-            match self.listener.accept() {
-                Ok((stream, _)) => {
-                    if let Ok(ends) = ends_of(stream) {
+            match self.lobby.next(&runtime) {
+                Next::Ready(connection) => {
+                    if let Ok(ends) = self.ends_of(connection) {
                         return Ok(ends);
                     }
-                    pause(&runtime);
                 }
-                Err(error) if is_broken(&error) => break,
-                Err(_) => pause(&runtime),
+                Next::NoneYet => {}
+                Next::Broken => break,
             }
         }
         self.faults = self.faults.saturating_add(1);
         Err(Failed)
     }
 
-    // The writing side is closed first, and some of what the peer still sends is passed over, so that a reset doesn't take the last response from it (RFC 9112 section 9.6).
-    fn ended(
-        &mut self,
-        mut input: ReaderSource<L::Stream>,
-        output: WriterSink<L::Stream>,
-        _served: Served,
-    ) {
-        let stream = output.into_writer();
-        let linger = Duration::from_secs(LINGER_SECONDS);
-        if stream.shutdown(Shutdown::Write).is_err()
-            || stream.set_read_timeout(Some(linger)).is_err()
-        {
+    fn ended(&mut self, input: TcpSource<R, L>, output: TcpSink<R, L>, served: Served) {
+        let runtime = self.runtime;
+        drop(output);
+        let TcpSource { connection, .. } = input;
+        let Some(connection) = Arc::into_inner(connection) else {
             return;
-        }
-        let mut passed = [0; 16384];
-        for _ in 0..LINGER_READS {
-            match input.take(&mut passed) {
-                Ok(count) if count > 0 => {}
-                _ => return,
-            }
+        };
+        let mut connection = connection.into_inner();
+        let is_at_end = matches!(served.end, ConnEnd::Closed);
+        match connection.enter_lobby(is_at_end, moment(&runtime)) {
+            Look::Over => {}
+            _ => self.lobby.take_back(connection, &runtime),
         }
     }
 
@@ -104,29 +112,8 @@ where
 
 impl<
     R: Wait + Clock + Copy + Send + Drop + 'static,
-    L: OpenListener + Send + Drop + 'static,
+    L: OpenListener + AsRawFd + Send + Drop + 'static,
 > ThreadListener for TcpConnections<R, L>
 where
-    L::Stream: Read + Write + OpenStream + Send + Drop,
+    L::Stream: Read + Write + OpenStream + AsRawFd + Send + Drop,
 {}
-
-fn pause(clock: &impl Clock) {
-    clock.sleep(Duration::from_millis(PAUSE_MILLISECONDS));
-}
-
-// Both ends of an accepted stream. Small responses aren't held back, and no peer is waited for without end.
-fn ends_of<S: Read + Write + OpenStream + Drop>(
-    stream: S,
-) -> io::Result<(ReaderSource<S>, WriterSink<S>)> {
-    let patience = Some(Duration::from_secs(PATIENCE_SECONDS));
-    stream.set_nodelay(true)?;
-    stream.set_read_timeout(patience)?;
-    stream.set_write_timeout(patience)?;
-    let writer = stream.try_clone()?;
-    Ok((ReaderSource::new(stream), WriterSink::new(writer)))
-}
-
-// Whether the listening socket itself is of no more use: the system says that it is no open, listening socket (EBADF, EINVAL, ENOTSOCK, EOPNOTSUPP).
-fn is_broken(error: &io::Error) -> bool {
-    matches!(error.raw_os_error(), Some(9 | 22 | 88 | 95))
-}
