@@ -10,9 +10,9 @@ use std::alloc::{AllocError, Global};
 /// The greatest port (RFC 9293 section 3.1).
 pub const MAX_PORT: u64 = 65535;
 /// The most workers.
-pub const MAX_WORKERS: u64 = 16;
+pub const MAX_WORKERS: u64 = 255;
 /// How many workers there are where the words don't say it.
-pub const DEFAULT_WORKERS: u64 = 4;
+pub const DEFAULT_WORKERS: u64 = 16;
 /// The most connections of a worker.
 pub const MAX_CONNECTIONS: u64 = 1_000_000;
 /// How many connections each worker serves where the words don't say it.
@@ -25,7 +25,7 @@ pub struct Listen<'a> {
     pub config: &'a str,
     /// The port, from 1.
     pub port: u16,
-    /// How many workers there are, from 1 to 16.
+    /// How many workers there are, from 1 to 255.
     pub workers: u32,
     /// How many connections each worker serves, from 1 to 1,000,000.
     pub connections: u64,

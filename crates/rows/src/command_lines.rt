@@ -39,11 +39,11 @@ fn stdio_names_a_configuration(rt: HostRuntime) -> Result<(), Fail> {
 #[test]
 fn listen_names_a_configuration_and_a_port(rt: HostRuntime) -> Result<(), Fail> {
     for (line, wanted) in [
-        ("listen --config c --port 80", ("c", 80, 4, 1_000_000)),
-        ("listen --port=65535 --config=c", ("c", 65535, 4, 1_000_000)),
+        ("listen --config c --port 80", ("c", 80, 16, 1_000_000)),
+        ("listen --port=65535 --config=c", ("c", 65535, 16, 1_000_000)),
         (
-            "listen --config c --port 1 --workers 16 --connections 9",
-            ("c", 1, 16, 9),
+            "listen --config c --port 1 --workers 255 --connections 9",
+            ("c", 1, 255, 9),
         ),
     ] {
         let words = words_of(rt.alloc(), line)?;
@@ -66,7 +66,7 @@ fn other_words_ask_for_nothing(rt: HostRuntime) -> Result<(), Fail> {
         "listen",
         "listen --config c",
         "listen --config c --port 0",
-        "listen --config c --port 80 --workers 17",
+        "listen --config c --port 80 --workers 256",
         "Batch",
         "jmapd batch",
         "batch more",
