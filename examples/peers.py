@@ -2,11 +2,11 @@
 """Has peers that misbehave talk to `jmapd listen`, beside an ordinary client who is to be answered each time.
 
 A peer sends one byte after the other, closes in the middle of a body, resets its connection, never reads its answers, or sends no HTTP. Another address than 127.0.0.1 is refused. A port
-that is taken ends the program with status 6, and words that it can't have with status 2. While the process may open no more files no peer is answered, and afterwards each is. A peer that
-sends nothing to a server with one worker is cut off after 60 s, and the next client is answered: that takes a minute, in which all else is tried.
+that is taken ends the program with status 6, and words that it can't have with status 2. While the process may open no more files no peer is answered, and afterwards each is. Peers that
+send nothing, half a head, or nothing behind an answer, and such as take no answer, hold up nobody on a server with one worker; those are cut off after 5 s, 10 s and 5 s. Half a body is cut
+off after 10 s, and the next client is answered.
 
     examples/peers.py [PATH_OF_THE_PROGRAM]
-    examples/peers.py [PATH_OF_THE_PROGRAM] --idle      # 64 connections that send nothing beside four workers: takes up to 18 minutes
 """
 
 import contextlib
@@ -134,7 +134,7 @@ def is_answered_late(peer):
 
 
 def no_more_files(server, port):
-    """Peers that come while the process may open no more files. A worker that waits in `accept` has its file already: it can't share that connection, and ends it."""
+    """Peers that come while the process may open no more files: they wait."""
     kind = resource.RLIMIT_NOFILE
     soft, most = resource.prlimit(server.pid, kind)
     resource.prlimit(server.pid, kind, (4, most))
@@ -152,18 +152,68 @@ def no_more_files(server, port):
     return b"H" not in came and bool(answered) and all(answered)
 
 
-def silent_peer(program, bad):
-    """A peer that sends nothing holds the one worker of a server, until it is cut off, and the next client is answered."""
+def cut_off_after(peer, begun):
+    """After how many seconds a peer that does nothing more is cut off."""
+    peer.settimeout(30)
+    end = first_byte(peer)
+    return time.monotonic() - begun if end == b"" else None
+
+
+def is_answered_within(port, seconds):
+    begun = time.monotonic()
+    return is_answered(port) and time.monotonic() - begun < seconds
+
+
+def long_taker(port):
+    """A peer that asks for a long answer, and takes none of it."""
+    peer = socket.socket()
+    peer.setsockopt(socket.SOL_SOCKET, socket.SO_RCVBUF, 4096)
+    peer.connect(("127.0.0.1", port))
+    peer.sendall(message({"x": "x" * 8_000_000}))
+    return peer
+
+
+def quiet_peer(port):
+    """A peer that was answered, and sends nothing more."""
+    peer = joined(port)
+    peer.sendall(message({"a": 1}))
+    answer(peer.makefile("rb"))
+    return peer
+
+
+def half_a_message(port, size):
+    """A peer that sends so many bytes of a message, and then nothing."""
+    peer = joined(port)
+    peer.sendall(message({"a": 1})[:size])
+    return peer
+
+
+def idle_peers(program, bad):
+    """Peers that hold their connections hold up nobody on a server with one worker, and each is cut off in time."""
     port = free_port()
-    with serving(program, port, 1), joined(port) as silent:
+    with serving(program, port, 1), contextlib.ExitStack() as ended:
+        begun = time.monotonic()
+        ways = {"a silent peer": (half_a_message(port, 0), 5), "half a head": (half_a_message(port, 20), 10), "a quiet peer": (quiet_peer(port), 5)}
+        taker = ended.enter_context(long_taker(port))
+        for name, (peer, _) in ways.items():
+            ended.enter_context(peer)
+            if not is_answered_within(port, 2):
+                bad.append(f"behind {name}: another answer, or a late one")
+        if not is_answered_within(port, 2):
+            bad.append("behind a peer that takes no answer: another answer, or a late one")
+        for name, (peer, seconds) in sorted(ways.items(), key=lambda way: way[1][1]):
+            after = cut_off_after(peer, begun)
+            if after is None or not seconds - 1 < after < seconds + 3:
+                bad.append(f"{name} was cut off after {after} s")
+        taker.settimeout(1)
+        half = ended.enter_context(half_a_message(port, -1))
         begun = time.monotonic()
         time.sleep(0.2)
-        if not is_answered(port, 75):
-            bad.append("behind a silent peer: another answer")
-        waited = time.monotonic() - begun
-        silent.settimeout(5)
-        if waited < 50 or first_byte(silent) != b"":
-            bad.append(f"a silent peer wasn't cut off: the next one waited {waited:.0f} s")
+        if not is_answered(port, 20) or not is_answered_within(port, 2):
+            bad.append("behind half a body: another answer, or a late one")
+        after = cut_off_after(half, begun)
+        if after is None or not 9 < after < 15:
+            bad.append(f"half a body was cut off after {after} s")
 
 
 def ended_with(program, *words):
@@ -175,7 +225,7 @@ def words_and_ports(program, port):
     config = ("--config", CONFIGURATION)
     taken = ended_with(program, *config, "--port", str(port))
     yield "a port that is taken", taken.returncode == 6 and taken.stderr == b"jmapd: nothing is kept: no --journals\njmapd: open fault\n"
-    for words in (("--port", "0"), ("--port", str(port), "--workers", "0"), ("--port", str(port), "--workers", "17"), ("--port", str(port), "--connections", "0")):
+    for words in (("--port", "0"), ("--port", str(port), "--workers", "0"), ("--port", str(port), "--workers", "256"), ("--port", str(port), "--connections", "0")):
         refused = ended_with(program, *config, *words)
         yield " ".join(words[-2:]), refused.returncode == 2 and refused.stderr.startswith(b"usage: jmapd ")
 
@@ -192,16 +242,6 @@ def serving(program, port, workers):
         server.wait()
 
 
-def idle(port):
-    peers = [joined(port) for _ in range(64)]
-    begun = time.monotonic()
-    answered = is_answered(port, 18 * 60)
-    print(f"behind 64 idle connections a client waited {time.monotonic() - begun:.0f} s")
-    for peer in peers:
-        peer.close()
-    return answered
-
-
 def misbehave(program, port, server, bad):
     """All ways that take little time."""
     for way in [byte_by_byte, cut_in_a_body, reset, never_reads, no_http, other_address] * 3:
@@ -215,19 +255,14 @@ def misbehave(program, port, server, bad):
 
 
 def main():
-    words = [word for word in sys.argv[1:] if word != "--idle"]
-    program = words[0] if words else "crates/jmapd/out/jmapd"
+    program = sys.argv[1] if sys.argv[1:] else "crates/jmapd/out/jmapd"
     port = free_port()
     bad = []
     with serving(program, port, 4) as server:
-        if "--idle" in sys.argv:
-            if not idle(port):
-                bad.append("behind idle connections: another answer")
-        else:
-            silent = threading.Thread(target=silent_peer, args=(program, bad))
-            silent.start()
-            misbehave(program, port, server, bad)
-            silent.join()
+        idle = threading.Thread(target=idle_peers, args=(program, bad))
+        idle.start()
+        misbehave(program, port, server, bad)
+        idle.join()
         if server.poll() is not None:
             bad.append(f"the server ended with {server.returncode}")
     for what in bad:
