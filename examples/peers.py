@@ -216,6 +216,13 @@ def idle_peers(program, bad):
             bad.append(f"half a body was cut off after {after} s")
 
 
+def idle_beside(program, bad):
+    try:
+        idle_peers(program, bad)
+    except OSError as error:
+        bad.append(f"idle peers: {error}")
+
+
 def ended_with(program, *words):
     return subprocess.run([program, "listen", *words], stderr=subprocess.PIPE, timeout=20)
 
@@ -259,7 +266,7 @@ def main():
     port = free_port()
     bad = []
     with serving(program, port, 4) as server:
-        idle = threading.Thread(target=idle_peers, args=(program, bad))
+        idle = threading.Thread(target=idle_beside, args=(program, bad))
         idle.start()
         misbehave(program, port, server, bad)
         idle.join()
