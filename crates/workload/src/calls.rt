@@ -1,7 +1,8 @@
 //! The calls of a workload.
-ghost use Rattle.std.specs.Prelude.{◌≡◌, ◌<◌, ◌+◌, ◌*◌, IfOk, pos, true};
-ghost use Rattle.spec_json.specs.TreeData.{data_of};
-ghost use Rattle.spec_time.specs.LocalTimes.{seconds_of_clock};
+ghost use Rattle.std.specs.Prelude.{◌≡◌, ◌<◌, ◌+◌, ◌*◌, ◌∷◌, [], IfOk, codes, decimal, map, pos, true};
+ghost use Rattle.spec_json.specs.Data.{items_of, list, members_of, object, text, truth};
+ghost use Rattle.spec_json.specs.TreeData.{data_of, keyed};
+ghost use Rattle.spec_time.specs.LocalTimes.{local_text, seconds_of_clock};
 ghost use Rattle.spec_time.specs.Walls.{is_in_years, wall_at};
 ghost use Rattle.workload.specs.Generated.{call_asking, create_call, drawn, event, page_call, request_call, room_call, weekly};
 
@@ -69,18 +70,44 @@ fn event(alloc: Global, request: u32, start: Wall, interval: u32) -> Result<Tree
     requires { is_in_years start ≡ true }
     ensures { IfOk result (λ tree. tree ≡ Tree.Object (event request start interval)) }
 {
-    let calendars = vec![in alloc; ("C1", Tree::Truth(true))]?;
-    let rules = vec![in alloc; weekly(alloc, interval)?]?;
-    let uid = Text::from_string(format!(in alloc; "w{request}")?)?;
-    let members = vec![in alloc;
-        ("calendarIds", Tree::object(alloc, calendars)?),
-        ("duration", text(alloc, "PT1H")?),
-        ("recurrenceRules", Tree::List(TreeList::new(rules))),
-        ("start", Tree::Text(local_text(alloc, start)?)),
-        ("timeZone", text(alloc, "Etc/UTC")?),
-        ("uid", Tree::Text(uid)),
-    ]?;
+    let mut members = leading(alloc, interval)?;
+    members.append(&mut trailing(alloc, request, start)?)?;
     Tree::object(alloc, members)
+}
+
+// The members of the event up to its rules, in byte order of their names.
+fn leading(alloc: Global, interval: u32) -> Result<Vec<(&'static str, Tree)>, AllocError>
+    ensures { IfOk result (λ ms. map keyed ms.items ≡
+        (codes "calendarIds", object (members_of ((codes "C1", truth true) ∷ [])))
+        ∷ (codes "duration", text (codes "PT1H"))
+        ∷ (codes "recurrenceRules", list (items_of (weekly interval ∷ []))) ∷ []) }
+{
+    let calendars = Tree::object(alloc, vec![in alloc; ("C1", Tree::Truth(true))]?)?;
+    let duration = text(alloc, "PT1H")?;
+    let rules = Tree::List(TreeList::new(vec![in alloc; weekly(alloc, interval)?]?));
+    Ok(vec![in alloc;
+        ("calendarIds", calendars),
+        ("duration", duration),
+        ("recurrenceRules", rules),
+    ]?)
+}
+
+// The members of the event after its rules, in byte order of their names.
+fn trailing(
+    alloc: Global,
+    request: u32,
+    start: Wall,
+) -> Result<Vec<(&'static str, Tree)>, AllocError>
+    requires { is_in_years start ≡ true }
+    ensures { IfOk result (λ ms. map keyed ms.items ≡
+        (codes "start", text (local_text start))
+        ∷ (codes "timeZone", text (codes "Etc/UTC"))
+        ∷ (codes "uid", text (119 ∷ decimal request)) ∷ []) }
+{
+    let uid = Tree::Text(Text::from_string(format!(in alloc; "w{request}")?)?);
+    let start = Tree::Text(local_text(alloc, start)?);
+    let zone = text(alloc, "Etc/UTC")?;
+    Ok(vec![in alloc; ("start", start), ("timeZone", zone), ("uid", uid)]?)
 }
 
 // A weekly rule.
