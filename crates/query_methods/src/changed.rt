@@ -1,13 +1,16 @@
 //! What changed of a query's result since a state.
-ghost use Rattle.std.specs.Prelude.{◌≡◌, ◌≤◌, IfErr, IfOk, OnOk, None, map, option_map, true, unsigned_abs};
+ghost use Rattle.std.specs.Prelude.{◌≡◌, ◌≤◌, ◌∷◌, [], IfErr, IfOk, OnOk, None, codes, map, option_map, true, unsigned_abs};
 ghost use Rattle.account_store.specs.Store.{entries};
 ghost use Rattle.event_store.specs.EventsBase.{base_of};
 ghost use Rattle.spec_history.specs.History.{changes_of, count_of_kind};
 ghost use Rattle.spec_history.specs.Pages.{is_within};
 ghost use Rattle.spec_history.specs.declared.entry.Kind.TheVariants.{Event};
-ghost use Rattle.spec_json.specs.TreeData.{data_of};
+ghost use Rattle.spec_history.specs.States.{state_of, state_text};
+ghost use Rattle.spec_json.specs.Data.{items_of, list, text};
+ghost use Rattle.spec_json.specs.TreeData.{data_of, keyed};
 ghost use Rattle.spec_queries.specs.Changed.{added_item, changed_response, delta_response, delta_since, size_of_delta, size_refusal};
-ghost use Rattle.spec_queries.specs.States.{is_maximum};
+ghost use Rattle.spec_queries.specs.Found.{total_member};
+ghost use Rattle.spec_queries.specs.States.{id_list, is_maximum};
 ghost use Rattle.spec_queries.specs.Matching.{result_of};
 ghost use Rattle.query_methods.specs.Reports.{Reports};
 ghost use Rattle.query_methods.specs.Sights.{seen_by};
@@ -123,18 +126,48 @@ fn delta_tree(
 ) -> Result<Tree, AllocError>
     ensures { IfOk result (λ t. t ≡ delta_response (base_of events.now) (changes_of (entries events.now.store.now)) arguments.now total delta.now) }
 {
+    let mut members = leading(alloc, events, delta)?;
+    members.append(&mut trailing(alloc, arguments, total, delta)?)?;
+    Tree::object(alloc, members)
+}
+
+// The arguments up to the new state, in byte order of their names.
+fn leading(
+    alloc: Global,
+    events: &StoredEvents<'_>,
+    delta: &Delta,
+) -> Result<Vec<(&'static str, Tree)>, AllocError>
+    ensures { IfOk result (λ ms. map keyed ms.items ≡
+        (codes "accountId", text (base_of events.now).account_id)
+        ∷ (codes "added", list (items_of (map added_item delta.now.added)))
+        ∷ (codes "newQueryState", text (state_text (state_of (base_of events.now).generation Event (changes_of (entries events.now.store.now))))) ∷ []) }
+{
+    let id = Tree::Text(events.account.copy()?);
     let added = Tree::List(TreeList::new(added_items(alloc, delta.added.items())?));
-    let removed = id_list(alloc, Kind::Event, delta.removed.items())?;
     let state = Tree::Text(state_text(alloc, event_state(events))?);
-    let mut members = vec![in alloc;
-        ("accountId", Tree::Text(events.account.copy()?)),
+    Ok(vec![in alloc;
+        ("accountId", id),
         ("added", added),
         ("newQueryState", state),
-        ("oldQueryState", Tree::Text(arguments.since.copy()?)),
-        ("removed", removed),
-    ]?;
+    ]?)
+}
+
+// The arguments after the new state, in byte order of their names.
+fn trailing(
+    alloc: Global,
+    arguments: &QueryChangesArguments,
+    total: u64,
+    delta: &Delta,
+) -> Result<Vec<(&'static str, Tree)>, AllocError>
+    ensures { IfOk result (λ ms. map keyed ms.items ≡
+        (codes "oldQueryState", text arguments.now.since)
+        ∷ (codes "removed", id_list Event delta.now.removed) ∷ total_member arguments.now.calculate_total total) }
+{
+    let state = Tree::Text(arguments.since.copy()?);
+    let removed = id_list(alloc, Kind::Event, delta.removed.items())?;
+    let mut members = vec![in alloc; ("oldQueryState", state), ("removed", removed)]?;
     if arguments.calculate_total {
         members.push(("total", number_tree(total)))?;
     }
-    Tree::object(alloc, members)
+    Ok(members)
 }
