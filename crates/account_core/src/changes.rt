@@ -1,10 +1,13 @@
 //! What changed since a state (RFC 8620 section 5.2).
-ghost use Rattle.std.specs.Prelude.{◌≡◌, IfOk, option_map, true, unsigned_abs};
+ghost use Rattle.std.specs.Prelude.{◌≡◌, ◌==◌, ◌∷◌, [], IfOk, codes, map, not, option_map, true, unsigned_abs};
 ghost use Rattle.account_core.specs.Ledger.{base, ledger_entries};
 ghost use Rattle.account_core.specs.PageObject.{page_object};
 ghost use Rattle.cal_model.specs.Answer.{changes_answer};
 ghost use Rattle.spec_history.specs.History.{changes_of, count_of_kind};
-ghost use Rattle.spec_queries.specs.States.{is_maximum};
+ghost use Rattle.spec_history.specs.States.{state_in_generation, state_text};
+ghost use Rattle.spec_json.specs.Data.{text, truth};
+ghost use Rattle.spec_json.specs.TreeData.{keyed};
+ghost use Rattle.spec_queries.specs.States.{id_list, is_maximum};
 
 use crate::ledger::Ledger;
 use crate::reply::{refusal, reply};
@@ -69,22 +72,59 @@ fn limit(most: &Option<Num>) -> Option<u64>
 fn page_tree(ledger: &Ledger, kind: Kind, since: &Text, page: &Page) -> Result<Tree, AllocError>
     ensures { IfOk result (λ t. t ≡ page_object (base ledger.now) kind since.now (count_of_kind (changes_of (ledger_entries ledger.now)) kind) page.now) }
 {
+    let mut members = leading(ledger, kind, page)?;
+    members.append(&mut trailing(ledger, kind, since, page)?)?;
+    Tree::object(ledger.alloc, members)
+}
+
+// The arguments up to whether there are more changes, in byte order of their names.
+fn leading(
+    ledger: &Ledger,
+    kind: Kind,
+    page: &Page,
+) -> Result<Vec<(&'static str, Tree)>, AllocError>
+    ensures { IfOk result (λ ms. map keyed ms.items ≡
+        (codes "accountId", text (base ledger.now).account_id)
+        ∷ (codes "created", id_list kind page.now.created)
+        ∷ (codes "destroyed", id_list kind page.now.destroyed)
+        ∷ (codes "hasMoreChanges", truth (not (page.now.until == count_of_kind (changes_of (ledger_entries ledger.now)) kind))) ∷ []) }
+{
+    let alloc = ledger.alloc;
+    let id = Tree::Text(ledger.id.copy()?);
+    let created = id_list(alloc, kind, page.created.items())?;
+    let destroyed = id_list(alloc, kind, page.destroyed.items())?;
+    let has_more = Tree::Truth(page.until != ledger.store.count(kind));
+    Ok(vec![in alloc;
+        ("accountId", id),
+        ("created", created),
+        ("destroyed", destroyed),
+        ("hasMoreChanges", has_more),
+    ]?)
+}
+
+// The arguments after whether there are more changes, in byte order of their names.
+fn trailing(
+    ledger: &Ledger,
+    kind: Kind,
+    since: &Text,
+    page: &Page,
+) -> Result<Vec<(&'static str, Tree)>, AllocError>
+    ensures { IfOk result (λ ms. map keyed ms.items ≡
+        (codes "newState", text (state_text (state_in_generation (base ledger.now).generation page.now.until)))
+        ∷ (codes "oldState", text since.now)
+        ∷ (codes "updated", id_list kind page.now.updated) ∷ []) }
+{
     let alloc = ledger.alloc;
     let end = State {
         generation: ledger.generation,
         number: page.until,
     };
-    let members = vec![in alloc;
-        ("accountId", Tree::Text(ledger.id.copy()?)),
-        ("created", id_list(alloc, kind, page.created.items())?),
-        ("destroyed", id_list(alloc, kind, page.destroyed.items())?),
-        (
-            "hasMoreChanges",
-            Tree::Truth(page.until != ledger.store.count(kind))
-        ),
-        ("newState", Tree::Text(state_text(alloc, end)?)),
-        ("oldState", Tree::Text(since.copy()?)),
-        ("updated", id_list(alloc, kind, page.updated.items())?),
-    ]?;
-    Tree::object(alloc, members)
+    let new_state = Tree::Text(state_text(alloc, end)?);
+    let old_state = Tree::Text(since.copy()?);
+    let updated = id_list(alloc, kind, page.updated.items())?;
+    Ok(vec![in alloc;
+        ("newState", new_state),
+        ("oldState", old_state),
+        ("updated", updated),
+    ]?)
 }
