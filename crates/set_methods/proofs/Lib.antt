@@ -1,3 +1,2 @@
 pub mod PlanLemmas
-pub mod TellingLemmas
 pub mod AskedLemmas
