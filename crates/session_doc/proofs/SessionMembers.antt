@@ -1,6 +1,6 @@
 -- The accounts of a session object, from any of the grants on.
 use Rattle.std.proofs.Common.{◌≡◌, ℕ, List, [], ◌∷◌, ◌++◌, Bool, true, false, codes, map, refl, ap}
-use Rattle.spec_json.specs.Data.{Data, Pair, members_of, object, text}
+use Rattle.spec_json.specs.Data.{Pair, members_of, object, text}
 use Rattle.spec_json.specs.Edit.{put_all}
 use Rattle.spec_site.specs.Configuration.{Site}
 use Rattle.spec_site.specs.SessionObject.{account_member, account_members, capabilities, primary_accounts, session_object}
