@@ -1,11 +1,11 @@
 //! The set of a rule.
-ghost use Rattle.std.specs.Prelude.{◌^◌, unsigned_abs, ◌&&◌, int_le, ℕ, ◌≡◌, ◌+◌, ◌-◌, ◌+ℤ◌, ◌-ℤ◌, ◌<◌, ◌≤◌, ◌≤ℤ◌, ◌<ℤ◌, ℤ, pos, true, IfSome, IsNone};
+ghost use Rattle.std.specs.Prelude.{◌^◌, unsigned_abs, ◌&&◌, int_le, ℕ, ◌≡◌, ◌+◌, ◌-◌, ◌*◌, ◌+ℤ◌, ◌-ℤ◌, ◌*ℤ◌, ◌<◌, ◌≤◌, ◌≤ℤ◌, ◌<ℤ◌, ℤ, pos, true, IfSome, IsNone};
 ghost use Rattle.spec_series.specs.Periods.{is_in_phase};
 ghost use Rattle.spec_series.specs.RuleSets.{is_due, is_day_of_set, is_in_set, is_moved, is_native, moved_from};
 ghost use Rattle.spec_time.specs.Walls.{day_of_wall, is_in_years, second_of_wall};
 ghost use Rattle.spec_time.specs.Floor.{floor_div, modulo};
 ghost use Rattle.rule_expand.specs.Near.{IsNear};
-ghost use Rattle.rule_expand.specs.Sets.{IsGreatest, IsLastDue, IsNearBound, IsFirstFrom, IsNext, IsBound, is_in_bound, is_up_to};
+ghost use Rattle.rule_expand.specs.Sets.{IsCountAt, IsGreatest, IsLastDue, IsNearBound, IsFirstFrom, IsNext, IsBound, is_in_bound, is_up_to};
 ghost use Rattle.spec_series.specs.declared.by_part.End.TheVariants.{Count};
 
 use crate::bound::Bound;
@@ -73,21 +73,113 @@ fn last_due(rule: &Rule, start_day: i64, high: i64) -> i64
     }
 }
 
-// The last of the first day and the due days after it, up to a number of days.
-fn last_counted(rule: &Rule, start_day: i64, count: u32) -> i64
+// The day of some place in a counted set.
+struct Reached {
+    day: i64,
+    place: u32,
+}
+
+// The last of the first day and the due days after it, up to a number of days and up to a day.
+fn reach(rule: &Rule, start_day: i64, count: u32, high: i64) -> Reached
     requires start { IsNear 10000000 start_day }
     requires count { (1 ≤ count) × (count ≤ 1000) }
-    ensures greatest { (t : ℕ) → IsGreatest (is_day_of_set (is_due rule.now start_day) (Count count) t start_day) result }
-    ensures near { IsNear 147000000000 result }
+    requires high { (start_day ≤ℤ high) × IsNear 2199023260000 high }
+    ensures at { (t : ℕ) → IsCountAt (is_due rule.now start_day) count t start_day result.day result.place }
+    ensures place { (1 ≤ result.place) × (result.place ≤ count) }
+    ensures near { result.day ≤ℤ (start_day +ℤ pos (result.place * 146097000)) }
+    ensures high { result.day ≤ℤ high }
+    ensures none { result.place < count → (m : ℤ) → result.day <ℤ m → m ≤ℤ high → is_due rule.now start_day m ≡ true → ⊥ }
 {
     let mut here = start_day;
     for k in 1..count {
+        let Some(n) = next_due(rule, start_day, here, Bound::Last(high)) else {
+            return Reached {
+                day: here,
+                place: k,
+            };
+        };
+        if n > high {
+            return Reached {
+                day: here,
+                place: k,
+            };
+        }
+        here = n;
+    }
+    Reached {
+        day: here,
+        place: count,
+    }
+}
+
+// The same from the day of some place on, up to a number of days alone.
+fn last_from(rule: &Rule, start_day: i64, count: u32, from: i64, place: u32) -> i64
+    requires start { IsNear 10000000 start_day }
+    requires count { (1 ≤ count) × (count ≤ 1000) }
+    requires place { place ≤ count }
+    requires at { (t : ℕ) → IsCountAt (is_due rule.now start_day) count t start_day from place }
+    requires near { from ≤ℤ (start_day +ℤ pos (place * 146097000)) }
+    ensures greatest { (t : ℕ) → IsGreatest (is_day_of_set (is_due rule.now start_day) (Count count) t start_day) result }
+    ensures near { IsNear 147000000000 result }
+{
+    let mut here = from;
+    for k in place..count {
         let Some(n) = next_due(rule, start_day, here, Bound::Endless) else {
             return here;
         };
         here = n;
     }
     here
+}
+
+// The days of a round, after which the same days are due again.
+fn round_of(rule: &Rule) -> i64
+    ensures value { result ≡ pos (rule.now.interval * 146097) }
+    ensures near { IsNear 146097000 result }
+{
+    i64::from(rule.interval) * 146_097
+}
+
+// Whole rounds that a count leaves behind a place in the first one.
+fn rounds_left(count: u32, place: u32) -> u32
+    requires { (1 ≤ place) × (place ≤ count) }
+    ensures within { place + result * (place - 1) ≤ count }
+    ensures first { place ≡ 1 → result ≡ 0 }
+    ensures last { place ≡ count → result ≡ 0 }
+{
+    if place == 1 {
+        return 0;
+    }
+    (count - place) / (place - 1)
+}
+
+// The day some rounds later.
+fn rounds_later(day: i64, rounds: u32, round: i64) -> i64
+    requires day { IsNear 147000000000 day }
+    requires rounds { rounds ≤ 1000 }
+    requires round { IsNear 146097000 round }
+    ensures { result ≡ day +ℤ pos rounds *ℤ round }
+{
+    day + i64::from(rounds) * round
+}
+
+// The last of the first day and the due days after it, up to a number of days: those of the first round tell how many days a round has.
+fn last_counted(rule: &Rule, start_day: i64, count: u32) -> i64
+    requires start { IsNear 10000000 start_day }
+    requires count { (1 ≤ count) × (count ≤ 1000) }
+    ensures greatest { (t : ℕ) → IsGreatest (is_day_of_set (is_due rule.now start_day) (Count count) t start_day) result }
+    ensures near { IsNear 147000000000 result }
+{
+    let round = round_of(rule);
+    let Reached { day, place } = reach(rule, start_day, count, start_day + round);
+    let rounds = rounds_left(count, place);
+    last_from(
+        rule,
+        start_day,
+        count,
+        rounds_later(day, rounds, round),
+        place + rounds * (place - 1),
+    )
 }
 
 // The last day of a rule's set.
