@@ -165,10 +165,6 @@ fn any_met(a: &[u64], b: Option<&[u64]>, w: usize, low: u32, high: u32) -> u64
     requires high { high ≤ 17 }
     ensures { (s i : ℕ) → low ≤ s → s < high → i < 64 → bit_at result i ≡ 0 → met_bit a.now b.entry s (64 * w + i) ≡ 0 }
 {
-    // Most words of most maps are empty.
-    if a[w] == 0 {
-        return 0;
-    }
     let mut found = 0;
     for s in low..high {
         found |= met(a, b, w, s);
@@ -212,6 +208,10 @@ pub fn unmet_from(a: &[u64], b: Option<&[u64]>, r: u32, low: u32, high: u32) -> 
         return run_to(r, r, lower_of(lowest(rest), 64 - r % 64));
     }
     for w in first + 1..2283 {
+        // Most words of most maps are empty.
+        if a[w] == 0 {
+            continue;
+        }
         let word = any_met(a, b, w, low, high);
         if word != 0 {
             return run_to(r, 64 * w as u32, lowest(word));

@@ -1,11 +1,11 @@
 -- Why nothing is met up to the lowest bit that is set.
 use Rattle.std.proofs.Common.{◌≡◌, ℕ, ◌+◌, ◌-◌, ◌*◌, ◌/◌, ◌%◌, ◌<◌, ◌^◌, ◌∙◌, ap, sym, subst, arith, inl, inr, refl}
-use Rattle.std.specs.Prelude.{◌≤◌, Option, List}
+use Rattle.std.specs.Prelude.{◌≤◌, Option, List, Some, None, slice_index}
 use Rattle.std.specs.Int.{bit_at}
 use Rattle.std.proofs.Common.{Bor}
 use Rattle.std.proofs.lemmas.Bool.{cases_lt}
 use Rattle.std.proofs.lemmas.Nat.Bits.{bit_at-zero}
-use Rattle.residue_solve.specs.ResidueMap.{met_bit}
+use Rattle.residue_solve.specs.ResidueMap.{map_bit, met_bit}
 use Rattle.residue_solve.proofs.Bits.{rest_zero}
 use Rattle.residue_solve.proofs.residue_map.unmet_from.Goals as goal
 
@@ -15,6 +15,14 @@ in_word : (a : List ℕ) (b : Option (Bor (List ℕ))) (s w k word : ℕ) → ((
 in_word a b s w k word h low high clear =
     let at : 64 * w + (k - 64 * w) ≡ k = omega (arith, low) in
     subst (λ (n : ℕ). met_bit a b s n ≡ 0) at (h (k - 64 * w) (omega (arith, low, high)) clear)
+
+-- the bits of an empty word are clear, so no residue of it is met
+clear : (a : List ℕ) (w k : ℕ) → slice_index a w ≡ 0 → 64 * w ≤ k → k < 64 * w + 64 → map_bit a k ≡ 0
+clear a w k empty low high = let at : k / 64 ≡ w = omega (arith, low, high) in rw (at, empty) (bit_at-zero (k % 64))
+
+unmet : (a : List ℕ) (b : Option (Bor (List ℕ))) (s k : ℕ) → map_bit a k ≡ 0 → met_bit a b s k ≡ 0
+unmet a None s k none = none
+unmet a (Some b) s k none = rw none (omega arith)
 
 pub returns-then-rest-ne0-clause-unmet : goal.returns-then-rest-ne0-clause-unmet
 returns-then-rest-ne0-clause-unmet c s i low high lt =
@@ -57,4 +65,13 @@ loop-w-preserved c s i low high lt =
       | inr late ↦
           let clear = ap (λ x. bit_at x (k - 64 * w)) c.if-word-ne0.false ∙ bit_at-zero (k - 64 * w) in
           in_word c.args.a.now c.args.b s w k c.any_met-word.result (λ j. c.any_met-word.ensures s j low high) late (omega (arith, lt)) clear
+    ]
+
+pub loop-w-preserved-then-a-w-eq0 : goal.loop-w-preserved-then-a-w-eq0
+loop-w-preserved-then-a-w-eq0 c s i low high lt =
+    let k = c.args.r + i in
+    let w = c.loop-w.w in
+    elim (cases_lt k (64 * w)) [
+      | inl below ↦ c.loop-w.invariant s i low high below
+      | inr late ↦ unmet c.args.a.now c.args.b s k (clear c.args.a.now w k c.if-a-w-eq0.true late (omega (arith, lt)))
     ]
