@@ -40,7 +40,10 @@ fn stdio_names_a_configuration(rt: HostRuntime) -> Result<(), Fail> {
 fn listen_names_a_configuration_and_a_port(rt: HostRuntime) -> Result<(), Fail> {
     for (line, wanted) in [
         ("listen --config c --port 80", ("c", 80, 16, 1_000_000)),
-        ("listen --port=65535 --config=c", ("c", 65535, 16, 1_000_000)),
+        (
+            "listen --port=65535 --config=c",
+            ("c", 65535, 16, 1_000_000),
+        ),
         (
             "listen --config c --port 1 --workers 255 --connections 9",
             ("c", 1, 255, 9),

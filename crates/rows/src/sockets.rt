@@ -70,7 +70,11 @@ fn peers_that_send_no_whole_head_hold_nobody_up(rt: HostRuntime) -> Result<(), F
     };
     let mut bytes = [0; 64];
     assert_eq!(rt; input.take(&mut bytes), Ok(27));
-    listener.ended(input, output, nothing_served(rt.alloc(), ConnEnd::CloseAsked));
+    listener.ended(
+        input,
+        output,
+        nothing_served(rt.alloc(), ConnEnd::CloseAsked),
+    );
     drop(silent);
     Ok(())
 }
@@ -100,7 +104,11 @@ fn a_quiet_connection_makes_way_and_comes_again(rt: HostRuntime) -> Result<(), F
             panic!(rt; "no connection");
         };
         assert_eq!(rt; input.take(&mut bytes), Ok(count));
-        listener.ended(input, output, nothing_served(rt.alloc(), ConnEnd::CloseAsked));
+        listener.ended(
+            input,
+            output,
+            nothing_served(rt.alloc(), ConnEnd::CloseAsked),
+        );
     }
     Ok(())
 }
@@ -122,13 +130,21 @@ fn a_peer_that_takes_its_answer_slowly_holds_nobody_up(rt: HostRuntime) -> Resul
     };
     let answer = Vec::from_elem(rt.alloc(), b'x', LONG)?;
     assert_eq!(rt; put_all(&mut output, &answer), Ok(()));
-    listener.ended(input, output, nothing_served(rt.alloc(), ConnEnd::CloseAsked));
+    listener.ended(
+        input,
+        output,
+        nothing_served(rt.alloc(), ConnEnd::CloseAsked),
+    );
     serve_one(&rt, rt.alloc(), port, &mut listener)?;
     let taken = thread::spawn(&rt, move || take_all(&rt, peer, port))?;
     let Ok((input, output)) = listener.accept() else {
         panic!(rt; "no connection");
     };
-    listener.ended(input, output, nothing_served(rt.alloc(), ConnEnd::CloseAsked));
+    listener.ended(
+        input,
+        output,
+        nothing_served(rt.alloc(), ConnEnd::CloseAsked),
+    );
     assert_eq!(rt; taken.join(&rt)?, LONG);
     Ok(())
 }
