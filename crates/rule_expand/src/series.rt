@@ -4,7 +4,7 @@ ghost use Rattle.spec_series.specs.RuleSets.{is_in_set};
 ghost use Rattle.spec_series.specs.SeriesLimits.{is_named};
 ghost use Rattle.spec_time.specs.Walls.{second_of_wall};
 ghost use Rattle.spec_time.specs.Floor.{floor_div};
-ghost use Rattle.rule_expand.specs.Later.{IsLaterRid, IsLaterOwn, IsLaterOne, IsOwnSecond, IsUntil, is_after, is_sooner, is_until, may_come_first, sooner, started, IsFirstOf, IsLater, IsLaterAt};
+ghost use Rattle.rule_expand.specs.Later.{IsLaterRid, IsLaterOwn, IsLaterOne, IsOwnSecond, IsUntil, is_after, is_sooner, is_until, may_come_first, sooner, started, until_found, IsFirstOf, IsLater, IsLaterAt};
 ghost use Rattle.rule_expand.specs.Near.{IsNear};
 ghost use Rattle.rule_expand.specs.Sets.{is_in_bound, is_regular, is_up_to, IsFirstFrom, IsNearBound};
 ghost use Rattle.spec_series.specs.declared.rule.Rule.{Rule};
@@ -173,6 +173,16 @@ fn if_started(last: Option<i64>, o: Option<Occurrence>) -> Option<Occurrence>
     None
 }
 
+// The last wall second at which an occurrence may start that comes before the one that was found, if one was.
+fn until_found(last: Option<i64>, found: &Option<Occurrence>) -> Option<i64>
+    ensures { result ≡ until_found last found.now }
+{
+    match found {
+        None => last,
+        Some(found) => Some(found.start.seconds()),
+    }
+}
+
 // What an exception gives after a start and a recurrence id.
 fn replacement(x: &Exception, from: i64, past: Option<i64>) -> Option<Occurrence>
     ensures { IsFirstOf (IsLater from past x.now) result }
@@ -329,9 +339,12 @@ fn first_after(
     requires rids { (w : ℤ) → is_named series.now.exceptions w ≡ true → IsNear 400000000000 w }
     ensures { IsFirstOf (IsUntil last (IsLaterOne series.now from past)) result }
 {
-    let own = next_own(series, from, past, last);
-    let replaced = next_replacement(series.exceptions.items(), from, past);
-    sooner_of(own, if_started(last, replaced))
+    let replaced = if_started(
+        last,
+        next_replacement(series.exceptions.items(), from, past),
+    );
+    let own = next_own(series, from, past, until_found(last, &replaced));
+    sooner_of(own, replaced)
 }
 
 // The seconds of a wall second, where there is one.
