@@ -78,18 +78,18 @@ pub listen_is_free : is_simple_and_free listen_app ≡ true
 unfolding listen_app clap_on_literals
 listen_is_free = refl
 
-pub listen_found : (app : App) (words : List (List ℕ)) (m : ArgMatches) (config port workers connections : Option (List ℕ)) → app ≡ listen_app
+pub listen_found : (app : App) (words : List (List ℕ)) (m : ArgMatches) (config port workers connections log : Option (List ℕ)) → app ≡ listen_app
     → accepts app words ≡ true → HasMatchesOf app words m
     → config ≡ first_value (found_of m) (codes "config") → port ≡ first_value (found_of m) (codes "port")
-    → workers ≡ first_value (found_of m) (codes "workers") → connections ≡ first_value (found_of m) (codes "connections")
-    → listen_with config port workers connections ≡ listen_of words
-listen_found app words m config port workers connections is taken h c p w n =
+    → workers ≡ first_value (found_of m) (codes "workers") → connections ≡ first_value (found_of m) (codes "connections") → log ≡ first_value (found_of m) (codes "log")
+    → listen_with config port workers connections log ≡ listen_of words
+listen_found app words m config port workers connections log is taken h c p w n f =
     let value = λ (name : List ℕ). value_of listen_app words name in
     let found : (name : List ℕ) (o : Option (List ℕ)) → o ≡ first_value (found_of m) name → o ≡ value_of listen_app words name =
     λ name o e. e ∙ value_found app listen_app words m name is listen_is_simple h in
-    let all = listen_with (value (codes "config")) (value (codes "port")) (value (codes "workers")) (value (codes "connections")) in
-    let same : listen_with config port workers connections ≡ all =
-    (λ i. listen_with (found (codes "config") config c i) (found (codes "port") port p i) (found (codes "workers") workers w i) (found (codes "connections") connections n i)) in
+    let all = listen_with (value (codes "config")) (value (codes "port")) (value (codes "workers")) (value (codes "connections")) (value (codes "log")) in
+    let same : listen_with config port workers connections log ≡ all =
+    (λ i. listen_with (found (codes "config") config c i) (found (codes "port") port p i) (found (codes "workers") workers w i) (found (codes "connections") connections n i) (found (codes "log") log f i)) in
     same ∙ sym (ap (λ b. cond b all None) (ap (λ (a : App). accepts a words) (sym is) ∙ taken))
 
 pub kept_is_simple : is_simple kept_app ≡ true
@@ -120,17 +120,17 @@ pub listen_kept_is_free : is_simple_and_free listen_kept_app ≡ true
 unfolding listen_kept_app listen_app clap_on_literals
 listen_kept_is_free = refl
 
-pub listen_kept_found : (app : App) (words : List (List ℕ)) (m : ArgMatches) (listen : Option Listen) (config port workers connections journals : Option (List ℕ)) → app ≡ listen_kept_app
-    → accepts app words ≡ true → HasMatchesOf app words m → listen ≡ listen_with config port workers connections
+pub listen_kept_found : (app : App) (words : List (List ℕ)) (m : ArgMatches) (listen : Option Listen) (config port workers connections log journals : Option (List ℕ)) → app ≡ listen_kept_app
+    → accepts app words ≡ true → HasMatchesOf app words m → listen ≡ listen_with config port workers connections log
     → config ≡ first_value (found_of m) (codes "config") → port ≡ first_value (found_of m) (codes "port")
-    → workers ≡ first_value (found_of m) (codes "workers") → connections ≡ first_value (found_of m) (codes "connections") → journals ≡ first_value (found_of m) (codes "journals")
+    → workers ≡ first_value (found_of m) (codes "workers") → connections ≡ first_value (found_of m) (codes "connections") → log ≡ first_value (found_of m) (codes "log") → journals ≡ first_value (found_of m) (codes "journals")
     → listen_kept_with listen journals ≡ listen_kept_options words
-listen_kept_found app words m listen config port workers connections journals is taken h with c p w n j =
+listen_kept_found app words m listen config port workers connections log journals is taken h with c p w n f j =
     let value = λ (name : List ℕ). value_of listen_kept_app words name in
     let found : (name : List ℕ) (o : Option (List ℕ)) → o ≡ first_value (found_of m) name → o ≡ value_of listen_kept_app words name =
     λ name o e. e ∙ value_found app listen_kept_app words m name is listen_kept_is_simple h in
-    let all : Option ListenKept = listen_kept_with (listen_with (value (codes "config")) (value (codes "port")) (value (codes "workers")) (value (codes "connections"))) (value (codes "journals")) in
-    let same : listen_kept_with (listen_with config port workers connections) journals ≡ all =
-    (λ i. listen_kept_with (listen_with (found (codes "config") config c i) (found (codes "port") port p i) (found (codes "workers") workers w i) (found (codes "connections") connections n i))
+    let all : Option ListenKept = listen_kept_with (listen_with (value (codes "config")) (value (codes "port")) (value (codes "workers")) (value (codes "connections")) (value (codes "log"))) (value (codes "journals")) in
+    let same : listen_kept_with (listen_with config port workers connections log) journals ≡ all =
+    (λ i. listen_kept_with (listen_with (found (codes "config") config c i) (found (codes "port") port p i) (found (codes "workers") workers w i) (found (codes "connections") connections n i) (found (codes "log") log f i))
     (found (codes "journals") journals j i)) in
     ap (λ (l : Option Listen). listen_kept_with l journals) with ∙ same ∙ sym (ap (λ b. cond b all None) (ap (λ (a : App). accepts a words) (sym is) ∙ taken))

@@ -5,17 +5,18 @@ use Rattle.std.specs.Str.{bytes_eq}
 use Rattle.clap.specs.Words.{App, Rule, fault_of, first_of, matches_of, new_app, new_rule, with_rule}
 use Rattle.clap.specs.Simple.{on_top}
 use Rattle.clap.specs.Walk.{is_empty}
-use Rattle.clap.specs.declared.builder.action.ArgAction.TheVariants.{Set}
+use Rattle.clap.specs.declared.builder.action.ArgAction.TheVariants.{Set, SetTrue}
 use Rattle.spec_json.specs.Number.{number_in}
 use Rattle.command_line.specs.declared.listen.TheConstants.{DEFAULT_CONNECTIONS, DEFAULT_WORKERS, MAX_CONNECTIONS, MAX_PORT, MAX_WORKERS}
 use Rattle.command_line.specs.declared.workload.TheConstants.{MAX_NUMBER, MAX_SIZE}
 
--- what `listen` is to do: with a configuration, a port, and so many workers, each for so many connections
+-- what `listen` is to do: with a configuration, a port, and so many workers, each for so many connections; and whether a line tells of each request
 pub record Listen : Type 0 where
   pub config : List ℕ
   pub port : ℕ
   pub workers : ℕ
   pub connections : ℕ
+  pub log : Bool
 
 -- `batch` with a configuration and a user, each by its name where it is given, `stdio` with a configuration, `workload` with the number that its generator begins with and its
 -- size, or `listen`
@@ -33,6 +34,10 @@ without_flags name = on_top (λ s. record s { no_binary_name = true; disable_hel
 abbrev pub option_named : List ℕ → Bool → Rule
 option_named name required = record (new_rule name) { long = Some name; action = Some Set; required = required }
 
+-- a flag `--name`, whose value is `true` where it is given, and else `false`
+abbrev pub flag_named : List ℕ → Rule
+flag_named name = record (new_rule name) { long = Some name; action = Some SetTrue }
+
 -- `batch [--config NAME] [--user NAME]`
 unfoldable pub batch_app : App
 batch_app = with_rule (with_rule (without_flags (codes "batch")) (option_named (codes "config") false)) (option_named (codes "user") false)
@@ -45,11 +50,11 @@ stdio_app = with_rule (without_flags (codes "stdio")) (option_named (codes "conf
 unfoldable pub workload_app : App
 workload_app = with_rule (with_rule (without_flags (codes "workload")) (option_named (codes "number") true)) (option_named (codes "size") true)
 
--- `listen --config NAME --port P [--workers W] [--connections N]`
+-- `listen --config NAME --port P [--workers W] [--connections N] [--log]`
 unfoldable pub listen_app : App
 listen_app =
-    with_rule (with_rule (with_rule (with_rule (without_flags (codes "listen")) (option_named (codes "config") true)) (option_named (codes "port") true)) (option_named (codes "workers") false))
-    (option_named (codes "connections") false)
+    with_rule (with_rule (with_rule (with_rule (with_rule (without_flags (codes "listen")) (option_named (codes "config") true)) (option_named (codes "port") true)) (option_named (codes "workers") false))
+    (option_named (codes "connections") false)) (flag_named (codes "log"))
 
 -- `clap` finds no fault with the words of a command
 abbrev pub accepts : App → List (List ℕ) → Bool
@@ -103,10 +108,15 @@ abbrev pub count_or : ℕ → ℕ → Option (List ℕ) → Option ℕ
 count_or most default None = Some default
 count_or most default (Some text) = count_in most text
 
+-- whether the value of a flag is that of one that is given
+abbrev pub is_given : Option (List ℕ) → Bool
+is_given None = false
+is_given (Some text) = bytes_eq text (codes "true")
+
 -- what the values of the options of `listen` ask for
-abbrev pub listen_with : Option (List ℕ) → Option (List ℕ) → Option (List ℕ) → Option (List ℕ) → Option Listen
-listen_with config port workers connections =
-    option_and_then (λ c. option_and_then (λ p. option_and_then (λ w. option_map (λ n. record { config = c; port = p; workers = w; connections = n })
+abbrev pub listen_with : Option (List ℕ) → Option (List ℕ) → Option (List ℕ) → Option (List ℕ) → Option (List ℕ) → Option Listen
+listen_with config port workers connections log =
+    option_and_then (λ c. option_and_then (λ p. option_and_then (λ w. option_map (λ n. record { config = c; port = p; workers = w; connections = n; log = is_given log })
     (count_or MAX_CONNECTIONS DEFAULT_CONNECTIONS connections)) (count_or MAX_WORKERS DEFAULT_WORKERS workers)) (option_and_then (count_in MAX_PORT) port)) config
 
 -- what the words behind `listen` ask for
@@ -114,7 +124,7 @@ abbrev pub listen_of : List (List ℕ) → Option Listen
 listen_of words =
     if accepts listen_app words
     then listen_with (value_of listen_app words (codes "config")) (value_of listen_app words (codes "port")) (value_of listen_app words (codes "workers"))
-    (value_of listen_app words (codes "connections"))
+    (value_of listen_app words (codes "connections")) (value_of listen_app words (codes "log"))
     else None
 
 -- what the words behind a command's name ask for

@@ -10,7 +10,7 @@ pub record ListenKept : Type 0 where
   pub listen : Listen
   pub journals : List ℕ
 
--- `listen --config NAME --port P [--workers W] [--connections N] --journals FOLDER`
+-- `listen --config NAME --port P [--workers W] [--connections N] [--log] --journals FOLDER`
 unfoldable pub listen_kept_app : App
 listen_kept_app = with_rule listen_app (option_named (codes "journals") true)
 
@@ -23,7 +23,7 @@ abbrev pub listen_kept_options : List (List ℕ) → Option ListenKept
 listen_kept_options words =
     if accepts listen_kept_app words
     then listen_kept_with (listen_with (value_of listen_kept_app words (codes "config")) (value_of listen_kept_app words (codes "port")) (value_of listen_kept_app words (codes "workers"))
-    (value_of listen_kept_app words (codes "connections"))) (value_of listen_kept_app words (codes "journals"))
+    (value_of listen_kept_app words (codes "connections")) (value_of listen_kept_app words (codes "log"))) (value_of listen_kept_app words (codes "journals"))
     else None
 
 abbrev pub listen_kept_named : List ℕ → List (List ℕ) → Option ListenKept

@@ -14,7 +14,7 @@ abbrev pub workload_shown : Work → commands.Command
 workload_shown w = commands.workload w.number w.size
 
 abbrev pub listen_shown : Listening → commands.Listen
-listen_shown l = record { config = l.config.now; port = l.port; workers = l.workers; connections = l.connections }
+listen_shown l = record { config = l.config.now; port = l.port; workers = l.workers; connections = l.connections; log = l.log }
 
 abbrev pub kept_shown : KeptCommand → words.KeptCommand
 kept_shown k = record { config = k.config.now; journal = k.journal.now; user = option_map (λ name. name.now) k.user }

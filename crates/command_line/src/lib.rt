@@ -3,6 +3,7 @@
 
 pub mod command;
 mod counts;
+mod flags;
 pub mod kept;
 pub mod listen;
 pub mod listen_kept;

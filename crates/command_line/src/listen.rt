@@ -4,6 +4,7 @@ ghost use Rattle.std.specs.Prelude.{◌≤◌};
 ghost use Rattle.command_line.specs.declared.listen.TheConstants.{MAX_CONNECTIONS, MAX_WORKERS};
 
 use crate::counts::{count_in, count_or};
+use crate::flags::is_given;
 use crate::options::{listen_command, matches_in};
 use std::alloc::{AllocError, Global};
 
@@ -29,6 +30,8 @@ pub struct Listen<'a> {
     pub workers: u32,
     /// How many connections each worker serves, from 1 to 1,000,000.
     pub connections: u64,
+    /// Whether a line tells of each request.
+    pub log: bool,
     ghost some_workers: { (1 ≤ workers) × (workers ≤ MAX_WORKERS) },
     ghost some_connections: { (1 ≤ connections) × (connections ≤ MAX_CONNECTIONS) },
 }
@@ -53,6 +56,7 @@ impl<'a> Listen<'a> {
             matches.get_str("port"),
             matches.get_str("workers"),
             matches.get_str("connections"),
+            matches.get_str("log"),
         ))
     }
 
@@ -62,8 +66,9 @@ impl<'a> Listen<'a> {
         port: Option<&str>,
         workers: Option<&str>,
         connections: Option<&str>,
+        log: Option<&str>,
     ) -> Option<Listen<'a>>
-        ensures { option_map listen_shown result ≡ listen_with (option_map (λ s. s.now) config.entry) (option_map (λ s. s.now) port.entry) (option_map (λ s. s.now) workers.entry) (option_map (λ s. s.now) connections.entry) }
+        ensures { option_map listen_shown result ≡ listen_with (option_map (λ s. s.now) config.entry) (option_map (λ s. s.now) port.entry) (option_map (λ s. s.now) workers.entry) (option_map (λ s. s.now) connections.entry) (option_map (λ s. s.now) log.entry) }
     {
         let config = config?;
         let port = count_in(port?, MAX_PORT)?;
@@ -74,6 +79,7 @@ impl<'a> Listen<'a> {
             port: port as u16,
             workers: workers as u32,
             connections,
+            log: is_given(log),
         })
     }
 }

@@ -60,6 +60,7 @@ impl<'a> ListenKept<'a> {
             matches.get_str("port"),
             matches.get_str("workers"),
             matches.get_str("connections"),
+            matches.get_str("log"),
         );
         Ok(ListenKept::with(listen, matches.get_str("journals")))
     }

@@ -4,7 +4,7 @@ ghost use Rattle.std.specs.Prelude.{◌≡◌, IfNone, IfOk, IfSome, false, map,
 ghost use Rattle.clap.specs.Words.{HasMatchesOf, app_of, is_simple_and_free, rule_of, with_rule};
 ghost use Rattle.command_line.specs.KeptWords.{kept_app};
 ghost use Rattle.command_line.specs.ListenKeptWords.{listen_kept_app};
-ghost use Rattle.command_line.specs.Commands.{without_flags, batch_app, listen_app, option_named, stdio_app, workload_app, accepts};
+ghost use Rattle.command_line.specs.Commands.{without_flags, batch_app, flag_named, listen_app, option_named, stdio_app, workload_app, accepts};
 
 use clap::error::ErrorKind;
 use clap::{Arg, ArgAction, ArgMatches, Command};
@@ -36,7 +36,7 @@ pub fn workload_command<'a>(alloc: Global) -> Result<Command<'a>, AllocError>
     with_option(alloc, command, "size", true)
 }
 
-/// `listen --config NAME --port P [--workers W] [--connections N]`. Takes memory for its options.
+/// `listen --config NAME --port P [--workers W] [--connections N] [--log]`. Takes memory for its options.
 #[tactic(auto, unfolding(crate::specs::Commands::listen_app))]
 pub fn listen_command<'a>(alloc: Global) -> Result<Command<'a>, AllocError>
     ensures { IfOk result (λ command. app_of command ≡ listen_app) }
@@ -44,10 +44,11 @@ pub fn listen_command<'a>(alloc: Global) -> Result<Command<'a>, AllocError>
     let command = with_option(alloc, bare_command(alloc, "listen"), "config", true)?;
     let command = with_option(alloc, command, "port", true)?;
     let command = with_option(alloc, command, "workers", false)?;
-    with_option(alloc, command, "connections", false)
+    let command = with_option(alloc, command, "connections", false)?;
+    with_flag(alloc, command, "log")
 }
 
-/// `listen --config NAME --port P [--workers W] [--connections N] --journals FOLDER`. Takes memory for its options.
+/// `listen --config NAME --port P [--workers W] [--connections N] [--log] --journals FOLDER`. Takes memory for its options.
 pub fn listen_kept_command<'a>(alloc: Global) -> Result<Command<'a>, AllocError>
     ensures { IfOk result (λ command. app_of command ≡ listen_kept_app) }
 {
@@ -104,6 +105,24 @@ fn with_option<'a>(
     ensures { IfOk result (λ c. app_of c ≡ with_rule (app_of command.entry) (option_named name.entry.now required)) }
 {
     Ok(command.arg(option_named(alloc, name, required))?)
+}
+
+// A command with one more flag.
+fn with_flag<'a>(
+    alloc: Global,
+    command: Command<'a>,
+    name: &'a str,
+) -> Result<Command<'a>, AllocError>
+    ensures { IfOk result (λ c. app_of c ≡ with_rule (app_of command.entry) (flag_named name.entry.now)) }
+{
+    Ok(command.arg(flag_named(alloc, name))?)
+}
+
+fn flag_named<'a>(alloc: Global, name: &'a str) -> Arg<'a>
+    ensures rule { rule_of result ≡ flag_named name.entry.now }
+    ensures local { result.global ≡ false }
+{
+    Arg::new(alloc, name).long(name).action(ArgAction::SetTrue)
 }
 
 fn option_named<'a>(alloc: Global, name: &'a str, required: bool) -> Arg<'a>

@@ -7,9 +7,11 @@ ghost use Rattle.http_edge.specs.Reading.{message_shown};
 
 use crate::reply::{RequestOutcome, reply_to};
 use crate::route::{Route, route_of, success, with_problem};
+use crate::tell::tell_answered;
 use http_edge::message::Message;
 use http_edge::response::response_bytes;
 use io_edge::clock::Clock;
+use request_log::request::RequestLog;
 use session_doc::Site;
 use spec_batch::desk::{Desk, DeskError, Front};
 use spec_time::moment::Moment;
@@ -18,8 +20,8 @@ use std::alloc::{AllocError, Global};
 /// The bytes of the response to a message, behind which the connection ends or doesn't.
 ///
 /// The clock is read where the message is a JMAP request of a user, and a front is added for each call that the desk answered.
-/// Takes memory for the response.
-pub(crate) fn answer<D: Desk, C: Clock>(
+/// Takes memory for the response. A log is told of the message and its answer.
+pub(crate) fn answer<D: Desk, C: Clock, G: RequestLog>(
     alloc: Global,
     site: &Site,
     message: &Message,
@@ -27,22 +29,30 @@ pub(crate) fn answer<D: Desk, C: Clock>(
     desk: &mut D,
     clock: &mut C,
     fronts: &mut Vec<Front>,
+    log: &G,
 ) -> Result<Vec<u8>, DeskError>
     requires { (D.shown desk.old).accounts ≡ length site.now.accounts }
     ensures { AnswersMessage site.now close (message_shown message.now) (C.moments clock.old) (C.moments clock.new) fronts.old.items fronts.new.items (D.shown desk.old) (D.shown desk.new) result }
 {
+    let begun = log.begin();
     match route_of(alloc, site, message, close) {
         Ok(Route::Direct(response)) => match response_bytes(alloc, &response) {
-            Ok(bytes) => Ok(bytes),
+            Ok(bytes) => {
+                let status = response.status;
+                tell_answered(log, begun, site, message, status, None, bytes.len());
+                Ok(bytes)
+            }
             Err(_) => Err(DeskError::NoMemory),
         },
-        Ok(Route::Api(user)) => answer_api(alloc, site, user, message, close, desk, clock, fronts),
+        Ok(Route::Api(user)) => answer_api(
+            alloc, site, user, message, close, desk, clock, fronts, log, begun,
+        ),
         Err(_) => Err(DeskError::NoMemory),
     }
 }
 
 // The bytes of the response to a JMAP request of this user.
-fn answer_api<D: Desk, C: Clock>(
+fn answer_api<D: Desk, C: Clock, G: RequestLog>(
     alloc: Global,
     site: &Site,
     user: u32,
@@ -51,6 +61,8 @@ fn answer_api<D: Desk, C: Clock>(
     desk: &mut D,
     clock: &mut C,
     fronts: &mut Vec<Front>,
+    log: &G,
+    begun: Option<u64>,
 ) -> Result<Vec<u8>, DeskError>
     requires accounts { (D.shown desk.old).accounts ≡ length site.now.accounts }
     requires there { user < length site.now.users }
@@ -64,7 +76,12 @@ fn answer_api<D: Desk, C: Clock>(
         Err(error) => return Err(error),
     };
     match reply_bytes(alloc, &reply, close) {
-        Ok(bytes) => Ok(bytes),
+        Ok(bytes) => {
+            let status = if reply.is_refusal { 400 } else { 200 };
+            let tree = Some(&reply.tree);
+            tell_answered(log, begun, site, message, status, tree, bytes.len());
+            Ok(bytes)
+        }
         Err(_) => Err(DeskError::NoMemory),
     }
 }

@@ -6,3 +6,4 @@ pub mod laws;
 pub mod reply;
 mod route;
 pub mod serve;
+mod tell;

@@ -47,8 +47,8 @@ pub(crate) fn route_of(
     }
 }
 
-// The user whose token was shown.
-fn user_of(site: &Site, token: &Option<Text>) -> Option<u32>
+/// The user whose token was shown.
+pub(crate) fn user_of(site: &Site, token: &Option<Text>) -> Option<u32>
     ensures number { result ≡ option_and_then (user_of_token site.now) token.now }
     ensures there { IfSome result (λ n. n < length site.now.users) }
 {

@@ -7,6 +7,7 @@ ghost use Rattle.http_edge.specs.Reading.{message_shown};
 ghost use Rattle.conn_serve.specs.Ending.{IsRefusalEnd};
 
 use crate::answer::answer;
+use crate::tell::tell_refused;
 use http_edge::bytes::Bytes;
 use http_edge::held::HeldBytes;
 use http_edge::message::Message;
@@ -15,6 +16,7 @@ use http_edge::response::{Response, response_bytes};
 use io_edge::clock::Clock;
 use io_edge::sink::{Sink, put_all};
 use io_edge::source::Source;
+use request_log::request::RequestLog;
 use session_doc::Site;
 use spec_batch::desk::{Desk, DeskError, Front};
 use spec_connection::served::{ConnEnd, MAX_MESSAGES, Served, end_for};
@@ -23,24 +25,26 @@ use std::alloc::{AllocError, Global};
 /// Answers the messages of a connection for the users of a site, in order (RFC 9112, RFC 8620 section 3).
 ///
 /// The bytes of each response are given to the sink as one piece. The clock is read once for each JMAP request of a user. Bytes behind the
-/// last message that is answered may have been taken; they are lost. Takes memory for one message and its response at a time, and for the fronts.
-pub fn serve_connection<S: Source, K: Sink, D: Desk, C: Clock>(
+/// last message that is answered may have been taken; they are lost. Takes memory for one message and its response at a time, and for the fronts. A log is told of
+/// each message that is answered, before its response is given.
+pub fn serve_connection<S: Source, K: Sink, D: Desk, C: Clock, G: RequestLog>(
     alloc: Global,
     site: &Site,
     source: &mut S,
     sink: &mut K,
     desk: &mut D,
     clock: &mut C,
+    log: &G,
 ) -> Served
     requires { (D.shown desk.old).accounts ≡ length site.now.accounts }
     ensures { Serves site.now MAX_MESSAGES
         (record { source = S.shown source.old; sink = K.shown sink.old; clock = C.moments clock.old; desk = D.shown desk.old })
         (record { source = S.shown source.new; sink = K.shown sink.new; clock = C.moments clock.new; desk = D.shown desk.new }) result }
 {
-    serve_at_most(alloc, MAX_MESSAGES, site, source, sink, desk, clock)
+    serve_at_most(alloc, MAX_MESSAGES, site, source, sink, desk, clock, log)
 }
 
-fn serve_at_most<S: Source, K: Sink, D: Desk, C: Clock>(
+fn serve_at_most<S: Source, K: Sink, D: Desk, C: Clock, G: RequestLog>(
     alloc: Global,
     most: u64,
     site: &Site,
@@ -48,6 +52,7 @@ fn serve_at_most<S: Source, K: Sink, D: Desk, C: Clock>(
     sink: &mut K,
     desk: &mut D,
     clock: &mut C,
+    log: &G,
 ) -> Served
     requires { (D.shown desk.old).accounts ≡ length site.now.accounts }
     ensures { Serves site.now most
@@ -60,7 +65,7 @@ fn serve_at_most<S: Source, K: Sink, D: Desk, C: Clock>(
         let message = match next_message(alloc, source, &mut kept) {
             Next::Message(message) => message,
             Next::BadHead(status) => {
-                let end = refuse(alloc, sink, status);
+                let end = refuse(alloc, sink, status, log);
                 return served(fronts, requests, end);
             }
             Next::End => return served(fronts, requests, ConnEnd::Closed),
@@ -69,7 +74,7 @@ fn serve_at_most<S: Source, K: Sink, D: Desk, C: Clock>(
             Next::NoMemory => return served(fronts, requests, ConnEnd::NoMemory),
         };
         let close = closes(&message, requests, most);
-        let bytes = match answer(alloc, site, &message, close, desk, clock, &mut fronts) {
+        let bytes = match answer(alloc, site, &message, close, desk, clock, &mut fronts, log) {
             Ok(bytes) => bytes,
             Err(error) => return served(fronts, requests, end_for(error)),
         };
@@ -105,13 +110,14 @@ fn served(fronts: Vec<Front>, requests: u64, end: ConnEnd) -> Served
 }
 
 // Gives the response to a head that is refused.
-fn refuse<K: Sink>(alloc: Global, sink: &mut K, status: u16) -> ConnEnd
+fn refuse<K: Sink, G: RequestLog>(alloc: Global, sink: &mut K, status: u16, log: &G) -> ConnEnd
     requires { IsStatus status }
     ensures { IsRefusalEnd (K.shown sink.old) (K.shown sink.new) status result }
 {
     let Ok(bytes) = refusal_bytes(alloc, status) else {
         return ConnEnd::NoMemory;
     };
+    tell_refused(log, status, bytes.len());
     match put_all(sink, &bytes) {
         Ok(()) => ConnEnd::BadHead(status),
         Err(_) => ConnEnd::WriteFault,

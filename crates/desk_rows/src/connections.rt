@@ -4,6 +4,7 @@ use conn_serve::serve::serve_connection;
 use io_edge::memory_clock::StillClock;
 use io_edge::memory_sink::SureSink;
 use io_edge::memory_source::SureSource;
+use request_log::request::NoLog;
 use session_doc::Site;
 use spec_json::text::Text;
 use std::alloc::{AllocError, Global};
@@ -26,7 +27,7 @@ pub fn told(alloc: Global, input: &Text, most: u32) -> Result<Option<String>, Al
     let mut source = SureSource::new(input.as_str().as_bytes().to_vec(alloc)?);
     let mut sink = SureSink::new(alloc);
     let mut clock = StillClock { moment: 0 };
-    let served = serve_connection(alloc, &site, &mut source, &mut sink, &mut desk, &mut clock);
+    let served = serve_connection(alloc, &site, &mut source, &mut sink, &mut desk, &mut clock, &NoLog);
     let Some(bytes) = sink.bytes() else {
         return Ok(None);
     };

@@ -12,7 +12,7 @@ mod words;
 use crate::ending::{finish, finish_kept};
 use crate::folder::JournalFolder;
 use crate::journal::run_journal;
-use crate::words::{asks_to_listen, program_words};
+use crate::words::{listen_without_journals, program_words};
 use command_line::kept::KeptCommand;
 use command_line::listen_kept::ListenKept;
 use io_edge::streams::{ReaderSource, WriterSink};
@@ -23,6 +23,7 @@ use jmapd_listen::program::run_program;
 use jmapd_run::status::Status;
 use listen_edge::real_threads::RealThreads;
 use listen_edge::tcp_host::TcpHost;
+use request_log::operator::Operator;
 use std::io;
 use std::process::ExitCode;
 
@@ -38,23 +39,29 @@ fn main(rt: HostRuntime) -> ExitCode {
     }
     match ListenKept::read(rt.alloc(), &words) {
         Ok(Some(asked)) => {
+            let operator = Operator::reading(rt.alloc(), rt, rt.stderr());
+            let lines = operator.lines(asked.listen.log);
             let status = listen_kept(
                 rt.alloc(),
                 &asked.listen,
                 &mut SystemFiles::new(rt.alloc(), rt),
                 &mut JournalFolder::new(rt, rt, asked.journals),
-                &mut TcpHost::new(rt.alloc(), rt),
+                &mut TcpHost::new(rt.alloc(), rt, lines),
                 &mut RealThreads::new(rt),
                 SystemClock::new(rt),
             );
+            operator.close();
             return finish_kept(&rt, status);
         }
         Ok(None) => {}
         Err(_) => return finish(&rt, Status::NoMemory),
     }
-    if asks_to_listen(rt.alloc(), &words) {
-        let _ = rt.eprintln("jmapd: nothing is kept: no --journals");
-    }
+    let (operator, log) = match listen_without_journals(rt.alloc(), &words) {
+        Some(asked) => (Operator::reading(rt.alloc(), rt, rt.stderr()), asked.log),
+        None => (Operator::nobody(rt.alloc(), rt), false),
+    };
+    let lines = operator.lines(log);
+    lines.say("jmapd: nothing is kept: no --journals");
     let status = run_program(
         rt.alloc(),
         rt,
@@ -63,8 +70,9 @@ fn main(rt: HostRuntime) -> ExitCode {
         &mut ReaderSource::new(rt.reader()),
         &mut WriterSink::new(io::writer(&rt)),
         &mut SystemClock::new(rt),
-        &mut TcpHost::new(rt.alloc(), rt),
+        &mut TcpHost::new(rt.alloc(), rt, lines),
         &mut RealThreads::new(rt),
     );
+    operator.close();
     finish(&rt, status)
 }

@@ -3,6 +3,7 @@ ghost use Rattle.std.specs.Prelude.{◌≡◌, ◌≢◌, IfOk, drop};
 ghost use Rattle.std.specs.Vec.Iter.{into_iter_items};
 
 use command_line::command::{Command, read_command};
+use command_line::listen::Listen;
 use jmapd_run::status::Status;
 use std::alloc::{AllocError, Global};
 use std::env;
@@ -19,11 +20,11 @@ pub fn program_words(rt: &HostRuntime) -> Result<Vec<String>, Status> {
     }
 }
 
-/// Whether the words are those of `listen` without journals. Where there is no memory to read them, it says that they aren't.
-pub fn asks_to_listen(alloc: Global, words: &[String]) -> bool {
+/// What `listen` without journals is to do, where the words are its. Where there is no memory to read them, it says that they aren't.
+pub fn listen_without_journals<'a>(alloc: Global, words: &'a [String]) -> Option<Listen<'a>> {
     match read_command(alloc, words) {
-        Ok(Some(Command::Listen(_))) => true,
-        _ => false,
+        Ok(Some(Command::Listen(asked))) => Some(asked),
+        _ => None,
     }
 }
 

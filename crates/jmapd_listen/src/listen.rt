@@ -81,7 +81,7 @@ fn site_desks<W: Wait + Copy + Drop>(
     open_desks(alloc, runtime, fresh_accounts(alloc, site)?, workers)
 }
 
-/// Serves the users of a site by workers, each with its desk. Takes memory for what they share, before the first is started.
+/// Serves the users of a site by workers, each with its desk, and has the host tell so. Takes memory for what they share, before the first is started.
 pub fn serve_site<
     H: Host,
     S: Spawner,
@@ -106,9 +106,11 @@ pub fn serve_site<
         Err(HostError::Failed) => return Status::OpenFault,
         Err(HostError::NoMemory) => return Status::NoMemory,
     };
+    let accounts = site.accounts();
     let Ok(jobs) = jobs_of(alloc, site, listeners, desks, clock, asked.connections) else {
         return Status::NoMemory;
     };
+    host.tell_serving(asked.port, asked.workers, accounts);
     let Ok(backs) = run_all(alloc, spawner, jobs) else {
         return Status::NoMemory;
     };

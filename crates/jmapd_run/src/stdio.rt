@@ -9,6 +9,7 @@ use conn_serve::serve::serve_connection;
 use io_edge::clock::Clock;
 use io_edge::sink::Sink;
 use io_edge::source::Source;
+use request_log::request::NoLog;
 use session_doc::Site;
 use spec_connection::served::ConnEnd;
 use std::alloc::Global;
@@ -28,7 +29,7 @@ pub(crate) fn run_stdio<S: Source, K: Sink, C: Clock>(
     let Ok(mut desk) = SoleDesk::open(alloc, site) else {
         return Status::NoMemory;
     };
-    let served = serve_connection(alloc, site, input, output, &mut desk, clock);
+    let served = serve_connection(alloc, site, input, output, &mut desk, clock, &NoLog);
     desk.all_entries_are_its_own();
     status_of(served.end)
 }

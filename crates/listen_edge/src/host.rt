@@ -40,4 +40,7 @@ pub trait Host {
         ensures no_memory { result ≡ Err HostError.NoMemory → Asks (shown self.old) (shown self.new) port worker ⊎ ((shown self.new).asked ≡ (shown self.old).asked) }
         ensures later { (shown self.old).faults ≤ (shown self.new).faults }
         ensures failed { result ≡ Err HostError.Failed → Rose (shown self.old).faults (shown self.new).faults };
+
+    /// Tells an operator that so many workers serve connections of a port from now on, for so many accounts. It doesn't wait until somebody has read of it.
+    fn tell_serving(&self, port: u16, workers: u32, accounts: u32);
 }

@@ -6,10 +6,11 @@ ghost use Rattle.listen_edge.specs.Listening.{HasOneOut, IsBalanced, ListenerSho
 use io_edge::fault::Failed;
 use io_edge::sink::Sink;
 use io_edge::source::Source;
+use request_log::request::RequestLog;
 use spec_connection::served::Served;
 
-/// Hands out connections, one after the other, and takes them back when they were served.
-pub trait Listener: Drop + 'static {
+/// Hands out connections, one after the other, and takes them back when they were served. It is told of their requests meanwhile.
+pub trait Listener: RequestLog + Drop + 'static {
     /// What is read of a connection.
     type In: Source + Drop;
 

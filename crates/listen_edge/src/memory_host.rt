@@ -9,6 +9,7 @@ use io_edge::failing_calls::FailingCalls;
 use io_edge::fault::Failed;
 use io_edge::memory_sink::MemSink;
 use io_edge::memory_source::MemSource;
+use request_log::request::{AnsweredRequest, RequestLog};
 use spec_connection::served::Served;
 use std::alloc::{AllocError, Global};
 use std::sync::{Arc, Mutex, Wait};
@@ -32,6 +33,15 @@ pub struct ShelfListener<W> {
     waiting: Vec<MemConnection>,
     shelf: Shelf,
     faults: u64,
+}
+
+// Nobody is told of requests.
+impl<W> RequestLog for ShelfListener<W> {
+    fn begin(&self) -> Option<u64> {
+        None
+    }
+
+    fn tell(&self, _request: &AnsweredRequest<'_>) {}
 }
 
 impl<W: Wait + Send + Drop + 'static> Listener for ShelfListener<W> {
@@ -138,4 +148,6 @@ impl<W: Wait + Copy + Send + Drop + 'static> Host for MemHost<W> {
             faults: 0,
         })
     }
+
+    fn tell_serving(&self, _port: u16, _workers: u32, _accounts: u32) {}
 }

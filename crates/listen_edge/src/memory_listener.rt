@@ -9,6 +9,7 @@ use io_edge::memory_sink::MemSink;
 use io_edge::memory_source::MemSource;
 use io_edge::sink::Sink;
 use io_edge::source::Source;
+use request_log::request::{AnsweredRequest, RequestLog};
 use spec_connection::served::Served;
 use std::alloc::{AllocError, Global};
 use std::snapshot::Snapshot;
@@ -78,6 +79,15 @@ impl MemListener {
     {
         &self.back
     }
+}
+
+// Nobody is told of requests.
+impl RequestLog for MemListener {
+    fn begin(&self) -> Option<u64> {
+        None
+    }
+
+    fn tell(&self, _request: &AnsweredRequest<'_>) {}
 }
 
 impl Listener for MemListener {

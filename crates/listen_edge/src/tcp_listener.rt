@@ -6,6 +6,8 @@ use crate::listener::{Listener, ThreadListener};
 use crate::lobby::{Lobby, Next};
 use crate::tcp_ends::{TcpSink, TcpSource};
 use io_edge::fault::Failed;
+use request_log::lines::Lines;
+use request_log::request::{AnsweredRequest, RequestLog};
 use spec_connection::served::{ConnEnd, Served};
 use std::alloc::{AllocError, Global};
 use std::io::{Read, Write};
@@ -14,12 +16,16 @@ use std::os::fd::AsRawFd;
 use std::sync::{Arc, Mutex, Wait};
 use std::time::Clock;
 
-/// Hands out the connections of a lobby, which listeners may share. It tells none of them.
+/// What is told of a connection that memory didn't suffice for.
+const OUT_OF_MEMORY: &str = "jmapd: connection out of memory";
+
+/// Hands out the connections of a lobby, which listeners may share. It tells none of them to contracts. By its lines it tells of requests, and of what goes wrong.
 #[derive(Drop)]
 pub struct TcpConnections<R, L: OpenListener> {
     alloc: Global,
     runtime: R,
     lobby: Arc<Lobby<L>>,
+    lines: Lines<R>,
     faults: u64,
 }
 
@@ -28,13 +34,19 @@ where
     L::Stream: Drop,
 {
     /// Makes a listener over a lobby. Takes no memory.
-    pub(crate) fn new(alloc: Global, runtime: R, lobby: Arc<Lobby<L>>) -> TcpConnections<R, L>
+    pub(crate) fn new(
+        alloc: Global,
+        runtime: R,
+        lobby: Arc<Lobby<L>>,
+        lines: Lines<R>,
+    ) -> TcpConnections<R, L>
         ensures { result.faults ≡ 0 }
     {
         TcpConnections {
             alloc,
             runtime,
             lobby,
+            lines,
             faults: 0,
         }
     }
@@ -61,6 +73,16 @@ where
     }
 }
 
+impl<R: Wait + Clock + Copy, L: OpenListener> RequestLog for TcpConnections<R, L> {
+    fn begin(&self) -> Option<u64> {
+        self.lines.begin()
+    }
+
+    fn tell(&self, request: &AnsweredRequest<'_>) {
+        self.lines.tell(request);
+    }
+}
+
 impl<
     R: Wait + Clock + Copy + Send + Drop + 'static,
     L: OpenListener + AsRawFd + Send + Drop + 'static,
@@ -80,20 +102,25 @@ where
         for _ in runtime.forever() {
             match self.lobby.next(&runtime) {
                 Next::Ready(connection) => {
-                    if let Ok(ends) = self.ends_of(connection) {
-                        return Ok(ends);
+                    match self.ends_of(connection) {
+                        Ok(ends) => return Ok(ends),
+                        Err(_) => self.lines.say(OUT_OF_MEMORY),
                     }
                 }
                 Next::NoneYet => {}
                 Next::Broken => break,
             }
         }
+        self.lines.say("jmapd: accept failed");
         self.faults = self.faults.saturating_add(1);
         Err(Failed)
     }
 
     fn ended(&mut self, input: TcpSource<R, L>, output: TcpSink<R, L>, served: Served) {
         let runtime = self.runtime;
+        if matches!(served.end, ConnEnd::NoMemory) {
+            self.lines.say(OUT_OF_MEMORY);
+        }
         drop(output);
         let TcpSource { connection, .. } = input;
         let Some(connection) = Arc::into_inner(connection) else {

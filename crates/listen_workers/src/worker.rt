@@ -11,7 +11,7 @@ use spec_batch::desk::Desk;
 use spec_connection::served::ConnEnd;
 use std::alloc::Global;
 
-/// Accepts so many connections of a listener, one after the other, serves each for the users of a site, and hands it back.
+/// Accepts so many connections of a listener, one after the other, serves each for the users of a site, and hands it back. The listener is told of their requests.
 ///
 /// It ends before all are served where the listener fails, and where the desk made as many calls as it may. A connection that ends out of memory, by a
 /// fault of its source or sink, or for what its peer sends, ends nothing but itself. It takes no memory of its own. It may wait, as the listener does and the desk.
@@ -34,7 +34,7 @@ pub fn worker<L: Listener, D: Desk, C: Clock>(
                 end: WorkerEnd::AcceptFault,
             };
         };
-        let how = serve_connection(alloc, site, &mut input, &mut output, desk, clock);
+        let how = serve_connection(alloc, site, &mut input, &mut output, desk, clock, &*listener);
         let is_last = is_spent(how.end);
         listener.ended(input, output, how);
         if is_last {

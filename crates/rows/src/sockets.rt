@@ -4,6 +4,7 @@ use io_edge::source::Source;
 use listen_edge::host::{Host, HostError};
 use listen_edge::listener::Listener;
 use listen_edge::tcp_host::TcpHost;
+use request_log::lines::Lines;
 use spec_connection::served::{ConnEnd, Served};
 use std::alloc::Global;
 use std::io::{self, Read, Write};
@@ -21,7 +22,7 @@ fn free_port(net: &impl Net) -> io::Result<u16> {
 #[test]
 fn listeners_of_a_host_share_its_port(rt: HostRuntime) -> Result<(), Fail> {
     let port = free_port(&rt)?;
-    let mut host = TcpHost::new(rt.alloc(), rt);
+    let mut host = TcpHost::new(rt.alloc(), rt, Lines::silent(rt.alloc(), rt));
     let (Ok(mut first), Ok(mut second)) = (host.listener(port, 0), host.listener(port, 1)) else {
         panic!(rt; "no listener");
     };
@@ -35,7 +36,7 @@ fn listeners_of_a_host_share_its_port(rt: HostRuntime) -> Result<(), Fail> {
 #[test]
 fn a_host_listens_on_localhost_alone(rt: HostRuntime) -> Result<(), Fail> {
     let port = free_port(&rt)?;
-    let mut host = TcpHost::new(rt.alloc(), rt);
+    let mut host = TcpHost::new(rt.alloc(), rt, Lines::silent(rt.alloc(), rt));
     assert!(rt; host.listener(port, 0).is_ok());
     let other = SocketAddr::from((Ipv4Addr::new(127, 0, 0, 2), port));
     assert!(rt; rt.connect(other).is_err());
@@ -45,7 +46,7 @@ fn a_host_listens_on_localhost_alone(rt: HostRuntime) -> Result<(), Fail> {
 #[test]
 fn a_port_that_is_taken_has_no_listener(rt: HostRuntime) -> Result<(), Fail> {
     let taken = rt.bind(SocketAddr::from((Ipv4Addr::LOCALHOST, 0)))?;
-    let mut host = TcpHost::new(rt.alloc(), rt);
+    let mut host = TcpHost::new(rt.alloc(), rt, Lines::silent(rt.alloc(), rt));
     match host.listener(taken.local_addr()?.port(), 0) {
         Ok(_) => panic!(rt; "two listeners"),
         Err(error) => assert_eq!(rt; error, HostError::Failed),
@@ -56,7 +57,7 @@ fn a_port_that_is_taken_has_no_listener(rt: HostRuntime) -> Result<(), Fail> {
 #[test]
 fn peers_that_send_no_whole_head_hold_nobody_up(rt: HostRuntime) -> Result<(), Fail> {
     let port = free_port(&rt)?;
-    let mut host = TcpHost::new(rt.alloc(), rt);
+    let mut host = TcpHost::new(rt.alloc(), rt, Lines::silent(rt.alloc(), rt));
     let Ok(mut listener) = host.listener(port, 0) else {
         panic!(rt; "no listener");
     };
@@ -82,7 +83,7 @@ fn peers_that_send_no_whole_head_hold_nobody_up(rt: HostRuntime) -> Result<(), F
 #[test]
 fn a_quiet_connection_makes_way_and_comes_again(rt: HostRuntime) -> Result<(), Fail> {
     let port = free_port(&rt)?;
-    let mut host = TcpHost::new(rt.alloc(), rt);
+    let mut host = TcpHost::new(rt.alloc(), rt, Lines::silent(rt.alloc(), rt));
     let Ok(mut listener) = host.listener(port, 0) else {
         panic!(rt; "no listener");
     };
@@ -119,7 +120,7 @@ const LONG: usize = 12_000_000;
 #[test]
 fn a_peer_that_takes_its_answer_slowly_holds_nobody_up(rt: HostRuntime) -> Result<(), Fail> {
     let port = free_port(&rt)?;
-    let mut host = TcpHost::new(rt.alloc(), rt);
+    let mut host = TcpHost::new(rt.alloc(), rt, Lines::silent(rt.alloc(), rt));
     let Ok(mut listener) = host.listener(port, 0) else {
         panic!(rt; "no listener");
     };
