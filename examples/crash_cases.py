@@ -88,10 +88,10 @@ def terminated(site):
 def tells_that_nothing_is_kept(site):
     with site.serving("--workers", "2") as server, server.calling() as caller:
         make(caller, "Work")
-        assert NOTHING_KEPT in server.told().splitlines(), f"it told {server.told()!r}"
+        assert NOTHING_KEPT in server.told_at_start(), f"it told {server.told()!r}"
     expect(os.listdir(site.journals), [])
     with site.serving() as server:
-        assert NOTHING_KEPT not in server.told(), f"it told {server.told()!r}"
+        assert NOTHING_KEPT not in server.told_at_start(), f"it told {server.told()!r}"
 
 
 def no_folder(site):
@@ -218,7 +218,7 @@ def left_alone(site):
     site.configure(configuration((TEAM,)))
     with site.serving() as server, server.calling() as caller:
         make(caller, "Home")
-        expect(server.told(), f"jmapd: journal of no account: {site.journal(ROOMS)}\n")
+        expect(server.told_at_start()[:-1], [f"jmapd: journal of no account: {site.journal(ROOMS)}"])
     assert contents(site, ROOMS) == before, f"the file of {ROOMS} is another"
     site.configure(configuration())
     expect((found(site), found(site, ROOMS)), (["Work", "Home"], ["Room"]))

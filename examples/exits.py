@@ -73,7 +73,7 @@ def listen_ends(program, folder):
         if not is_answered(port):
             return "no answer"
         output, error = server.communicate(timeout=SECONDS)
-        return server.returncode, output.decode(), error.decode()
+        return server.returncode, output.decode(), error.decode().replace(str(port), "PORT")
     finally:
         server.kill()
         server.wait()
@@ -89,7 +89,7 @@ def main():
             with open(os.path.join(folder, name), "w", encoding="utf-8") as file:
                 json.dump(configuration, file)
         trials = [(run["what"], came(program, folder, run), wanted(run)) for run in table["runs"]]
-        trials.append(("workers that have served", listen_ends(program, folder), (0, "", "jmapd: nothing is kept: no --journals\n")))
+        trials.append(("workers that have served", listen_ends(program, folder), (0, "", "jmapd: nothing is kept: no --journals\nlistening on 127.0.0.1:PORT, 1 worker, 1 account\n")))
     for what, it, want in trials:
         if it != want:
             bad += 1

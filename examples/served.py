@@ -116,6 +116,13 @@ class Served:
         self.errors.seek(0)
         return self.errors.read().decode()
 
+    def told_at_start(self):
+        """The lines that it wrote until it told where it listens, and that line."""
+        until = time.monotonic() + SECONDS
+        while "listening on " not in (told := self.told()) and time.monotonic() < until:
+            time.sleep(0.002)
+        return told.splitlines()
+
     def ended(self):
         """Its exit status and what it wrote on standard error."""
         return self.process.returncode, self.told()

@@ -61,9 +61,12 @@ impl<R: Wait + Clock + Copy> Lines<R> {
 
     /// Tells where connections are accepted from now on, by how many workers, and for how many accounts, where memory suffices for the line.
     pub fn say_serving(&self, port: u16, workers: u32, accounts: u32) {
-        if let Ok(line) = format!(in self.alloc;
-            "listening on 127.0.0.1:{port}, {workers} workers, {accounts} accounts"
-        ) {
+        let worker = noun(workers, "worker", "workers");
+        let account = noun(accounts, "account", "accounts");
+        let line = format!(in self.alloc;
+            "listening on 127.0.0.1:{port}, {workers} {worker}, {accounts} {account}"
+        );
+        if let Ok(line) = line {
             self.say(line.as_str());
         }
     }
@@ -108,4 +111,9 @@ impl<R: Wait + Clock + Copy> RequestLog for Lines<R> {
             self.say(line.as_str());
         }
     }
+}
+
+// The word for so many of a thing.
+fn noun(count: u32, one: &'static str, many: &'static str) -> &'static str {
+    if count == 1 { one } else { many }
 }
