@@ -22,7 +22,7 @@ use spec_time::moment::Moment;
 use std::alloc::{AllocError, Global};
 use std::marker::{Brand, Model};
 use std::snapshot::Snapshot;
-use std::sync::Wait;
+use std::sync::{Mutex, Wait};
 
 /// The most calls of one pass.
 const MAX_TURNS: u64 = 1 << 40;
@@ -41,6 +41,8 @@ pub enum CallError {
 #[derive(Drop)]
 pub struct Locked<B: Book> {
     table: Table<Option<B>, View, Snapshot<B>, LockRule<B>, Global>,
+    // Who calls has it: the others wait for it, and so nobody waits with a ticket.
+    door: Mutex<()>,
 }
 
 impl<B: Book> Model for Locked<B> {
@@ -73,7 +75,8 @@ impl<B: Book> Locked<B> {
         let (table, mut seat) = lay_table(alloc, book)?;
         split_others(&table.shared, &mut seat, &mut all, passes);
         all.insert(0, pass_of(seat, 0))?;
-        Ok((Locked { table }, all))
+        let door = Mutex::new(());
+        Ok((Locked { table, door }, all))
     }
 
     /// Calls the book at a moment, when the pass's turn has come, for which it waits.
@@ -107,6 +110,7 @@ impl<B: Book> Locked<B> {
             turn: pass.turns,
             moment,
         };
+        let _inside = self.door.lock(rt);
         match serve(rt, &self.table.shared, &mut pass.seat, &stamp, call) {
             Ok(reply) => Ok(reply),
             Err(AllocError) => Err(CallError::NoMemory),

@@ -11,6 +11,7 @@ use atomic_table::{Seat, Shared};
 use spec_books::book::Book;
 use std::snapshot::Snapshot;
 use std::sync::Wait;
+use std::thread;
 
 /// A pass's place at the table.
 pub type PassSeat<B> = Seat<Option<B>, View>;
@@ -27,13 +28,6 @@ const SERVING: usize = 1;
 /// The word that has the length of the history.
 const COUNT: usize = 2;
 
-/// The low bits of a word, on which a thread can sleep.
-const LOW_BITS: u64 = 0xffff_ffff;
-
-/// How often a pass looks which ticket is served before it sleeps: that takes about as long as to fall asleep and to
-/// be woken, and most turns end sooner.
-const LOOKS_AWAKE: u32 = 2000;
-
 /// Takes the next ticket, and gives its number.
 pub(crate) fn take_ticket<B: Book>(board: &Board<B>, seat: &mut PassSeat<B>) -> u64
     requires board { IsSeatOf board.now.table_id seat.old.table_id }
@@ -44,8 +38,8 @@ pub(crate) fn take_ticket<B: Book>(board: &Board<B>, seat: &mut PassSeat<B>) -> 
     board.fetch_add::<TakeTicket>(seat, TICKET, 1)
 }
 
-/// Waits until the ticket is served, and takes the slot with the book. The thread soon sleeps, until another ticket
-/// is served.
+/// Waits until the ticket is served, and takes the slot with the book. Who took the ticket behind the lock's door finds it
+/// served at the first look.
 pub(crate) fn await_turn<B: Book, R: Wait>(
     rt: &R,
     board: &Board<B>,
@@ -58,17 +52,12 @@ pub(crate) fn await_turn<B: Book, R: Wait>(
     ensures same { (seat.new.table_id ≡ seat.old.table_id) × (seat.new.id ≡ seat.old.id) }
     ensures turn { HasTurn B.entries B.base seat.old.me seat.new.me }
 {
-    let mut looks = 0;
     for _ in rt.forever() {
         let served = board.load::<Look>(seat, SERVING);
         if served == ticket {
             return;
         }
-        if looks < LOOKS_AWAKE {
-            looks += 1;
-        } else {
-            board.park(rt, SERVING, (served & LOW_BITS) as u32);
-        }
+        thread::yield_now();
     }
     unreachable!()
 }
@@ -125,7 +114,7 @@ pub(crate) fn return_book<B: Book>(board: &Board<B>, seat: &mut PassSeat<B>, boo
     drop(board.exchange(seat, 0, Some(book)));
 }
 
-/// Gives back the slot, with the book that has the whole history, and the turn, and wakes the passes that sleep.
+/// Gives back the slot, with the book that has the whole history, and the turn.
 pub(crate) fn give_turn<B: Book>(board: &Board<B>, seat: &mut PassSeat<B>)
     requires board { IsSeatOf board.now.table_id seat.old.table_id }
     requires may { (b : B) × HasBook seat.old.me.1 b × MayCome B.entries B.base (gives_turn b) seat.old.me.0 }
@@ -133,7 +122,6 @@ pub(crate) fn give_turn<B: Book>(board: &Board<B>, seat: &mut PassSeat<B>)
     ensures view { seat.new.me ≡ (out_of_line seat.old.me.0, []) }
 {
     board.fetch_add::<LeaveLine>(seat, SERVING, 1);
-    board.wake_all(SERVING);
 }
 
 /// Makes a new pass. Pass 0 alone does.
