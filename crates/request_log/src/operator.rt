@@ -70,7 +70,7 @@ impl<R: Wait + Clock + Threads + Copy + Send + Drop + 'static> Operator<R> {
 
 // A queue whose lines a thread of its own writes. The thread isn't joined: it may wait for ever for who reads.
 fn start_writing<
-    R: Wait + Threads + Copy + Send + Drop + 'static,
+    R: Wait + Clock + Threads + Copy + Send + Drop + 'static,
     W: Write + Send + Drop + 'static,
 >(alloc: Global, runtime: R, writer: W) -> Result<Arc<LineQueue>, AllocError> {
     let queue = Arc::new(alloc, LineQueue::new(alloc)?)?;

@@ -7,6 +7,9 @@ use std::mem;
 use std::sync::{Condvar, Mutex, Wait};
 use std::time::{Clock, Duration};
 
+/// How many milliseconds lines gather before they are written, so that who tells one seldom wakes who writes.
+const GATHER_MILLISECONDS: u64 = 5;
+
 /// Lines that many threads tell and one writes. Where more wait than there is room for, lines are dropped and counted: who tells one never waits for who writes.
 #[derive(Drop)]
 pub struct LineQueue {
@@ -29,14 +32,19 @@ impl LineQueue {
 
     /// Adds a line, or counts it where there is no room. It waits for others that add one, and for none that writes. Takes no memory.
     pub fn add<R: Wait>(&self, runtime: &R, line: &str) {
-        self.pending.lock(runtime).add(line);
-        self.came.notify_one();
+        let mut pending = self.pending.lock(runtime);
+        let is_first = pending.is_waiting();
+        pending.add(line);
+        drop(pending);
+        if is_first {
+            self.came.notify_one();
+        }
     }
 
     /// Writes all lines, until the queue is closed. What can't be written is passed over.
     ///
     /// It waits for lines. Takes memory for as many bytes as may wait: where there is none, no line is written.
-    pub fn write_to<R: Wait, W: Write>(&self, runtime: &R, writer: &mut W) {
+    pub fn write_to<R: Wait + Clock, W: Write>(&self, runtime: &R, writer: &mut W) {
         if let Ok(bytes) = Vec::with_capacity(self.alloc, MOST_PENDING) {
             self.write_by(runtime, writer, bytes);
         }
@@ -45,8 +53,9 @@ impl LineQueue {
     }
 
     // Writes all lines, which are moved into these bytes first.
-    fn write_by<R: Wait, W: Write>(&self, runtime: &R, writer: &mut W, mut bytes: Vec<u8>) {
+    fn write_by<R: Wait + Clock, W: Write>(&self, runtime: &R, writer: &mut W, mut bytes: Vec<u8>) {
         for _ in runtime.forever() {
+            self.await_lines(runtime);
             let (dropped, is_last) = self.take(runtime, &mut bytes);
             let _ = writer.write_all(&bytes);
             bytes.clear();
@@ -59,13 +68,23 @@ impl LineQueue {
         }
     }
 
-    // Takes the lines that wait, for which it waits, into bytes that are empty. Says how many were dropped, and whether no more come.
-    fn take<R: Wait>(&self, runtime: &R, bytes: &mut Vec<u8>) -> (u64, bool) {
-        let mut pending = self
+    // Waits until there are lines to write, and a while for more of them.
+    fn await_lines<R: Wait + Clock>(&self, runtime: &R) {
+        let pending = self
             .came
             .wait_while(runtime, self.pending.lock(runtime), |pending| {
                 pending.is_waiting()
             });
+        let is_last = pending.is_closed;
+        drop(pending);
+        if !is_last {
+            runtime.sleep(Duration::from_millis(GATHER_MILLISECONDS));
+        }
+    }
+
+    // Takes the lines that wait into bytes that are empty. Says how many were dropped, and whether no more come.
+    fn take<R: Wait>(&self, runtime: &R, bytes: &mut Vec<u8>) -> (u64, bool) {
+        let mut pending = self.pending.lock(runtime);
         let pending = &mut *pending;
         mem::swap(&mut pending.bytes, bytes);
         let dropped = pending.dropped;
