@@ -27,7 +27,15 @@ pub fn told(alloc: Global, input: &Text, most: u32) -> Result<Option<String>, Al
     let mut source = SureSource::new(input.as_str().as_bytes().to_vec(alloc)?);
     let mut sink = SureSink::new(alloc);
     let mut clock = StillClock { moment: 0 };
-    let served = serve_connection(alloc, &site, &mut source, &mut sink, &mut desk, &mut clock, &NoLog);
+    let served = serve_connection(
+        alloc,
+        &site,
+        &mut source,
+        &mut sink,
+        &mut desk,
+        &mut clock,
+        &NoLog,
+    );
     let Some(bytes) = sink.bytes() else {
         return Ok(None);
     };

@@ -34,7 +34,15 @@ pub fn worker<L: Listener, D: Desk, C: Clock>(
                 end: WorkerEnd::AcceptFault,
             };
         };
-        let how = serve_connection(alloc, site, &mut input, &mut output, desk, clock, &*listener);
+        let how = serve_connection(
+            alloc,
+            site,
+            &mut input,
+            &mut output,
+            desk,
+            clock,
+            &*listener,
+        );
         let is_last = is_spent(how.end);
         listener.ended(input, output, how);
         if is_last {
