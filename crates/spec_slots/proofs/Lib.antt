@@ -1,0 +1,5 @@
+-- The lemmas, by subject.
+pub mod Quarters
+pub mod Wishes
+pub mod Slots
+pub mod Least

@@ -1,0 +1,3 @@
+pub mod Quarters
+pub mod Wishes
+pub mod Slots

@@ -1,0 +1,7 @@
+//! Slots: the quarters of an hour at which a series could be booked in a resource, the first of them, and what stands against each earlier
+//! one.
+#![tactic(auto)]
+
+pub mod laws;
+pub mod slot;
+pub mod wish;
