@@ -90,8 +90,8 @@ fn clash_of(found: Option<SharedSecond>) -> Option<Clash>
     }
 }
 
-// The first second at which a series clashes with bookings but the excepted one, or with itself.
-fn check_with(
+/// The first second at which a series clashes with bookings but the excepted one, or with itself.
+pub fn check_with(
     bookings: &[PreparedBooking],
     except: Option<u64>,
     series: &Timetable<'_>,

@@ -5,11 +5,11 @@ ghost use Rattle.rule_expand.specs.Least.{IsLeastOf};
 ghost use Rattle.spec_bookings.specs.Bookings.{is_booked, without_booking, with_booking, but};
 ghost use Rattle.spec_bookings.specs.Clashes.{IsClash, IsClear, first_clash, second_of};
 
-use crate::check::check;
+use crate::check::{check, check_with};
 use crate::places::{count_but, place_for, place_of};
 use crate::prepared_booking::PreparedBooking;
 use crate::round::{Undo, book_at, retire_at, take_all_back};
-use residue_clash::Prepared;
+use residue_clash::{Prepared, Timetable};
 use spec_bookings::clash::Clash;
 use spec_series::series::Series;
 use std::alloc::{AllocError, Global};
@@ -72,6 +72,15 @@ impl Room {
         ensures least { IsLeastOf (IsClash (but except self.now.bookings) series.now) (option_map second_of result) }
     {
         check(&self.booked, except, series)
+    }
+
+    /// What `check` gives of a series with a timetable, which serves where more than this room is checked or maps are at hand. Takes no memory.
+    pub fn check_by(&self, except: Option<u64>, series: &Timetable<'_>) -> Option<Clash>
+        ensures exact { result ≡ first_clash (but except self.now.bookings) series.now }
+        ensures clear { IfNone result (IsClear (but except self.now.bookings) series.now) }
+        ensures least { IsLeastOf (IsClash (but except self.now.bookings) series.now) (option_map second_of result) }
+    {
+        check_with(&self.booked, except, series)
     }
 
     /// Makes a series ready, so that its booking takes no memory, and works out what checks want of it. After running out of memory none is

@@ -1,0 +1,4 @@
+-- The lemmas, by subject.
+pub mod Tries
+pub mod QuarterLemmas
+pub mod Looks
