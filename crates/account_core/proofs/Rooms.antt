@@ -1,6 +1,7 @@
 -- The rooms of a ledger after a step.
-use Rattle.std.proofs.Common.{◌≡◌, ℕ, List, [], ◌∷◌, ◌++◌, ap, append-nil, append_assoc, false, map, subst, sym, true, ◌∙◌}
-use Rattle.account_rooms.proofs.Following.{bookings_of_room, calendars_of_rooms, room_of_resource, rooms_more}
+use Rattle.std.proofs.Common.{◌≡◌, ℕ, List, [], ◌∷◌, ◌++◌, Bool, Bor, IfNone, IfSome, None, Option, Some, ap, append-nil, append_assoc, false, map, refl, subst, sym, true, ◌∙◌}
+use Rattle.std.proofs.lemmas.Option.{IfSome_then}
+use Rattle.account_rooms.proofs.Following.{bookings_of_room, calendars_of_rooms, resource_of_room, room_of_resource, rooms_more}
 use Rattle.account_rooms.specs.RoomChanges.{rooms_after}
 use Rattle.account_rooms.specs.Rooms.{AreRooms, BookedRoom, bookings_in, has_room}
 use Rattle.cal_model.specs.Fits.{IsFit}
@@ -12,6 +13,7 @@ use Rattle.spec_history.specs.declared.entry.Kind.TheVariants.{Calendar}
 use Rattle.spec_bookings.specs.BookedResources.{bookings_of}
 use Rattle.spec_bookings.specs.Resources.{is_resource, resources_at}
 use Rattle.spec_bookings.specs.SeriesPut.{series_put}
+use Rattle.resource_book.specs.RoomView.{RoomView}
 use Rattle.spec_site.specs.TimeZones.{ZoneText}
 
 -- where nothing is staged
@@ -42,3 +44,21 @@ room_is_found zones cs rs n h resource = ap (bookings_in n) h.rooms ∙ bookings
 
 pub resources_are_listed : (zones : List ZoneText) (cs : List Change) (rs : List BookedRoom) → AreRooms zones cs rs → map (λ (r : BookedRoom). r.calendar) rs ≡ resources_at cs
 resources_are_listed zones cs rs h = ap (map (λ (r : BookedRoom). r.calendar)) h.rooms ∙ calendars_of_rooms zones cs (resources_at cs)
+
+-- A room is there exactly where the calendar is a resource.
+
+resource_is_there : (zones : List ZoneText) (cs : List Change) (rs : List BookedRoom) (n : ℕ) → AreRooms zones cs rs → has_room n rs ≡ true → is_resource cs n ≡ true
+resource_is_there zones cs rs n h there = resource_of_room zones cs n (sym (ap (has_room n) h.rooms) ∙ there)
+
+not_there : (zones : List ZoneText) (cs : List Change) (rs : List BookedRoom) (n : ℕ) (is : Bool) → is_resource cs n ≡ is → AreRooms zones cs rs → has_room n rs ≡ false → is ≡ false
+not_there zones cs rs n false e h none = refl
+not_there zones cs rs n true e h none = let there : has_room n rs ≡ true = room_is_there zones cs rs n h e in absurd (cc (there, none))
+
+pub room_of_none : (zones : List ZoneText) (cs : List Change) (rs : List BookedRoom) (n : ℕ) (o : Option (Bor RoomView)) → AreRooms zones cs rs → IfNone o (has_room n rs ≡ false) → IfNone o (is_resource cs n ≡ false)
+room_of_none zones cs rs n None h none = not_there zones cs rs n (is_resource cs n) refl h none
+room_of_none zones cs rs n (Some room) h none = tt
+
+pub room_of_some : (zones : List ZoneText) (cs : List Change) (rs : List BookedRoom) (n : ℕ) (o : Option (Bor RoomView)) → AreRooms zones cs rs
+    → IfSome o (λ room. (has_room n rs ≡ true) × (room.now.bookings ≡ bookings_in n rs)) → IfSome o (λ room. (is_resource cs n ≡ true) × (room.now.bookings ≡ bookings_of zones cs n))
+room_of_some zones cs rs n o h some =
+    IfSome_then o some (λ room p. let is = resource_is_there zones cs rs n h p.0 in (is, p.1 ∙ room_is_found zones cs rs n h is))

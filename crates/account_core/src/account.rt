@@ -11,6 +11,7 @@ use crate::ledger::Ledger;
 use crate::opening::{EntriesError, open_at};
 use crate::queries::{availability, query, query_changes};
 use crate::set::set;
+use resource_book::Room;
 use spec_bookings::clash::Clash;
 use spec_books::book::Book;
 use spec_calls::call::{Asks, Call, Reply};
@@ -49,13 +50,13 @@ impl Model for Account {
 
 impl Account {
     ghost use Rattle.std.specs.Arc.{arc_value};
-    ghost use Rattle.std.specs.Prelude.{◌≤◌, IfErr, IfNone, drop, length, option_map, true};
+    ghost use Rattle.std.specs.Prelude.{◌≤◌, IfErr, IfNone, IfSome, drop, false, length, option_map, true};
     ghost use Rattle.account_core.specs.Opening.{IsRefusal};
     ghost use Rattle.account_rooms.specs.Covered.{AreCoveredOnce};
     ghost use Rattle.account_rooms.specs.Rooms.{AreFree};
     ghost use Rattle.cal_model.specs.Sound.{unsound_place};
     ghost use Rattle.spec_history.specs.History.{changes_of};
-    ghost use Rattle.spec_bookings.specs.BookedResources.{other_bookings};
+    ghost use Rattle.spec_bookings.specs.BookedResources.{bookings_of, other_bookings};
     ghost use Rattle.spec_bookings.specs.Resources.{is_resource};
     ghost use Rattle.spec_bookings.specs.Clashes.{IsClash, IsClear, first_clash, second_of};
     ghost use Rattle.spec_series.specs.Lengths.{IsWeekLong};
@@ -149,6 +150,14 @@ impl Account {
         ensures least { IsLeastOf (IsClash (other_bookings self.now.0.zones (changes_of self.now.1) event calendar) series.now) (option_map second_of result) }
     {
         self.ledger.first_clash(calendar, event, series)
+    }
+
+    /// The room of a live resource calendar with its bookings, or `None` where the number is of none. Takes no memory.
+    pub fn room_of(&self, calendar: u64) -> Option<&Room>
+        ensures none { IfNone result (is_resource (changes_of self.now.1) calendar ≡ false) }
+        ensures some { IfSome result (λ room. (is_resource (changes_of self.now.1) calendar ≡ true) × (room.now.bookings ≡ bookings_of self.now.0.zones (changes_of self.now.1) calendar)) }
+    {
+        self.ledger.room_of(calendar)
     }
 }
 

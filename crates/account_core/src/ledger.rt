@@ -1,6 +1,6 @@
 //! The history of an account with the changes that a call is about to make.
 ghost use Rattle.std.specs.Coded.{codes};
-ghost use Rattle.std.specs.Prelude.{◌≡◌, ◌<◌, ◌≤◌, ◌+◌, ◌^◌, ◌++◌, ◌∷◌, [], None, IfNone, OnErr, OnOk, length, map, option_map, Some, true, vec_capacity, vec_len, ℕ};
+ghost use Rattle.std.specs.Prelude.{◌≡◌, ◌<◌, ◌≤◌, ◌+◌, ◌^◌, ◌++◌, ◌∷◌, [], None, IfNone, IfSome, OnErr, OnOk, false, length, map, option_map, Some, true, vec_capacity, vec_len, ℕ};
 ghost use Rattle.std.specs.Arc.{arc_value};
 ghost use Rattle.std.specs.BTreeSet.{BTreeSet as NumberSet};
 ghost use Rattle.account_core.specs.Tally.{Tallies};
@@ -14,7 +14,7 @@ ghost use Rattle.cal_model.specs.Sound.{unsound_place};
 ghost use Rattle.event_store.specs.EventsBase.{base_of};
 ghost use Rattle.spec_bookings.specs.SeriesPut.{series_put};
 ghost use Rattle.spec_history.specs.History.{changes_of, count_of_kind};
-ghost use Rattle.spec_bookings.specs.BookedResources.{other_bookings};
+ghost use Rattle.spec_bookings.specs.BookedResources.{bookings_of, other_bookings};
 ghost use Rattle.spec_bookings.specs.Resources.{is_resource};
 ghost use Rattle.spec_bookings.specs.Clashes.{IsClash, IsClear, first_clash, second_of};
 ghost use Rattle.spec_series.specs.Lengths.{IsWeekLong};
@@ -26,6 +26,7 @@ use account_rooms::Rooms;
 use account_store::Store;
 use cal_model::view::AccountView;
 use event_store::{SeriesLog, StoredEvents};
+use resource_book::Room;
 use spec_bookings::clash::Clash;
 use spec_history::entry::{Change, Entry, Kind};
 use spec_history::stamp::Stamp;
@@ -176,6 +177,14 @@ impl Ledger {
         ensures least { IsLeastOf (IsClash (other_bookings (base self.now).zones (changes self.now) event calendar) series.now) (option_map second_of result) }
     {
         self.rooms.clash(calendar, event, series)
+    }
+
+    /// The room of a live resource calendar, or `None` where the number is of none. Takes no memory.
+    pub fn room_of(&self, calendar: u64) -> Option<&Room>
+        ensures none { IfNone result (is_resource (changes self.now) calendar ≡ false) }
+        ensures some { IfSome result (λ room. (is_resource (changes self.now) calendar ≡ true) × (room.now.bookings ≡ bookings_of (base self.now).zones (changes self.now) calendar)) }
+    {
+        self.rooms.room_of(calendar)
     }
 
     // How many changes are of a kind, in the history and staged.

@@ -1,5 +1,5 @@
 //! The rooms of an account.
-ghost use Rattle.std.specs.Prelude.{◌≡◌, ◌≤◌, [], Some, IfNone, IfOk, OnOk, length, map, option_map, take, true};
+ghost use Rattle.std.specs.Prelude.{◌≡◌, ◌≤◌, [], Some, IfNone, IfOk, IfSome, OnOk, false, length, map, option_map, take, true};
 ghost use Rattle.account_rooms.specs.RoomChanges.{MayChange, booked_again, rooms_after, with_room, without_room};
 ghost use Rattle.account_rooms.specs.Rooms.{bookings_in, has_room};
 ghost use Rattle.account_rooms.specs.Slots.{rooms_kept, rooms_now};
@@ -88,6 +88,17 @@ impl Rooms {
         match slot_of(&self.slots, calendar) {
             Some(slot) => slot.room.check(Some(event), series),
             None => unreachable!(),
+        }
+    }
+
+    /// The room of a resource calendar, or `None` where the number is of none. Takes no memory.
+    pub fn room_of(&self, calendar: u64) -> Option<&Room>
+        ensures none { IfNone result (has_room calendar self.now.rooms ≡ false) }
+        ensures some { IfSome result (λ room. (has_room calendar self.now.rooms ≡ true) × (room.now.bookings ≡ bookings_in calendar self.now.rooms)) }
+    {
+        match slot_of(&self.slots, calendar) {
+            Some(slot) => Some(&slot.room),
+            None => None,
         }
     }
 
