@@ -46,7 +46,7 @@ impl<'a> KeptCommand<'a> {
     }
 
     // What the words behind `kept` ask for.
-    fn read_options(
+    pub(crate) fn read_options(
         alloc: Global,
         words: &'a [String],
     ) -> Result<Option<KeptCommand<'a>>, AllocError>

@@ -8,4 +8,5 @@ pub mod kept;
 pub mod listen;
 pub mod listen_kept;
 mod options;
+pub mod slot;
 pub mod workload;
