@@ -2,6 +2,7 @@
 #![tactic(auto)]
 
 pub mod counter;
+mod door;
 pub mod lock;
 pub mod locked;
 pub mod pass;

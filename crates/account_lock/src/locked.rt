@@ -8,6 +8,7 @@ ghost use Rattle.account_lock.specs.Passes.{PassState, IsAnswered, HasFailed, pa
 ghost use Rattle.account_lock.specs.StepNews.{IsSeatOf};
 ghost use Rattle.account_lock.specs.declared.locked.CallError.TheVariants.{PassSpent, NoMemory};
 
+use crate::door::go_through;
 use crate::pass::Pass;
 use crate::rule::LockRule;
 use crate::steps::{
@@ -43,6 +44,8 @@ pub struct Locked<B: Book> {
     table: Table<Option<B>, View, Snapshot<B>, LockRule<B>, Global>,
     // Who calls has it: the others wait for it, and so nobody waits with a ticket.
     door: Mutex<()>,
+    // Who goes in next has it.
+    first: Mutex<()>,
 }
 
 impl<B: Book> Model for Locked<B> {
@@ -76,7 +79,8 @@ impl<B: Book> Locked<B> {
         split_others(&table.shared, &mut seat, &mut all, passes);
         all.insert(0, pass_of(seat, 0))?;
         let door = Mutex::new(());
-        Ok((Locked { table, door }, all))
+        let first = Mutex::new(());
+        Ok((Locked { table, door, first }, all))
     }
 
     /// Calls the book at a moment, when the pass's turn has come, for which it waits.
@@ -110,7 +114,7 @@ impl<B: Book> Locked<B> {
             turn: pass.turns,
             moment,
         };
-        let _inside = self.door.lock(rt);
+        let _inside = go_through(rt, &self.door, &self.first);
         match serve(rt, &self.table.shared, &mut pass.seat, &stamp, call) {
             Ok(reply) => Ok(reply),
             Err(AllocError) => Err(CallError::NoMemory),
