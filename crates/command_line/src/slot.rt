@@ -1,7 +1,7 @@
 //! What `slot` is to do.
 ghost use Rattle.std.specs.Prelude.{◌≡◌, IfOk, map, option_map, string_bytes};
 ghost use Rattle.command_line.specs.Shown.{kept_shown};
-ghost use Rattle.command_line.specs.SlotWords.{slot_named, slot_of};
+ghost use Rattle.command_line.specs.SlotWords.{slot_words_by, slot_words};
 
 use crate::kept::KeptCommand;
 use std::alloc::{AllocError, Global};
@@ -14,7 +14,7 @@ pub fn read_slot<'a>(
     alloc: Global,
     words: &'a [String],
 ) -> Result<Option<KeptCommand<'a>>, AllocError>
-    ensures { IfOk result (λ slot. option_map kept_shown slot ≡ slot_of (map string_bytes words.entry.now)) }
+    ensures { IfOk result (λ slot. option_map kept_shown slot ≡ slot_words (map string_bytes words.entry.now)) }
 {
     match words {
         [] => Ok(None),
@@ -28,7 +28,7 @@ fn read_named<'a>(
     name: &str,
     words: &'a [String],
 ) -> Result<Option<KeptCommand<'a>>, AllocError>
-    ensures { IfOk result (λ slot. option_map kept_shown slot ≡ slot_named name.now (map string_bytes words.entry.now)) }
+    ensures { IfOk result (λ slot. option_map kept_shown slot ≡ slot_words_by name.now (map string_bytes words.entry.now)) }
 {
     match name {
         "slot" => KeptCommand::read_options(alloc, words),

@@ -44,13 +44,13 @@ abbrev nameless_account : SiteAccount
 nameless_account = record { id = []; name = [] }
 
 module _ (site : Site) where
-  never_damaged : (told : Option Kept) → TellsGoodLists site told → (id : List ℕ) → HasId site id → (place : ℕ) (text : List ℕ) → HasDamage told id place text → ⊥
+  pub never_damaged : (told : Option Kept) → TellsGoodLists site told → (id : List ℕ) → HasId site id → (place : ℕ) (text : List ℕ) → HasDamage told id place text → ⊥
   never_damaged None good id has place text first = good
   never_damaged (Some k) good id has place text first =
       let g = good has.0 has.1 nameless_account in
       no_damage g.0 (texts_of id k.texts) place text (subst (λ (i : List ℕ). AreEntriesOf g.0 (texts_of i k.texts)) (sym (has.2 nameless_account)) g.1) first
 
-  never_bad : (told : Option Kept) → TellsGoodLists site told → (id : List ℕ) (place : ℕ) → IsBadJournal site told id place → ⊥
+  pub never_bad : (told : Option Kept) → TellsGoodLists site told → (id : List ℕ) (place : ℕ) → IsBadJournal site told id place → ⊥
   never_bad None good id place bad = good
   never_bad (Some k) good id place bad =
       let has = bad.0 in
@@ -87,17 +87,17 @@ prefix_is whole all some what is first e =
     sym (configured_taken all) ∙ (ap configured taken ∙ e)
 
 module _ (o o' : OpenerShown) (name : List ℕ) (site : Site) (accepted : IsAccepted (Some name) o site) where
-  loaded_is : (what : Result Site Fault) → IsLoaded o o' name what → what ≡ Ok site
+  pub loaded_is : (what : Result Site Fault) → IsLoaded o o' name what → what ≡ Ok site
   loaded_is what l =
       let has = accepted.1 in
       let told : option_map (take (MAX_CONFIGURATION_BYTES + 1)) (file_named has.0 name) ≡ Some l.0 =
       subst (λ (f : Option (List (List ℕ × List ℕ))). IfSome f (λ files. option_map (take (MAX_CONFIGURATION_BYTES + 1)) (file_named files name) ≡ Some l.0)) has.1 l.1 in
       sym (prefix_is (file_named has.0 name) accepted.0 l.0 what has.2 told l.2) ∙ accepted.2
 
-  loaded_site : (other : Site) → IsLoaded o o' name (Ok other) → other ≡ site
+  pub loaded_site : (other : Site) → IsLoaded o o' name (Ok other) → other ≡ site
   loaded_site other l = let e = loaded_is (Ok other) l in cc
 
-  is_opened : (Rose o.faults o'.faults → ⊥) → IsNotOpened o o' name → ⊥
+  pub is_opened : (Rose o.faults o'.faults → ⊥) → IsNotOpened o o' name → ⊥
   is_opened calm (inr rose) = calm rose
   is_opened calm (inl missing) =
       let has = accepted.1 in
@@ -105,7 +105,7 @@ module _ (o o' : OpenerShown) (name : List ℕ) (site : Site) (accepted : IsAcce
       let wrong : Some accepted.0 ≡ None = sym has.2 ∙ none in
       cc
 
-named_user : (site : Site) (who : Option (List ℕ)) (user : ℕ) (name : List ℕ) → IsUser site who user → who ≡ Some name → user_named site name ≡ None → ⊥
+pub named_user : (site : Site) (who : Option (List ℕ)) (user : ℕ) (name : List ℕ) → IsUser site who user → who ≡ Some name → user_named site name ≡ None → ⊥
 named_user site None user name is named none = cc
 named_user site (Some other) user name is named none =
     let wrong : Some user ≡ None = sym is ∙ (ap (user_named site) (same_Some other name named) ∙ none) in

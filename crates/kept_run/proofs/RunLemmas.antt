@@ -39,7 +39,7 @@ module _ (asked : KeptCommand) (o o' : OpenerShown) (x : KeptSetting) where
     subst (NotBegun asked o o' x (with_keeper x j)) (sym is.status) how,
   )
 
-  without_site : (e : Status) → LoadHow o o' asked.config (Err e) → NotBegun asked o o' x x (Plain e)
+  pub without_site : (e : Status) → LoadHow o o' asked.config (Err e) → NotBegun asked o o' x x (Plain e)
   without_site OpenFault how = how
   without_site (Config field index) how = how
   without_site NoMemory how = tt
@@ -60,7 +60,7 @@ module _ (asked : KeptCommand) (o o' : OpenerShown) (x : KeptSetting) where
     no_user done none is = not_begun_so x.keeper done (Plain Usage) (loads_none x.keeper) is (none.0, site, none.1, loaded, none.2)
 
     module _ (j : KeeperShown) (load : IsLoad x.keeper j) where
-      without_accounts : (e : KeptStatus) → NotOpened site x.keeper j e → NotBegun asked o o' x (with_keeper x j) e
+      pub without_accounts : (e : KeptStatus) → NotOpened site x.keeper j e → NotBegun asked o o' x (with_keeper x j) e
       without_accounts KeepFault how = how
       without_accounts (Damaged account place text) how = (site, loaded, how.0, how.1, how.2, how.3)
       without_accounts (BadJournal account place) how = (site, loaded, how)

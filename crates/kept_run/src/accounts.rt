@@ -19,7 +19,7 @@ use std::sync::Arc;
 /// The accounts of a site, in its order, each with the entries that the keeper has of it, or why one doesn't open.
 ///
 /// One account is loaded and opened after the other. Takes memory for their entries.
-pub(crate) fn open_accounts<J: Keeper>(
+pub fn open_accounts<J: Keeper>(
     alloc: Global,
     site: &Site,
     keeper: &mut J,

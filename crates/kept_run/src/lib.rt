@@ -1,7 +1,7 @@
 //! The command `kept`: the lines of an input are requests on accounts whose changes are kept before they are answered.
 #![tactic(auto)]
 
-mod accounts;
+pub mod accounts;
 pub mod laws;
 mod line;
 mod lines;

@@ -58,8 +58,8 @@ pub fn run_kept<O: Opener, S: Source, K: Sink, C: Clock, J: Keeper>(
     }
 }
 
-// The user of a name, or the first.
-fn user_of(site: &Site, name: Option<&str>) -> Option<u32>
+/// The user of a name, or the first. Takes no memory.
+pub fn user_of(site: &Site, name: Option<&str>) -> Option<u32>
     requires { 0 < length site.now.users }
     ensures user { IfSome result (IsUser site.now (option_map (λ s. s.now) name.entry)) }
     ensures none { IfNone result ((s : List ℕ) × (option_map (λ t. t.now) name.entry ≡ Some s) × (user_named site.now s ≡ None)) }

@@ -1,5 +1,5 @@
-//! Tries what finds clashes on the rows of tables: pairs of series, and rooms with a proposed series. An argument is the number of times that each decision
-//! is made, for `bench/clashes.py` and `bench/rooms.py` to time.
+//! Tries what finds clashes and slots on the rows of tables: pairs of series, rooms with a proposed series, and rooms with a wish. An argument is the number of times that each decision
+//! is made, for `bench/clashes.py`, `bench/rooms.py` and `bench/slots.py` to time.
 #![tactic(auto)]
 
 ghost use Rattle.std.specs.Prelude.{◌≡◌, ◌||◌, IfOk, IsNone, bytes_eq, codes, false};
@@ -8,6 +8,7 @@ mod clashes;
 mod limits;
 mod rooms;
 mod series;
+mod slots;
 
 use row_table::line::tree_in;
 use row_table::row::Row;
@@ -26,7 +27,7 @@ struct RoomRows {
 impl Trial for RoomRows {
     ghost use Rattle.std.specs.Prelude.{◌||◌, bytes_eq, codes};
 
-    ghost knows = { λ name. bytes_eq name (codes "clashes") || bytes_eq name (codes "rooms") };
+    ghost knows = { λ name. bytes_eq name (codes "clashes") || bytes_eq name (codes "rooms") || bytes_eq name (codes "slots") };
 
     fn other_than(
         &mut self,
@@ -41,7 +42,7 @@ impl Trial for RoomRows {
 
 /// What comes of a question, none where it can't be read.
 fn came(alloc: Global, table: &str, asked: &str, times: u32) -> Result<Option<String>, AllocError>
-    ensures { (bytes_eq table.now (codes "clashes") || bytes_eq table.now (codes "rooms")) ≡ false → IfOk result (λ came. IsNone came) }
+    ensures { (bytes_eq table.now (codes "clashes") || bytes_eq table.now (codes "rooms") || bytes_eq table.now (codes "slots")) ≡ false → IfOk result (λ came. IsNone came) }
 {
     let Some(asked) = tree_in(alloc, asked)? else {
         return Ok(None);
@@ -49,6 +50,7 @@ fn came(alloc: Global, table: &str, asked: &str, times: u32) -> Result<Option<St
     match table {
         "clashes" => Ok(Some(clashes::told(alloc, &asked, times)?)),
         "rooms" => Ok(Some(rooms::told(alloc, &asked, times)?)),
+        "slots" => Ok(Some(slots::told(alloc, &asked, times)?)),
         _ => Ok(None),
     }
 }

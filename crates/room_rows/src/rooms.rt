@@ -7,7 +7,7 @@ use std::alloc::{AllocError, Global};
 use std::fmt::Write;
 
 /// A room with the series at `bookings`, which are numbered from 1, or none where one may not be booked.
-fn room_in(alloc: Global, asked: &Tree) -> Result<Option<Room>, AllocError> {
+pub fn room_in(alloc: Global, asked: &Tree) -> Result<Option<Room>, AllocError> {
     let mut room = Room::new(alloc);
     if let Some(Tree::List(list)) = asked.get("bookings") {
         let mut number = 0u64;

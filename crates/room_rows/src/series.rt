@@ -42,7 +42,8 @@ pub fn series_in(alloc: Global, tree: &Tree) -> Result<Option<Series>, AllocErro
     }
 }
 
-fn length_in(tree: &Tree) -> Length {
+/// The length at `days` and `seconds`.
+pub fn length_in(tree: &Tree) -> Length {
     Length {
         days: count_at(tree, "days"),
         seconds: count_at(tree, "seconds"),

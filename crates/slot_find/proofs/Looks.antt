@@ -2,8 +2,8 @@
 use Rattle.std.proofs.Common.{◌≡◌, ◌≤◌, ℕ, Bor, slice_get, ◌≤ℤ◌, ◌<ℤ◌, ◌+ℤ◌, ℤ, pos, true, List, [], ◌∷◌, ◌++◌, Option, Some, None, ap, arith, append-nil, append_assoc, map, option_and_then, refl, is_some, false, Result, Ok, Err, IfErr, subst, sym, ◌∙◌}
 use Rattle.std.specs.Int.{int_min}
 use Rattle.std.proofs.lemmas.Int.{ints}
-use Rattle.slot_find.proofs.QuarterLemmas.{Among, among, min_before, min_behind, none_before, one_more}
-use Rattle.slot_find.proofs.Tries.{found_of, more_tried, none_tried, slot_found, slot_missed}
+use Rattle.slot_find.proofs.QuarterLemmas.{among, min_before, min_behind, none_before, one_more}
+use Rattle.slot_find.proofs.Tries.{slot_with, more_tried, none_tried, slot_found, slot_missed}
 use Rattle.slot_find.specs.Steps.{AreTried, IsFirstQuarter, IsMoved, IsWished, LooksAt}
 use Rattle.spec_bookings.specs.Clashes.{first_clash}
 use Rattle.spec_bookings.specs.declared.booking.Booking.{Booking}
@@ -22,7 +22,7 @@ use Rattle.spec_slots.proofs.Quarters.{quarters_join, quarters_nothing}
 use Rattle.spec_slots.proofs.Wishes.{rules_alike, series_wished}
 use Rattle.spec_slots.specs.Quarters.{is_quarter, quarters}
 use Rattle.spec_slots.specs.Slots.{IsSlot, slot_among}
-use Rattle.spec_slots.specs.declared.slot.Found.{Found}
+use Rattle.spec_slots.specs.declared.slot.FoundSlot.{FoundSlot}
 use Rattle.spec_slots.specs.Wishes.{wish_clash, wished_series}
 use Rattle.spec_slots.specs.declared.slot.Tried.{Tried}
 use Rattle.spec_time.specs.Walls.{day_of_wall}
@@ -76,7 +76,7 @@ looks_on clash from end at before ts us c low high is e more looked = λ xs trie
     let now = subst (λ z. AreTried clash (xs ++ quarters from z) ts) (min_before at end high) (looked xs tried) in
     let next = more_tried clash (xs ++ quarters from at) ts at c now e in
     let same : (xs ++ quarters from at) ++ at ∷ [] ≡ xs ++ quarters from (int_min (at +ℤ pos 900) end) =
-        append_assoc xs (quarters from at) (at ∷ []) ∙ ap (λ ys. xs ++ ys) (sym (one_more from at end low high is)) in
+    append_assoc xs (quarters from at) (at ∷ []) ∙ ap (λ ys. xs ++ ys) (sym (one_more from at end low high is)) in
     subst (λ vs. AreTried clash (xs ++ quarters from (int_min (at +ℤ pos 900) end)) vs) (sym more) (subst (λ ys. AreTried clash ys (ts ++ record { start = at; clash = c } ∷ [])) same next)
 
 pub looks_end : (clash : ℤ → Option Clash) (from end at : ℤ) (before ts : List Tried) → end ≤ℤ at
@@ -111,23 +111,23 @@ pub days_free : (clash : ℤ → Option Clash) (from at end to start : ℤ) (ts 
 days_free clash from at end to start ts us low high last tried looks =
     let f = looks (quarters from at) tried in
     let all : quarters from to ≡ (quarters from at ++ f.before) ++ start ∷ (f.behind ++ quarters end to) =
-        quarters_join from at to low (omega (arith, ints))
-        ∙ (ap (λ ys. quarters from at ++ ys) (quarters_join at end to high last ∙ (ap (λ ys. ys ++ quarters end to) f.among ∙ append_assoc f.before (start ∷ f.behind) (quarters end to)))
-        ∙ sym (append_assoc (quarters from at) f.before (start ∷ (f.behind ++ quarters end to)))) in
+    quarters_join from at to low (omega (arith, ints))
+    ∙ (ap (λ ys. quarters from at ++ ys) (quarters_join at end to high last ∙ (ap (λ ys. ys ++ quarters end to) f.among ∙ append_assoc f.before (start ∷ f.behind) (quarters end to)))
+    ∙ sym (append_assoc (quarters from at) f.before (start ∷ (f.behind ++ quarters end to)))) in
     ap (slot_among clash) all ∙ slot_found clash (quarters from at ++ f.before) us start (f.behind ++ quarters end to) f.earlier f.free
 
 -- What is answered.
 
 pub answer_free : (clash : ℤ → Option Clash) (from at end to start : ℤ) (ts us tried : List Tried) → from ≤ℤ at → at ≤ℤ end → end ≤ℤ to → AreTried clash (quarters from at) ts → LooksAt clash (quarters at end) ts (Some start) us
-    → tried ≡ us → found_of (Some start) tried ≡ slot_among clash (quarters from to)
-answer_free clash from at end to start ts us tried low high last before looks e = ap (λ vs. found_of (Some start) vs) e ∙ sym (days_free clash from at end to start ts us low high last before looks)
+    → tried ≡ us → slot_with (Some start) tried ≡ slot_among clash (quarters from to)
+answer_free clash from at end to start ts us tried low high last before looks e = ap (λ vs. slot_with (Some start) vs) e ∙ sym (days_free clash from at end to start ts us low high last before looks)
 
 pub answer_none : (clash : ℤ → Option Clash) (from at end to : ℤ) (ts us tried : List Tried) → from ≤ℤ at → at ≤ℤ end → end ≤ℤ to → to ≤ℤ end → AreTried clash (quarters from at) ts → LooksAt clash (quarters at end) ts None us
-    → tried ≡ us → found_of None tried ≡ slot_among clash (quarters from to)
+    → tried ≡ us → slot_with None tried ≡ slot_among clash (quarters from to)
 answer_none clash from at end to ts us tried low high last past before looks e =
-    ap (λ vs. found_of None vs) e ∙ sym (days_end clash from to end us (omega (arith, ints, last, past)) (days_on clash from at end ts us low high before looks))
+    ap (λ vs. slot_with None vs) e ∙ sym (days_end clash from to end us (omega (arith, ints, last, past)) (days_on clash from at end ts us low high before looks))
 
-pub answer_least : (clash : ℤ → Option Clash) (from to : ℤ) (found : Found) → from ≤ℤ to → found ≡ slot_among clash (quarters from to) → IsSlot clash from to found
+pub answer_least : (clash : ℤ → Option Clash) (from to : ℤ) (found : FoundSlot) → from ≤ℤ to → found ≡ slot_among clash (quarters from to) → IsSlot clash from to found
 answer_least clash from to found order e = subst (IsSlot clash from to) (sym e) (least clash from to order)
 
 none_by : {X : Type 0} (o : Option X) → is_some o ≡ false → o ≡ None

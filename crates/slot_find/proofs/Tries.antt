@@ -4,7 +4,7 @@ use Rattle.slot_find.specs.Steps.{AreTried}
 use Rattle.spec_bookings.specs.declared.clash.Clash.{Clash}
 use Rattle.spec_slots.proofs.Slots.{free_here, free_join, none_here, told_join}
 use Rattle.spec_slots.specs.Slots.{first_free, slot_among, tried_of}
-use Rattle.spec_slots.specs.declared.slot.Found.{Found}
+use Rattle.spec_slots.specs.declared.slot.FoundSlot.{FoundSlot}
 use Rattle.spec_slots.specs.declared.slot.Tried.{Tried}
 
 one_told : (clash : ℤ → Option Clash) (x : ℤ) (c : Clash) → clash x ≡ Some c → AreTried clash (x ∷ []) (record { start = x; clash = c } ∷ [])
@@ -23,10 +23,10 @@ more_tried clash xs ts x c h e =
       told = ap (λ us. us ++ record { start = x; clash = c } ∷ []) h.told ∙ (ap (λ us. tried_of clash xs ++ us) one.told ∙ sym (told_join clash xs (x ∷ []) h.none));
     }
 
-abbrev pub found_of : Option ℤ → List Tried → Found
-found_of o ts = record { start = o; tried = ts }
+abbrev pub slot_with : Option ℤ → List Tried → FoundSlot
+slot_with o ts = record { start = o; tried = ts }
 
-same_slot : (o q : Option ℤ) (ts us : List Tried) → o ≡ q → ts ≡ us → found_of o ts ≡ found_of q us
+same_slot : (o q : Option ℤ) (ts us : List Tried) → o ≡ q → ts ≡ us → slot_with o ts ≡ slot_with q us
 same_slot o q ts us h k = rw (h, k) refl
 
 pub slot_found : (clash : ℤ → Option Clash) (xs : List ℤ) (ts : List Tried) (x : ℤ) (rest : List ℤ) → AreTried clash xs ts → clash x ≡ None → slot_among clash (xs ++ x ∷ rest) ≡ record { start = Some x; tried = ts }

@@ -4,7 +4,7 @@ use Rattle.spec_bookings.specs.declared.clash.Clash.{Clash}
 use Rattle.spec_json.specs.Data.{Data}
 use Rattle.spec_series.specs.RuleObjects.{parts_of, rules_in}
 use Rattle.spec_series.specs.declared.series.Series.{Series}
-use Rattle.spec_slots.specs.Quarters.{is_quarter, quarters}
+use Rattle.spec_slots.specs.Quarters.{is_quarter}
 use Rattle.spec_slots.specs.Slots.{first_free, tried_of}
 use Rattle.spec_slots.specs.declared.slot.Tried.{Tried}
 use Rattle.spec_time.specs.Walls.{day_of_wall}
@@ -47,7 +47,7 @@ pub record AreTried (clash : ℤ → Option Clash) (xs : List ℤ) (tried : List
   pub told : tried ≡ tried_of clash xs
 
 -- nothing stands against this start, which is told of none, and those before it were tried
-pub record IsFree (clash : ℤ → Option Clash) (xs ys : List ℤ) (start : ℤ) (tried : List Tried) : Type 0 where
+pub record IsFreeStart (clash : ℤ → Option Clash) (xs ys : List ℤ) (start : ℤ) (tried : List Tried) : Type 0 where
   pub before : List ℤ
   pub behind : List ℤ
   pub among : ys ≡ before ++ start ∷ behind
@@ -57,7 +57,7 @@ pub record IsFree (clash : ℤ → Option Clash) (xs ys : List ℤ) (start : ℤ
 -- what comes of a look at some starts behind others that were tried
 abbrev pub ComesOf : (ℤ → Option Clash) → List ℤ → List ℤ → Option ℤ → List Tried → Type 0
 ComesOf clash xs ys None tried = AreTried clash (xs ++ ys) tried
-ComesOf clash xs ys (Some start) tried = IsFree clash xs ys start tried
+ComesOf clash xs ys (Some start) tried = IsFreeStart clash xs ys start tried
 
 -- the same behind whatever was tried before
 abbrev pub LooksAt : (ℤ → Option Clash) → List ℤ → List Tried → Option ℤ → List Tried → Type 0

@@ -50,9 +50,7 @@ pub(crate) fn try_day(
     if wants_maps(&series) {
         Ok(try_by_maps(room, wish, series, end, tried)?)
     } else {
-        Ok(try_quarters(
-            room, wish, series, None, None, None, None, end, tried,
-        )?)
+        Ok(try_quarters(room, wish, series, None, None, None, None, end, tried)?)
     }
 }
 

@@ -3,7 +3,7 @@ ghost use Rattle.std.specs.Prelude.{◌≡◌, ◌≤ℤ◌, ℤ, IfErr, IfOk, N
 ghost use Rattle.rule_read.specs.declared.error.RulesError.TheVariants.{BadRules};
 ghost use Rattle.spec_json.specs.TreeData.{data_of};
 ghost use Rattle.spec_series.specs.RuleObjects.{rules_in};
-ghost use Rattle.spec_slots.specs.Slots.{IsSlot, slot_of};
+ghost use Rattle.spec_slots.specs.Slots.{IsSlot, wished_slot};
 ghost use Rattle.spec_slots.specs.Wishes.{wish_clash};
 ghost use Rattle.spec_time.specs.Walls.{is_in_years};
 
@@ -11,7 +11,7 @@ use crate::day::try_day;
 use crate::quarters::{end_of_day, is_before};
 use resource_book::Room;
 use rule_read::RulesError;
-use spec_slots::slot::{Found, TriedList};
+use spec_slots::slot::{FoundSlot, TriedList};
 use spec_slots::wish::Wish;
 use spec_time::wall::Wall;
 use std::alloc::Global;
@@ -27,11 +27,11 @@ pub fn find(
     wish: &Wish,
     from: Wall,
     to: Wall,
-) -> Result<Found, RulesError>
+) -> Result<FoundSlot, RulesError>
     requires from { is_in_years from ≡ true }
     requires to { is_in_years to ≡ true }
     requires order { from ≤ℤ to }
-    ensures found { IfOk result (λ found. found ≡ slot_of room.now.bookings wish.now.length (data_of wish.now.rules) from to) }
+    ensures found { IfOk result (λ found. found ≡ wished_slot room.now.bookings wish.now.length (data_of wish.now.rules) from to) }
     ensures least { IfOk result (IsSlot (wish_clash room.now.bookings wish.now.length (data_of wish.now.rules)) from to) }
     ensures read { OnOk result ((x : ℤ) → is_some (rules_in x (data_of wish.now.rules)) ≡ true) }
     ensures bad { IfErr result (λ error. error ≡ BadRules → (x : ℤ) → rules_in x (data_of wish.now.rules) ≡ None) }
@@ -42,7 +42,7 @@ pub fn find(
         let end = end_of_day(at, to);
         match try_day(alloc, room, wish, at, end, &mut tried)? {
             Some(start) => {
-                return Ok(Found {
+                return Ok(FoundSlot {
                     start: Some(start),
                     tried: TriedList::new(tried),
                 });
@@ -52,7 +52,7 @@ pub fn find(
         if is_before(end, to) {
             at = end;
         } else {
-            return Ok(Found {
+            return Ok(FoundSlot {
                 start: None,
                 tried: TriedList::new(tried),
             });

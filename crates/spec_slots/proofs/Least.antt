@@ -9,7 +9,7 @@ use Rattle.spec_series.specs.Numbers.{numbers_from}
 use Rattle.spec_slots.proofs.Quarters.{quarter_at, quarter_of, quarters_from, quarters_join}
 use Rattle.spec_slots.proofs.Slots.{found_in_front, free_here, free_join, told_here, told_join}
 use Rattle.spec_slots.specs.Quarters.{IsQuarterOf, is_quarter, quarters}
-use Rattle.spec_slots.specs.Slots.{IsBefore, IsSlot, IsToldOf, IsTriedOf, first_free, slot_among, tried_of}
+use Rattle.spec_slots.specs.Slots.{LiesBefore, IsSlot, IsToldOf, IsTriedOf, first_free, slot_among, tried_of}
 use Rattle.spec_slots.specs.declared.slot.Tried.{Tried}
 
 none_found : (s : ℤ) → None ≡ Some s → ⊥
@@ -140,25 +140,25 @@ contains_here : (ts us : List Tried) (t : Tried) → Contains (ts ++ t ∷ us) t
 contains_here ts us t = Contains-append_right ts (t ∷ us) t (0, omega arith, refl)
 
 -- nothing that was found lies before an earlier quarter
-none_before : (clash : ℤ → Option Clash) (from to x : ℤ) (q : IsQuarterOf from to x) (o : Option ℤ) → first_free clash (quarters from x) ≡ o → IsBefore (first_free clash (quarters from to)) x → first_free clash (quarters from x) ≡ None
+none_before : (clash : ℤ → Option Clash) (from to x : ℤ) (q : IsQuarterOf from to x) (o : Option ℤ) → first_free clash (quarters from x) ≡ o → LiesBefore (first_free clash (quarters from to)) x → first_free clash (quarters from x) ≡ None
 none_before clash from to x q None e before = e
 none_before clash from to x q (Some s) e before =
     let is : first_free clash (quarters from to) ≡ Some s = rw (around from to x q).is (found_in_front clash (quarters from x) (x ∷ (around from to x q).behind) s e) in
     let low = (found_is clash (IsQuarterOf from x) (quarters from x) s (are_quarters from x q.low) e).0 in
-    let high : x <ℤ s = subst (λ o. IsBefore o x) is before in
+    let high : x <ℤ s = subst (λ o. LiesBefore o x) is before in
     absurd (omega (arith, ints, low.high, high))
 
-told_at : (clash : ℤ → Option Clash) (from to x : ℤ) (q : IsQuarterOf from to x) (o : Option Clash) → clash x ≡ o → IsBefore (first_free clash (quarters from to)) x → first_free clash (quarters from x) ≡ None
+told_at : (clash : ℤ → Option Clash) (from to x : ℤ) (q : IsQuarterOf from to x) (o : Option Clash) → clash x ≡ o → LiesBefore (first_free clash (quarters from to)) x → first_free clash (quarters from x) ≡ None
     → IsToldOf (tried_of clash (quarters from to)) x
 told_at clash from to x q None e before none =
     let a = around from to x q in
     let is : first_free clash (quarters from to) ≡ Some x = rw a.is (free_join clash (quarters from x) (x ∷ a.behind) none ∙ free_here clash x a.behind e) in
-    let high : x <ℤ x = subst (λ o. IsBefore o x) is before in
+    let high : x <ℤ x = subst (λ o. LiesBefore o x) is before in
     absurd (omega (arith, ints, high))
 told_at clash from to x q (Some c) e before none =
     let a = around from to x q in
     let is : tried_of clash (quarters from to) ≡ tried_of clash (quarters from x) ++ record { start = x; clash = c } ∷ tried_of clash a.behind =
-        rw a.is (told_join clash (quarters from x) (x ∷ a.behind) none ∙ ap (λ us. tried_of clash (quarters from x) ++ us) (told_here clash x c a.behind e)) in
+    rw a.is (told_join clash (quarters from x) (x ∷ a.behind) none ∙ ap (λ us. tried_of clash (quarters from x) ++ us) (told_here clash x c a.behind e)) in
     record { told = record { start = x; clash = c }; start = refl; contained = subst (λ ts. Contains ts (record { start = x; clash = c })) (sym is) (contains_here _ _ _) }
 
 start_quarter : (clash : ℤ → Option Clash) (from to : ℤ) → from ≤ℤ to → (o : Option ℤ) → first_free clash (quarters from to) ≡ o → IfSome o (λ x. IsQuarterOf from to x × (clash x ≡ None))
@@ -174,6 +174,6 @@ least clash from to h =
       quarter = IfSome_then (first_free clash (quarters from to)) s (λ x p. p.0);
       free = IfSome_then (first_free clash (quarters from to)) s (λ x p. p.1);
       tried = joined clash from to (tried_of clash (quarters from to)) (first_free clash (quarters from to)) (all_told clash (IsQuarterOf from to) (quarters from to) (are_quarters from to h))
-        (λ s e. all_before clash s (quarters from to) (quarters_rise from to) e);
+          (λ s e. all_before clash s (quarters from to) (quarters_rise from to) e);
       each = λ x q before. told_at clash from to x q (clash x) refl before (none_before clash from to x q (first_free clash (quarters from x)) refl before);
     }

@@ -47,7 +47,7 @@ impl TriedList {
 
 /// What was found: the first start at which nothing stands against a wish, if there is one, and each earlier one with what does.
 #[derive(Drop)]
-pub struct Found {
+pub struct FoundSlot {
     /// The first start at which nothing stands against it.
     pub start: Option<Wall>,
     /// The starts before it, or all where there is none, in order.

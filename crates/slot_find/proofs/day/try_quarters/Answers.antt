@@ -1,8 +1,8 @@
 -- Each quarter is tried with the series at its start, which is the wished one there.
-use Rattle.std.proofs.Common.{arith, ap, subst, sym, ◌++◌, ◌∙◌, ℤ, List, true, ◌≡◌}
+use Rattle.std.proofs.Common.{arith, ap, subst, sym, ◌++◌, ◌∙◌, ℤ, true, ◌≡◌}
 use Rattle.std.specs.Int.{int_min}
 use Rattle.std.proofs.lemmas.Int.{ints}
-use Rattle.slot_find.proofs.Looks.{looks_begin, looks_end, looks_free, looks_on, map_moved, moved_again, not_moved, wished_at}
+use Rattle.slot_find.proofs.Looks.{looks_begin, looks_free, looks_on, moved_again, not_moved}
 use Rattle.slot_find.proofs.QuarterLemmas.{before_is, next_quarter_is, years_between}
 use Rattle.slot_find.specs.Steps.{AreTried}
 use Rattle.spec_json.specs.TreeData.{data_of}

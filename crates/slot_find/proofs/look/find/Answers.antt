@@ -1,5 +1,5 @@
 -- One day is looked at behind the other, up to the last.
-use Rattle.std.proofs.Common.{None, Option, Some, arith, subst, sym, ◌∙◌, ◌≡◌, ℤ}
+use Rattle.std.proofs.Common.{None, Option, arith, subst, sym, ◌∙◌, ◌≡◌, ℤ}
 use Rattle.std.proofs.lemmas.Int.{ints}
 use Rattle.rule_read.specs.declared.error.RulesError.TheVariants.{BadRules}
 use Rattle.slot_find.proofs.Looks.{answer_free, answer_least, answer_none, days_begin, days_on, never_read, passed_on}

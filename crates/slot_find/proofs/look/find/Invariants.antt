@@ -1,5 +1,5 @@
 -- The loop of `find`: the quarters so far were tried.
-use Rattle.std.proofs.Common.{◌≡◌, ◌≤ℤ◌, true}
+use Rattle.std.proofs.Common.{◌≤ℤ◌}
 use Rattle.std.specs.Int.{int_gap}
 use Rattle.slot_find.specs.Steps.{AreTried}
 use Rattle.spec_json.specs.TreeData.{data_of}

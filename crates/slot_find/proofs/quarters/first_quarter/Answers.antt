@@ -1,6 +1,6 @@
 -- The quotient is rounded up, since all but a second of a quarter were added.
-use Rattle.std.proofs.Common.{FitsSigned, ap, arith, pos, rules, w64, ◌*ℤ◌, ◌≡◌, ◌∙◌}
-use Rattle.std.proofs.lemmas.Int.{ints, to_z-of_z}
+use Rattle.std.proofs.Common.{ap, arith, pos, ◌*ℤ◌, ◌≡◌, ◌∙◌}
+use Rattle.std.proofs.lemmas.Int.{ints}
 use Rattle.slot_find.proofs.QuarterLemmas.{first_is}
 use Rattle.slot_find.proofs.quarters.first_quarter.Goals as goal
 
