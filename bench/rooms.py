@@ -62,7 +62,9 @@ def four(number):
 
 def mixed(number):
     """Of four kinds in turn; each of them at hours of its own."""
-    return (hour(24 * number + 20, frequency="weekly"), nth(number % 224), date(number % 336, 10), placed(number % 250))[number % 4]
+    turn = number // 4
+    weekly = hour(24 * (turn % 7) + 12 + turn // 7 % 12 + 168 * (turn // 84), frequency="weekly", interval=2)
+    return (weekly, nth(turn), date(number % 336, 10 + number // 336), placed(turn))[number % 4]
 
 
 def drawn(number, requests):
@@ -106,6 +108,34 @@ MIXED = [mixed(number) for number in range(499)]
 MOST = series(datetime.datetime(2024, 1, 1, 9), 3600, frequency="yearly", byMonthDay=list(range(1, 29)), byMonth=[str(month) for month in range(1, 13)])
 REST = series(datetime.datetime(2024, 1, 29, 9), 3600, frequency="yearly", byMonthDay=[29, 30, 31], byMonth=[str(month) for month in range(1, 13)])
 
+# Bookings of each kind, which never meet, and one more that is clear of them.
+MIXES = {
+    "weekly hours": (WEEKLY[:499], WEEKLY[499]),
+    "monthly hours by weekdays": (NTHS, nth(499)),
+    "yearly hours": (YEARLY, date(499 - 336, 10)),
+    "yearly hours by places": (PLACED, placed(499)),
+    "bookings of these kinds": (MIXED, placed(250 + 3)),
+}
+
+
+def again(bookings):
+    """What stands against the last booking, proposed again: itself, from its start on."""
+    start = datetime.datetime.fromisoformat(bookings[-1]["start"])
+    day = (start - datetime.datetime(1970, 1, 1)).days
+    return f"day {day} second {start.hour * 3600 + start.minute * 60} with E{len(bookings)}"
+
+
+def beside(bookings, other):
+    """Such a booking, the last of them again, and the same where each has 128 exceptions."""
+    with_exceptions = [crowded(booking) for booking in bookings]
+    return {
+        "one more": (bookings, other, "none", 51, None),
+        "the last again": (bookings, bookings[-1], again(bookings), 51, None),
+        "one more, each with 128 exceptions": (with_exceptions, crowded(other), "none", 51, None),
+        "the last again, each with 128 exceptions": (with_exceptions, with_exceptions[-1], again(bookings), 51, None),
+    }
+
+
 # The bookings, what is proposed, the answer, the times of the longer run, and the goal in milliseconds, if there is one.
 ROOMS = {
     "500 weekly hours, and one more": (WEEKLY, hour(500, frequency="weekly", interval=3), "none", 51, 20),
@@ -117,12 +147,7 @@ ROOMS = {
     "four yearly rules by places, and four more": ([four(0)], four(30), "none", 11, 20),
     "most days of the year, and the rest": ([MOST], REST, "none", 11, 20),
     "the rest of the days of the year, and most": ([REST], MOST, "none", 11, 20),
-    "499 monthly hours by weekdays, and one more": (NTHS, nth(499), "none", 11, None),
-    "499 yearly hours, and one more": (YEARLY, date(499 - 336, 10), "none", 11, None),
-    "499 yearly hours by places, and one more": (PLACED, placed(499), "none", 11, None),
-    "499 bookings of these kinds, and a yearly hour by a place": (MIXED, placed(250 + 3), "none", 11, None),
-    "499 weekly hours with 128 exceptions each, and one more": ([crowded(room) for room in WEEKLY[:499]], crowded(WEEKLY[499]), "none", 51, None),
-    "499 yearly hours with 128 exceptions each, and one more": ([crowded(room) for room in YEARLY], crowded(date(499 - 336, 10)), "none", 11, None),
+    **{f"499 {name}, and {what}": room for name, (bookings, other) in MIXES.items() for what, room in beside(bookings, other).items()},
 }
 
 
