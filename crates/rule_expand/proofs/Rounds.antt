@@ -1,5 +1,5 @@
 -- How the days of a counted set go on by whole rounds, after which the same days are due again.
-use Rattle.std.proofs.Common.{◌≡◌, ◌∙◌, ℕ, zero, suc, ◌+◌, ◌-◌, ◌*◌, ◌<◌, ◌≤◌, Bool, true, false, ℤ, pos, ◌+ℤ◌, ◌-ℤ◌, ◌*ℤ◌, ◌<ℤ◌, ◌≤ℤ◌, refl, sym, ap, arith, inl, inr, cond, ◌&&◌, ◌||◌, int_lt}
+use Rattle.std.proofs.Common.{◌≡◌, ◌∙◌, ℕ, zero, suc, ◌+◌, ◌-◌, ◌*◌, ◌<◌, ◌≤◌, Bool, true, false, ℤ, pos, ◌+ℤ◌, ◌*ℤ◌, ◌<ℤ◌, ◌≤ℤ◌, refl, sym, ap, arith, inl, inr}
 use Rattle.std.proofs.lemmas.Int.{by_lt_z}
 use Rattle.std.proofs.lemmas.Bool.{cases_lt}
 use Rattle.std.proofs.Common.{mul-le-mul, zero-mul}
@@ -7,10 +7,9 @@ use Rattle.std.proofs.Math.IntN.{pos-*ℤ-pos}
 use Rattle.jiff_core.proofs.SignedLemmas.{signed_arith}
 use Rattle.spec_series.specs.Places.{count_days, count_from}
 use Rattle.spec_series.specs.RuleSets.{is_counted, is_due}
-use Rattle.spec_series.specs.declared.by_part.End.{End}
 use Rattle.spec_series.specs.declared.by_part.End.TheVariants.{Count}
 use Rattle.rule_expand.specs.Sets.{IsCountAt}
-use Rattle.rule_expand.proofs.Cycle.{count_from-after, count_days-none}
+use Rattle.rule_expand.proofs.Cycle.{count_from-after}
 use Rattle.spec_json.proofs.Booleans.{same_truth}
 use Rattle.std.proofs.lemmas.Bool.{false_from_ne_true}
 use Rattle.rule_expand.proofs.CountedDays.{counted_cases, counted_later, counted_start}

@@ -1,6 +1,5 @@
 -- Why a bit that is clear is met at no shift so far.
-use Rattle.std.proofs.Common.{◌≡◌, ℕ, ◌+◌, ◌*◌, ◌∙◌, ap, sym, subst, arith, inl, inr}
-use Rattle.std.specs.Int.{bit_at}
+use Rattle.std.proofs.Common.{◌≡◌, ℕ, ◌+◌, ◌*◌, ◌∙◌, sym, subst, arith, inl, inr}
 use Rattle.std.proofs.lemmas.Bool.{cases_lt}
 use Rattle.residue_solve.specs.ResidueMap.{met_bit}
 use Rattle.residue_solve.proofs.Bits.{or_clear}

@@ -1,8 +1,7 @@
 -- Why the bits before a place are told, and those from there on clear.
-use Rattle.std.proofs.Common.{◌≡◌, ℕ, ◌+◌, ◌-◌, ◌<◌, ◌≤◌, ◌∙◌, ap, sym, arith, inl, inr, false}
-use Rattle.std.proofs.lemmas.Bool.{cases_lt}
+use Rattle.std.proofs.Common.{ℕ, ◌∙◌, ap, arith}
 use Rattle.std.proofs.lemmas.List.{length-replicate}
-use Rattle.residue_solve.specs.ResidueMap.{as_bit, map_bit}
+use Rattle.residue_solve.specs.ResidueMap.{as_bit}
 use Rattle.residue_solve.proofs.Bits.{empty_bit, passed}
 use Rattle.residue_solve.proofs.residue_map.fill.Goals as goal
 

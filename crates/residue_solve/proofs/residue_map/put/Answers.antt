@@ -1,5 +1,5 @@
 -- Why the bit is set, and no other.
-use Rattle.std.proofs.Common.{◌%◌, ◌<◌, arith}
+use Rattle.std.proofs.Common.{◌%◌, arith}
 use Rattle.residue_solve.proofs.Bits.{one_bit, put_bit}
 use Rattle.residue_solve.proofs.residue_map.put.Goals as goal
 

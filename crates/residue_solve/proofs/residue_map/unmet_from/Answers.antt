@@ -1,5 +1,5 @@
 -- Why nothing is met up to the lowest bit that is set.
-use Rattle.std.proofs.Common.{◌≡◌, ℕ, ◌+◌, ◌-◌, ◌*◌, ◌/◌, ◌%◌, ◌<◌, ◌^◌, ◌∙◌, ap, sym, subst, arith, inl, inr, refl}
+use Rattle.std.proofs.Common.{◌≡◌, ℕ, ◌+◌, ◌-◌, ◌*◌, ◌/◌, ◌%◌, ◌<◌, ◌^◌, ◌∙◌, ap, subst, arith, inl, inr, refl}
 use Rattle.std.specs.Prelude.{◌≤◌, Option, List, Some, None, slice_index}
 use Rattle.std.specs.Int.{bit_at}
 use Rattle.std.proofs.Common.{Bor}

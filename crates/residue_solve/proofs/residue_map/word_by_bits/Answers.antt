@@ -1,6 +1,5 @@
-use Rattle.std.proofs.Common.{◌≡◌, ℕ, ◌+◌, ◌*◌, ◌∙◌, ap, sym, arith, true, false, eqb-true}
-use Rattle.std.specs.Prelude.{◌<◌, ◌≤◌, ◌/◌, ◌%◌, slice_index}
-use Rattle.std.specs.Int.{bit_at}
+use Rattle.std.proofs.Common.{◌≡◌, ℕ, ◌+◌, ◌*◌, ◌∙◌, sym, arith, eqb-true}
+use Rattle.std.specs.Prelude.{◌/◌, ◌%◌, slice_index}
 use Rattle.residue_solve.specs.ResidueMap.{map_bit, shifted}
 use Rattle.residue_solve.proofs.Bits.{set_low, set_high, clear_low, one_bit, not_one}
 use Rattle.residue_solve.proofs.residue_map.word_by_bits.Goals as goal

@@ -2,7 +2,7 @@ use Rattle.std.proofs.Common.{◌≡◌, FitsSigned, w64, rules, arith, refl, to
 use Rattle.std.proofs.lemmas.Int.{to_z-of_z}
 use Rattle.jiff_core.proofs.SignedLemmas.{signed_arith}
 use Rattle.spec_series.specs.RuleSets.{is_due}
-use Rattle.rule_expand.proofs.LastDays.{count_first, count_step, count_none, count_full}
+use Rattle.rule_expand.proofs.LastDays.{count_step, count_none, count_full}
 use Rattle.rule_expand.proofs.set.last_from.Goals as goal
 
 pub loop-k-init : goal.loop-k-init

@@ -1,4 +1,4 @@
-use Rattle.std.proofs.Common.{◌≡◌, FitsSigned, w64, rules, arith, refl, to_z}
+use Rattle.std.proofs.Common.{◌≡◌, FitsSigned, w64, rules, arith, to_z}
 use Rattle.std.proofs.lemmas.Int.{to_z-of_z}
 use Rattle.jiff_core.proofs.SignedLemmas.{signed_arith}
 use Rattle.spec_series.specs.RuleSets.{is_due}
