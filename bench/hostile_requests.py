@@ -15,6 +15,8 @@ from shapes import SHAPES
 
 STRANGE = {"name": "Far/Strange", "rule": "<aaa>24:59:59<bbb>-24:59:59,J1/-167:59:59,J365/167:59:59"}
 YEAR = {"after": "2024-06-01T00:00:00", "before": "2025-06-02T00:00:00"}
+# The days on which `overridden` has overrides.
+OVERRIDDEN = {"after": "2024-01-01T00:00:00", "before": "2024-05-09T00:00:00"}
 LAST_DAY = b'"utcStart":"2025-06-01T00:00:00Z"'
 LAST_OCCURRENCE = "E1400_20250601T231900"  # by its start, of 2,000 daily events in that year
 NOTHING = b'"ids":[]'
@@ -376,6 +378,7 @@ RULES = [
         lambda: [get_of(ids=occurrences(500))],
     ),
     Hostile("16 gets of 500 occurrences, four rules", large(retitled_by_four_rules, 1), lambda: [get_of(ids=occurrences(500), properties=["id"])] * 16),
+    Hostile("the 128 days of overrides expanded", large(retitled, 2_000), lambda: [query_of(OVERRIDDEN, "start", expandRecurrences=True, calculateTotal=True)]),
     Hostile("366 days expanded by titles, 128 overrides each", large(retitled, 2_000), lambda: [expanded("title")]),
     Hostile("366 days expanded in a strange zone", events(stranger, 2_000), lambda: [expanded("start")], zones=[STRANGE]),
     Hostile("a year's busy periods in a strange zone", events(stranger, 2_000), lambda: [busy()], zones=[STRANGE]),
