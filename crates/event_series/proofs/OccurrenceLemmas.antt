@@ -10,7 +10,8 @@ use Rattle.spec_json.specs.Data.{Data, Pair, lookup}
 use Rattle.spec_json.specs.Parts.{all_some, as_object, members_in}
 use Rattle.spec_recurrence.specs.Overrides.{exception_in, overrides_in, single}
 use Rattle.spec_recurrence.specs.Recurrence.{has_occurrence, is_given_by_rules, is_there, override_at}
-use Rattle.spec_series.specs.Occurrences.{exception_with, is_day, is_rid, occurrence_by, occurrence_with, replacement}
+use Rattle.spec_series.specs.Occurrences.{exception_with, is_day, is_rid, occurrence_by, occurrence_with}
+use Rattle.spec_series.specs.Given.{replacement}
 use Rattle.spec_series.specs.declared.exception.Exception.{Exception}
 use Rattle.spec_series.specs.declared.exception.Span.{Span}
 use Rattle.spec_series.specs.declared.occurrence.Occurrence.{Occurrence}

@@ -36,8 +36,8 @@ use Rattle.occurrence_windows.proofs.SortedKeys.{first_in_order, rest_in_order}
 use Rattle.occurrence_windows.specs.Listing.{IsListOf}
 use Rattle.rule_expand.proofs.Places.{and_both}
 use Rattle.rule_expand.proofs.Sets.{is_int_le}
-use Rattle.rule_expand.proofs.Sooner.{sooner_cases}
-use Rattle.rule_expand.specs.Later.{is_sooner}
+use Rattle.spec_series.proofs.Given.{sooner_cases}
+use Rattle.spec_series.specs.Given.{is_sooner}
 use Rattle.zone_instants.proofs.Readings.{instant-none}
 
 -- How often a recurrence id stands in a list.

@@ -7,7 +7,7 @@ use Rattle.spec_series.specs.declared.occurrence.Occurrence.{Occurrence}
 use Rattle.occurrence_windows.specs.Listing.{IsAfter, IsListOf}
 use Rattle.occurrence_windows.proofs.Walking.{after_trans, after_by, after_cases, after_self, sooner_by}
 use Rattle.occurrence_windows.proofs.Overlapping.{AreSingle}
-use Rattle.rule_expand.specs.Later.{is_past, is_after, is_sooner, IsFirstOf}
+use Rattle.spec_series.specs.Given.{is_past, is_after, is_sooner, IsFirstOf}
 use Rattle.rule_expand.proofs.Places.{is_late, late_is}
 use Rattle.rule_expand.proofs.Sets.{not_true}
 

@@ -16,7 +16,8 @@ use Rattle.spec_windows.specs.Windows.{IsOverlapping, period_of, span_at, keeps_
 use Rattle.occurrence_windows.specs.Bounds.{first_wall, last_wall}
 use Rattle.occurrence_windows.specs.Listing.{IsAfter}
 use Rattle.occurrence_windows.proofs.Walking.{after_trans, beyond, after_by, after_cases}
-use Rattle.rule_expand.specs.Later.{is_after, IsFirstOf, IsUntil}
+use Rattle.rule_expand.specs.Later.{IsUntil}
+use Rattle.spec_series.specs.Given.{is_after, IsFirstOf}
 use Rattle.rule_expand.proofs.Sets.{is_int_le}
 use Rattle.rule_expand.proofs.Places.{and_both, late_is}
 

@@ -12,7 +12,8 @@ use Rattle.spec_series.specs.declared.exception.Span.{Span}
 use Rattle.spec_series.specs.declared.occurrence.Occurrence.{Occurrence}
 use Rattle.spec_series.specs.declared.series.Series.{Series}
 use Rattle.spec_series.proofs.Occurrences.{kinds, names}
-use Rattle.spec_series.specs.Occurrences.{IsOccurrence, IsReplacement, occurrence_with}
+use Rattle.spec_series.specs.Occurrences.{IsOccurrence, occurrence_with}
+use Rattle.spec_series.specs.Given.{IsReplacement}
 use Rattle.spec_series.specs.SeriesLimits.{are_short, is_span_short, wall_seconds}
 use Rattle.spec_time.specs.declared.length.Length.{Length}
 use Rattle.spec_windows.specs.Clocks.{instant_in}

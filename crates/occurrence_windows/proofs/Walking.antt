@@ -7,7 +7,7 @@ use Rattle.std.proofs.lemmas.Int.{by_lt_z}
 use Rattle.jiff_core.proofs.SignedLemmas.{signed_arith}
 use Rattle.jiff_core.specs.Calendar.{IsWithin}
 use Rattle.spec_series.specs.declared.occurrence.Occurrence.{Occurrence}
-use Rattle.rule_expand.specs.Later.{is_past, is_after, is_sooner}
+use Rattle.spec_series.specs.Given.{is_past, is_after, is_sooner}
 use Rattle.rule_expand.proofs.Places.{and_both, is_late, late_is}
 use Rattle.rule_expand.proofs.Regular.{int_gap_is}
 use Rattle.rule_expand.proofs.Sets.{both_and, or_cases, or_left, or_right}

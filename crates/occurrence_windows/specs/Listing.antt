@@ -1,7 +1,7 @@
 -- Occurrences in order.
 use Rattle.std.specs.Prelude.{◌≡◌, ◌<◌, ℕ, ℤ, true, List, slice_get, Option, Some}
 use Rattle.spec_series.specs.declared.occurrence.Occurrence.{Occurrence}
-use Rattle.rule_expand.specs.Later.{is_after, is_sooner}
+use Rattle.spec_series.specs.Given.{is_after, is_sooner}
 
 -- P holds of the occurrence, and it starts after `from`, or at it with a recurrence id after `past`
 abbrev pub IsAfter : (Occurrence → Type 0) → ℤ → Option ℤ → Occurrence → Type 0

@@ -8,7 +8,7 @@ ghost use Rattle.spec_windows.specs.Overlaps.{has_overlapping};
 ghost use Rattle.spec_windows.specs.Windows.{HasOverlapping, IsOverlapping, overlaps_window};
 ghost use Rattle.occurrence_windows.specs.Bounds.{first_wall, last_wall, AreNear};
 ghost use Rattle.occurrence_windows.specs.Listing.{IsAfter, IsListOf};
-ghost use Rattle.rule_expand.specs.Later.{IsFirstOf};
+ghost use Rattle.spec_series.specs.Given.{IsFirstOf};
 
 use crate::lengths::longest;
 use crate::span::span_of;

@@ -72,10 +72,11 @@ pub fn exceptions(alloc: Global, event: &Tree, zones: &Zones) -> Result<Exceptio
         return Err(OverrideError::BadOverrides);
     };
     if overrides.is_empty() {
-        return Ok(Exceptions::new(Vec::new(alloc)));
+        return Ok(Exceptions::none(alloc));
     }
     let alone = Alone::of(alloc, event, zones)?;
-    Ok(Exceptions::new(exceptions_among(alloc, &alone, overrides, zones)?))
+    let exceptions = exceptions_among(alloc, &alone, overrides, zones)?;
+    Ok(Exceptions::new(alloc, exceptions)?)
 }
 
 fn overrides_in(event: &Tree) -> Option<&[Member]>

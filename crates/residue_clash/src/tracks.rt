@@ -217,6 +217,6 @@ pub(crate) fn outline<'a>(series: &'a Series) -> Outline<'a>
         time: second_of(series.start),
         length: series.length,
         occupying: series.occupying,
-        exceptions: series.exceptions.items(),
+        exceptions: &series.exceptions,
     }
 }

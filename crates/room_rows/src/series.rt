@@ -54,7 +54,7 @@ fn is_busy(tree: &Tree) -> bool {
     tree.get("free").is_none()
 }
 
-fn exceptions_in(alloc: Global, tree: &Tree) -> Result<Vec<Exception>, AllocError> {
+fn exceptions_in(alloc: Global, tree: &Tree) -> Result<Exceptions, AllocError> {
     let mut exceptions = Vec::new(alloc);
     if let Some(Tree::List(list)) = tree.get("exceptions") {
         for item in list.items() {
@@ -68,7 +68,7 @@ fn exceptions_in(alloc: Global, tree: &Tree) -> Result<Vec<Exception>, AllocErro
             }
         }
     }
-    Ok(exceptions)
+    Exceptions::new(alloc, exceptions)
 }
 
 // The series, where it keeps the limits.
@@ -77,7 +77,7 @@ fn booked(
     length: Length,
     occupying: bool,
     rules: Rules,
-    exceptions: Vec<Exception>,
+    exceptions: Exceptions,
 ) -> Option<Series>
     requires years { is_in_years start ≡ true }
     requires few { count rules ≤ 4 }
@@ -86,19 +86,19 @@ fn booked(
     if !is_week(length) {
         return None;
     }
-    if exceptions.len() > MAX_EXCEPTIONS {
+    if exceptions.items().len() > MAX_EXCEPTIONS {
         return None;
     }
-    if !are_in_years(&exceptions) {
+    if !are_in_years(exceptions.items()) {
         return None;
     }
-    if !are_short(&exceptions) {
+    if !are_short(exceptions.items()) {
         return None;
     }
-    if !are_week_long(&exceptions) {
+    if !are_week_long(exceptions.items()) {
         return None;
     }
-    if !are_distinct(&exceptions) {
+    if !are_distinct(exceptions.items()) {
         return None;
     }
     Some(Series {
@@ -106,6 +106,6 @@ fn booked(
         length,
         occupying,
         rules,
-        exceptions: Exceptions::new(exceptions),
+        exceptions,
     })
 }

@@ -4,7 +4,8 @@ ghost use Rattle.spec_series.specs.RuleSets.{is_in_set};
 ghost use Rattle.spec_series.specs.SeriesLimits.{is_named};
 ghost use Rattle.spec_time.specs.Walls.{second_of_wall};
 ghost use Rattle.spec_time.specs.Floor.{floor_div};
-ghost use Rattle.rule_expand.specs.Later.{IsLaterRid, IsLaterOwn, IsLaterOne, IsOwnSecond, IsUntil, is_after, is_sooner, is_until, may_come_first, sooner, started, until_found, IsFirstOf, IsLater, IsLaterAt};
+ghost use Rattle.spec_series.specs.Given.{is_after, is_sooner, IsFirstOf};
+ghost use Rattle.rule_expand.specs.Later.{IsLaterRid, IsLaterOwn, IsLaterOne, IsOwnSecond, IsUntil, is_until, sooner, started, until_found};
 ghost use Rattle.rule_expand.specs.Near.{IsNear};
 ghost use Rattle.rule_expand.specs.Sets.{is_in_bound, is_regular, is_up_to, IsFirstFrom, IsNearBound};
 ghost use Rattle.spec_series.specs.declared.rule.Rule.{Rule};
@@ -13,19 +14,11 @@ ghost use Rattle.rule_expand.specs.Least.{IsLeastOf, IsSomeDay, lower};
 
 use crate::bound::Bound;
 use crate::set::{next_in_set, second_of_day};
-use spec_series::exception::Exception;
-use spec_series::occurrence::Occurrence;
+use spec_series::exception::Exceptions;
+use spec_series::occurrence::{Occurrence, comes_after};
 use spec_series::rule::Rule;
 use spec_series::series::Series;
 use spec_time::wall::Wall;
-
-// Whether an exception names the wall second.
-#[tactic(auto, unfolding(spec_series::specs::SeriesLimits::is_named))]
-fn names(exceptions: &[Exception], wall: i64) -> bool
-    ensures { result ≡ is_named exceptions.now wall }
-{
-    exceptions.iter().any(|x| x.rid.seconds() == wall)
-}
 
 // The wall second of a day.
 fn wall_of(day: i64, second: u32) -> i64
@@ -48,7 +41,7 @@ fn day_after(day: i64) -> i64
 fn next_regular(
     rule: &Rule,
     start: i64,
-    exceptions: &[Exception],
+    exceptions: &Exceptions,
     from: i64,
     bound: Bound,
 ) -> Option<i64>
@@ -66,7 +59,7 @@ fn next_regular(
         let Some(n) = next_in_set(rule, start, here, bound) else {
             return None;
         };
-        if !names(exceptions, wall_of(n, second)) {
+        if !exceptions.names(wall_of(n, second)) {
             return Some(n);
         }
         here = day_after(n);
@@ -88,7 +81,7 @@ pub(crate) fn lower_of(a: Option<i64>, b: Option<i64>) -> Option<i64>
 fn next_of_rules(
     rules: &[Rule],
     start: i64,
-    exceptions: &[Exception],
+    exceptions: &Exceptions,
     from: i64,
     bound: Bound,
 ) -> Option<i64>
@@ -106,21 +99,8 @@ fn next_of_rules(
     best
 }
 
-// Whether a start and its recurrence id come after others.
-#[tactic(auto, unfolding(crate::specs::Later::is_after))]
-fn comes_after(start: i64, rid: i64, from: i64, past: Option<i64>) -> bool
-    ensures { result ≡ is_after from past start rid }
-{
-    from < start
-        || (start == from
-            && match past {
-                None => true,
-                Some(p) => p < rid,
-            })
-}
-
 // Whether an occurrence comes before another.
-#[tactic(auto, unfolding(crate::specs::Later::is_sooner))]
+#[tactic(auto, unfolding(spec_series::specs::Given::is_sooner))]
 fn comes_sooner(a: Occurrence, b: Occurrence) -> bool
     ensures { result ≡ is_sooner a b }
 {
@@ -183,51 +163,6 @@ fn until_found(last: Option<i64>, found: &Option<Occurrence>) -> Option<i64>
     }
 }
 
-// What an exception gives after a start and a recurrence id.
-fn replacement(x: &Exception, from: i64, past: Option<i64>) -> Option<Occurrence>
-    ensures { IsFirstOf (IsLater from past x.now) result }
-{
-    let Some(span) = x.replaced else {
-        return None;
-    };
-    if !comes_after(span.start.seconds(), x.rid.seconds(), from, past) {
-        return None;
-    }
-    Some(Occurrence {
-        rid: x.rid,
-        start: span.start,
-        length: span.length,
-        occupying: span.occupying,
-    })
-}
-
-// Whether what an exception gives may start at a wall second or later, and no later than what was found.
-fn may_come_first(x: &Exception, from: i64, best: &Option<Occurrence>) -> bool
-    ensures { result ≡ may_come_first from x.now.replaced best.now }
-{
-    let Some(span) = x.replaced else {
-        return false;
-    };
-    let start = span.start.seconds();
-    match best {
-        None => from <= start,
-        Some(found) => from <= start && start <= found.start.seconds(),
-    }
-}
-
-// The first of those that the exceptions give. What can't come first isn't made.
-fn next_replacement(exceptions: &[Exception], from: i64, past: Option<i64>) -> Option<Occurrence>
-    ensures { IsFirstOf (λ o. (k : ℕ) × IsLaterAt from past exceptions.now k o) result }
-{
-    let mut best = None;
-    for x in exceptions {
-        if may_come_first(x, from, &best) {
-            best = sooner_of(best, replacement(x, from, past));
-        }
-    }
-    best
-}
-
 // The first wall second that is itself after a start and a recurrence id.
 fn first_second(from: i64, past: Option<i64>) -> i64
     requires { IsNear 144115188075855872 from }
@@ -277,7 +212,7 @@ fn next_own_day(series: &Series, from: i64, past: Option<i64>, last: Option<i64>
     let day = day_at_or_after(low, second);
     let bound = last_day_until(last, second);
     let rules = series.rules.items();
-    let Some(n) = next_of_rules(rules, start, series.exceptions.items(), day, bound) else {
+    let Some(n) = next_of_rules(rules, start, &series.exceptions, day, bound) else {
         return None;
     };
     Some(wall_of(n, second))
@@ -301,7 +236,7 @@ fn own_second(series: &Series, from: i64, past: Option<i64>, last: Option<i64>) 
     if !is_by(start, last) {
         return None;
     }
-    if names(series.exceptions.items(), start) {
+    if series.exceptions.names(start) {
         return None;
     }
     Some(start)
@@ -339,10 +274,7 @@ fn first_after(
     requires rids { (w : ℤ) → is_named series.now.exceptions w ≡ true → IsNear 400000000000 w }
     ensures { IsFirstOf (IsUntil last (IsLaterOne series.now from past)) result }
 {
-    let replaced = if_started(
-        last,
-        next_replacement(series.exceptions.items(), from, past),
-    );
+    let replaced = if_started(last, series.exceptions.next_given(from, past));
     let own = next_own(series, from, past, until_found(last, &replaced));
     sooner_of(own, replaced)
 }

@@ -83,7 +83,7 @@ fn hourly(alloc: Global, start: Wall, rules: Rules) -> Series
         },
         occupying: true,
         rules,
-        exceptions: Exceptions::new(Vec::new(alloc)),
+        exceptions: Exceptions::none(alloc),
     }
 }
 

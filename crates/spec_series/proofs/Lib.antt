@@ -3,4 +3,5 @@ pub mod Numbers
 pub mod Occurrences
 pub mod Searches
 pub mod LeastItems
+pub mod Given
 pub mod FirstEdition

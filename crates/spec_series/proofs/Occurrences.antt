@@ -9,7 +9,8 @@ use Rattle.spec_series.specs.declared.exception.Exception.{Exception}
 use Rattle.spec_series.specs.declared.exception.Span.{Span}
 use Rattle.spec_series.specs.declared.occurrence.Occurrence.{Occurrence}
 use Rattle.spec_series.specs.declared.series.Series.{Series}
-use Rattle.spec_series.specs.Occurrences.{IsOccurrence, IsOfKinds, IsRegular, IsReplacement, exception_with, is_rid, occurrence_with, regular, replacement}
+use Rattle.spec_series.specs.Given.{IsReplacement, replacement}
+use Rattle.spec_series.specs.Occurrences.{IsOccurrence, IsOfKinds, IsRegular, exception_with, is_rid, occurrence_with, regular}
 use Rattle.spec_series.specs.SeriesLimits.{are_distinct, is_named}
 
 by_bool : {Q : Type 0} (b : Bool) → (b ≡ true → Q) → (b ≡ false → Q) → Q

@@ -5,10 +5,10 @@ use Rattle.std.specs.Option.{option_map_or}
 use Rattle.std.specs.Ordering.{int_eq}
 use Rattle.spec_series.specs.declared.rule.Rule.{Rule}
 use Rattle.spec_series.specs.declared.exception.Exception.{Exception}
-use Rattle.spec_series.specs.declared.exception.Span.{Span}
 use Rattle.spec_series.specs.declared.occurrence.Occurrence.{Occurrence}
 use Rattle.spec_series.specs.declared.series.Series.{Series}
 use Rattle.spec_time.specs.Walls.{day_of_wall, second_of_wall}
+use Rattle.spec_series.specs.Given.{IsReplacement, replacement}
 use Rattle.spec_series.specs.RuleSets.{is_in_set}
 use Rattle.spec_series.specs.SeriesLimits.{is_named, wall_seconds}
 
@@ -26,10 +26,6 @@ is_rid s w = (second_of_wall w == second_of_wall s.start) && is_day s.rules s.st
 -- the exception of a recurrence id
 abbrev pub exception_with : List Exception → ℤ → Option Exception
 exception_with xs rid = find (λ x. int_eq x.rid rid) xs
-
--- what an exception puts in the place of an occurrence
-abbrev pub replacement : ℤ → Span → Occurrence
-replacement rid span = record { rid = rid; start = span.start; length = span.length; occupying = span.occupying }
 
 -- what the series itself has at the wall second of a recurrence id
 abbrev pub regular : Series → ℤ → Occurrence
@@ -61,10 +57,6 @@ pub record IsRegular (s : Series) (o : Occurrence) : Type 0 where
   pub start : o.start ≡ o.rid
   pub length : o.length ≡ s.length
   pub occupying : o.occupying ≡ s.occupying
-
--- the occurrence that an exception gives, whether or not a rule gives its recurrence id
-abbrev pub IsReplacement : Exception → Occurrence → Type 0
-IsReplacement x o = x ≡ record { rid = o.rid; replaced = Some (record { start = o.start; length = o.length; occupying = o.occupying }) }
 
 -- an occurrence of one of the two kinds
 abbrev pub IsOfKinds : Series → Occurrence → Type 0

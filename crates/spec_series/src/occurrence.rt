@@ -1,4 +1,6 @@
 //! Occurrences.
+ghost use Rattle.std.specs.Prelude.{◌≡◌};
+ghost use Rattle.spec_series.specs.Given.{is_after};
 
 use spec_time::length::Length;
 use spec_time::wall::Wall;
@@ -14,4 +16,17 @@ pub struct Occurrence {
     pub length: Length,
     /// Whether it takes up the time.
     pub occupying: bool,
+}
+
+/// Whether a start and its recurrence id come after `from`, or at it with a recurrence id after `past`, if that is given.
+#[tactic(auto, unfolding(crate::specs::Given::is_after))]
+pub fn comes_after(start: i64, rid: i64, from: i64, past: Option<i64>) -> bool
+    ensures { result ≡ is_after from past start rid }
+{
+    from < start
+        || (start == from
+            && match past {
+                None => true,
+                Some(p) => p < rid,
+            })
 }

@@ -73,7 +73,7 @@ struct AtMostOne {
 
 fn no_exceptions(alloc: Global) -> AtMostOne {
     AtMostOne {
-        exceptions: Exceptions::new(Vec::new(alloc)),
+        exceptions: Exceptions::none(alloc),
     }
 }
 
@@ -84,9 +84,8 @@ fn one_exception(alloc: Global, rid: Wall, replaced: Option<Span>) -> Result<AtM
 {
     let mut items = Vec::new(alloc);
     items.push(Exception { rid, replaced })?;
-    Ok(AtMostOne {
-        exceptions: Exceptions::new(items),
-    })
+    let exceptions = Exceptions::new(alloc, items)?;
+    Ok(AtMostOne { exceptions })
 }
 
 // What an override with `rid` comes to: it leaves the occurrence out where it has no `start`.

@@ -1,12 +1,12 @@
 -- Why a series without exceptions keeps its limits.
-use Rattle.std.proofs.Common.{◌∙◌, refl, arith}
+use Rattle.std.proofs.Common.{refl, arith}
 use Rattle.spec_series.specs.SeriesLimits.{are_distinct}
 use Rattle.rule_rows.proofs.rules.hourly.Goals as goal
 
 pub invariant_of-result : goal.invariant_of-result
 unfolding are_distinct
 invariant_of-result c =
-    let none = c.new-2.ensures ∙ c.new.ensures.items in
+    let none = c.none.ensures in
     record {
       start_in = c.requires.years;
       length_in = omega arith;

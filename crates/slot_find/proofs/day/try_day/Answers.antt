@@ -1,12 +1,12 @@
 -- The series is one, since it has no exceptions and lasts no longer than a booking may.
-use Rattle.std.proofs.Common.{[], ap, arith, length, subst, sym, ◌≡◌, ◌≤◌, ◌∙◌}
+use Rattle.std.proofs.Common.{[], ap, arith, length, subst, sym, ◌≡◌, ◌≤◌}
 use Rattle.slot_find.proofs.Looks.{none_distinct}
 use Rattle.spec_series.specs.SeriesLimits.{are_in_years, are_short}
 use Rattle.slot_find.proofs.day.try_day.Goals as goal
 
 pub invariant_of-series : goal.invariant_of-series
 invariant_of-series c =
-    let none : c.new-2.result ≡ [] = c.new-2.ensures ∙ c.new.ensures.items in
+    let none : c.none.result ≡ [] = c.none.ensures in
     let short = c.args.wish.now.length_in in
     record {
       start_in = c.requires.at;
@@ -15,5 +15,5 @@ invariant_of-series c =
       few_exceptions = subst (λ xs. length xs ≤ 128) (sym none) (omega arith);
       exceptions_in = ap are_in_years none;
       exceptions_short = ap are_short none;
-      exceptions_distinct = none_distinct c.new-2.result none;
+      exceptions_distinct = none_distinct c.none.result none;
     }
