@@ -1,6 +1,6 @@
 mod LocalTextLemmas
 mod EventLemmas
-mod ExceptionLemmas
-mod OccurrenceLemmas
+pub mod ExceptionLemmas
+pub mod OccurrenceLemmas
 pub mod SeriesLemmas
 mod ValidLemmas

@@ -54,7 +54,7 @@ given_is zones d s w h =
     ap (λ rules. (second_of_wall w == second_of_wall (start_in d)) && is_day rules (start_in d) (day_of_wall w)) (sym h.rules)
     ∙ ap (λ start. (second_of_wall w == second_of_wall start) && is_day s.rules start (day_of_wall w)) (sym h.start)
 
-agrees_by : (zones : List ZoneText) (d : Data) (xs : List Exception) (w : ℤ) (given : Bool) → is_in_years w ≡ true
+pub agrees_by : (zones : List ZoneText) (d : Data) (xs : List Exception) (w : ℤ) (given : Bool) → is_in_years w ≡ true
     → (found : Option (List Pair)) → overrides_in d ≡ found → option_and_then (all_some (exception_in zones (single (members_in d)))) found ≡ Some xs
     → is_there (option_and_then as_object (option_and_then (lookup (local_text w)) found)) given ≡ takes_place (replaced_at xs w) given
 agrees_by zones d xs w given years None e h = cc

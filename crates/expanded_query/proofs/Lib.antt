@@ -1,4 +1,6 @@
 pub mod TitleLemmas
+pub mod NameLemmas
+pub mod NamedLemmas
 pub mod Searched
 pub mod Sorted
 pub mod RefusalLemmas

@@ -22,19 +22,19 @@ other_put j k v p ps h e false true b s =
     let unlike : bytes_eq p.0 k ≡ false = ap (λ i. bytes_eq i k) ((bytes_eq-Decides p.0 j).0 s) ∙ h in rw (b, s, h, unlike) refl
 other_put j k v p ps h e false false b s = rw (b, s, h) refl
 
-lookup_with_other : (j k : List ℕ) (v : Data) (ps : List Pair) → bytes_eq j k ≡ false → lookup k (with_pair j v ps) ≡ lookup k ps
+pub lookup_with_other : (j k : List ℕ) (v : Data) (ps : List Pair) → bytes_eq j k ≡ false → lookup k (with_pair j v ps) ≡ lookup k ps
 lookup_with_other j k v [] h = rw h refl
 lookup_with_other j k v (p ∷ ps) h = other_put j k v p ps h (lookup_with_other j k v ps h) (is_lt (slice_cmp nat_cmp p.0 j)) (bytes_eq p.0 j) refl refl
 
 -- what stands at `title` stays
-title_stays : (key : List ℕ) (ms : List Pair) → lookup (codes "title") (pairs_of (members_of (with_pair (codes "start") (text key) (single ms)))) ≡ lookup (codes "title") ms
+pub title_stays : (key : List ℕ) (ms : List Pair) → lookup (codes "title") (pairs_of (members_of (with_pair (codes "start") (text key) (single ms)))) ≡ lookup (codes "title") ms
 title_stays key ms =
     ap (lookup (codes "title")) (pairs_back (with_pair (codes "start") (text key) (single ms)))
     ∙ lookup_with_other (codes "start") (codes "title") (text key) (single ms) refl
     ∙ lookup_without (codes "recurrenceOverrides") (codes "title") (without (codes "recurrenceRules") ms) refl
     ∙ lookup_without (codes "recurrenceRules") (codes "title") ms refl
 
-title_of_members : (d : Data) → lookup (codes "title") (members_in d) ≡ field (codes "title") d
+pub title_of_members : (d : Data) → lookup (codes "title") (members_in d) ≡ field (codes "title") d
 title_of_members null = refl
 title_of_members (truth b) = refl
 title_of_members (whole n) = refl
@@ -53,7 +53,3 @@ own_title key d h =
 pub title_patched : (key : List ℕ) (d : Data) (patch : List Pair) → Some patch ≡ override_at key d → title_in (occurrence_in (members_in d) key patch) ≡ title_at key d
 unfolding title_at
 title_patched key d patch h = ap (λ o. title_in (occurrence_in (members_in d) key (unwrap_or o []))) h
-
--- an event without overrides has none at any key
-pub no_overrides : (key : List ℕ) (d : Data) → None ≡ field (codes "recurrenceOverrides") d → text_or_empty (codes "title") d ≡ title_at key d
-no_overrides key d h = own_title key d (rw (sym h) refl)

@@ -44,7 +44,7 @@ impl<'a> FoundOccurrence<'a> {
         requires { is_in_years occurrence.now.rid ≡ true }
         ensures { IfOk result (λ found. found_result found ≡ occurrence_result (instant_in (tz_view source.now.rule)) source.now.number (data_of source.now.event.now) occurrence.now) }
     {
-        let title = own_title(alloc, source.event, occurrence.rid)?;
+        let title = own_title(alloc, source, occurrence.rid)?;
         Ok(FoundOccurrence {
             source,
             rid: occurrence.rid,

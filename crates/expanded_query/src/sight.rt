@@ -1,9 +1,10 @@
 //! What a query sees of events whose occurrences are results.
-ghost use Rattle.std.specs.Prelude.{◌≡◌, IfOk, Some, flat_map, option_map, unwrap_or};
+ghost use Rattle.std.specs.Prelude.{◌≡◌, IfOk, IfSome, Some, flat_map, option_map, unwrap_or};
 ghost use Rattle.event_store.specs.StoredEvents.{HasItsSeries};
 ghost use Rattle.jiff_tz.specs.PosixText.{tz_view};
 ghost use Rattle.occurrence_windows.specs.Bounds.{AreNear};
 ghost use Rattle.expanded_query.specs.Founds.{given_by};
+ghost use Rattle.expanded_query.specs.OwnTitles.{NamesOverrides};
 ghost use Rattle.spec_json.specs.Parts.{some_of};
 ghost use Rattle.spec_json.specs.TreeData.{data_of};
 ghost use Rattle.spec_queries.specs.Expanded.{results_by};
@@ -92,6 +93,7 @@ fn source_of<'a>(
     series: Option<&'a Series>,
     rule: Option<TimeZone>,
 ) -> Option<Source<'a>>
+    requires { IfSome series (λ s. NamesOverrides s.now (data_of event.now)) }
     ensures { (w : Window) → flat_map (given_by w) (some_of result) ≡ results_by (option_map (λ s. s.now) series.entry) (option_map tz_view rule) w number (data_of event.now) }
 {
     match (series, rule) {

@@ -1,5 +1,6 @@
 //! Events whose occurrences are results.
 ghost use Rattle.std.specs.Prelude.{◌≡◌, codes};
+ghost use Rattle.expanded_query.specs.OwnTitles.{NamesOverrides};
 ghost use Rattle.spec_events.specs.Events.{has_recurrence};
 ghost use Rattle.spec_json.specs.TreeData.{data_of};
 ghost use Rattle.spec_queries.specs.Items.{text_or_empty, utc_moment};
@@ -31,6 +32,7 @@ pub(crate) struct Source<'a> {
     ghost created_is: { created ≡ utc_moment (codes "created") (data_of event.now) },
     ghost updated_is: { updated ≡ utc_moment (codes "updated") (data_of event.now) },
     ghost recurs_is: { recurs ≡ has_recurrence (data_of event.now) },
+    ghost names: { NamesOverrides series.now (data_of event.now) },
 }
 
 impl<'a> Source<'a> {
@@ -41,6 +43,7 @@ impl<'a> Source<'a> {
         series: &'a Series,
         rule: TimeZone,
     ) -> Source<'a>
+        requires { NamesOverrides series.now (data_of event.now) }
         ensures number { result.number ≡ number }
         ensures event { result.event.now ≡ event.now }
         ensures series { result.series.now ≡ series.now }
