@@ -1,4 +1,3 @@
-pub mod Replying
 pub mod Exchanging
 pub mod Messaging
 pub mod Standing

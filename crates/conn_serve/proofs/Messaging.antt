@@ -20,8 +20,9 @@ use Rattle.spec_batch.specs.declared.desk.DeskError.TheVariants.{NoMemory}
 use Rattle.spec_batch.specs.declared.desk.Front.{Front}
 use Rattle.spec_core.specs.declared.user.User.{User}
 use Rattle.conn_serve.proofs.Exchanging.{told_none}
-use Rattle.conn_serve.specs.Answering.{AnswerHow, AnswersMessage, IsOutcome, OutcomeHow, outcome_response}
-use Rattle.conn_serve.specs.declared.reply.RequestOutcome.{RequestOutcome}
+use Rattle.conn_serve.specs.Answering.{AnswerHow, AnswersMessage, outcome_response}
+use Rattle.request_reply.specs.Outcomes.{IsOutcome, OutcomeHow}
+use Rattle.request_reply.specs.declared.reply.RequestOutcome.{RequestOutcome}
 
 -- ---- the clock
 

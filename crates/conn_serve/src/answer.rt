@@ -5,13 +5,13 @@ ghost use Rattle.spec_connection.specs.Routes.{api, route};
 ghost use Rattle.conn_serve.specs.Answering.{AnswersMessage, outcome_response};
 ghost use Rattle.http_edge.specs.Reading.{message_shown};
 
-use crate::reply::{RequestOutcome, reply_to};
 use crate::route::{Route, route_of, success, with_problem};
 use crate::tell::tell_answered;
 use http_edge::message::Message;
 use http_edge::response::response_bytes;
 use io_edge::clock::Clock;
 use request_log::request::RequestLog;
+use request_reply::reply::{RequestOutcome, reply_to};
 use session_doc::Site;
 use spec_batch::desk::{Desk, DeskError, Front};
 use spec_time::moment::Moment;

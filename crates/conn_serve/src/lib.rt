@@ -3,7 +3,6 @@
 
 mod answer;
 pub mod laws;
-pub mod reply;
 mod route;
 pub mod serve;
 mod tell;

@@ -21,8 +21,8 @@ use Rattle.spec_batch.specs.declared.desk.Front.{Front}
 use Rattle.jmapd_run.specs.declared.status.Status.{Status}
 use Rattle.jmapd_run.specs.declared.status.Status.TheVariants.{Done, Refused}
 use Rattle.spec_core.specs.declared.user.User.{User}
-use Rattle.conn_serve.specs.Answering.{IsOutcome, OutcomeHow}
-use Rattle.conn_serve.specs.declared.reply.RequestOutcome.{RequestOutcome}
+use Rattle.request_reply.specs.Outcomes.{IsOutcome, OutcomeHow}
+use Rattle.request_reply.specs.declared.reply.RequestOutcome.{RequestOutcome}
 use Rattle.jmapd_run.specs.Runs.{BatchEnds}
 use Rattle.jmapd_run.specs.declared.batch.Answer.{Answer}
 

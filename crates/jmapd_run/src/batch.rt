@@ -7,7 +7,7 @@ ghost use Rattle.jmapd_run.specs.Runs.{RunsBatch};
 
 use crate::status::Status;
 use account_desk::sole_desk::SoleDesk;
-use conn_serve::reply::{RequestOutcome, reply_to};
+use request_reply::reply::{RequestOutcome, reply_to};
 use io_edge::clock::Clock;
 use io_edge::sink::{Sink, put_all};
 use io_edge::source::{InputError, Source, read_up_to};

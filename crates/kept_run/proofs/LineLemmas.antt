@@ -1,8 +1,8 @@
 -- One line.
 use Rattle.std.proofs.Common.{◌≡◌, ◌+◌, ◌<◌, ◌≤◌, ◌++◌, ◌∷◌, [], ℕ, ℤ, List, Option, Ok, Err, inl, inr, refl, sym, ap, subst, arith}
 use Rattle.account_desk.specs.SoleDesk.{shown_of}
-use Rattle.conn_serve.specs.Answering.{IsOutcome, OutcomeHow}
-use Rattle.conn_serve.specs.declared.reply.RequestOutcome.{RequestOutcome}
+use Rattle.request_reply.specs.Outcomes.{IsOutcome, OutcomeHow}
+use Rattle.request_reply.specs.declared.reply.RequestOutcome.{RequestOutcome}
 use Rattle.io_edge.specs.Outside.{Grows, GrowsByPrefix, Rose, SinkShown, Ticks}
 use Rattle.journal_keeper.specs.Journals.{FailsToKeep, KeeperShown}
 use Rattle.kept_run.specs.Lines.{Accounts, HasMore, IsAnsweredLine, Line, MayAllGoOn, NewAreReadBack, counts, texts_behind}

@@ -7,7 +7,7 @@ ghost use Rattle.spec_history.specs.MostTurns.{most_turns};
 
 use crate::texts::{counts_of, keep_new};
 use account_desk::sole_desk::SoleDesk;
-use conn_serve::reply::{RequestOutcome, reply_to};
+use request_reply::reply::{RequestOutcome, reply_to};
 use io_edge::clock::Clock;
 use io_edge::sink::{Sink, put_all};
 use journal_keeper::keeper::{KeepError, Keeper};

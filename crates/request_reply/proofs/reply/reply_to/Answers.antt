@@ -1,9 +1,9 @@
 use Rattle.std.proofs.Common.{◌∙◌, ap, rules, subst, sym}
 use Rattle.spec_batch.specs.Asked.{Asked}
 use Rattle.spec_batch.specs.Reply.{asked_by_reading}
-use Rattle.conn_serve.proofs.Replying.{as_read, no_reply, over_limit, refused_reply}
-use Rattle.conn_serve.specs.Answering.{IsOutcome}
-use Rattle.conn_serve.proofs.reply.reply_to.Goals as goal
+use Rattle.request_reply.proofs.Replying.{as_read, no_reply, over_limit, refused_reply}
+use Rattle.request_reply.specs.Outcomes.{IsOutcome}
+use Rattle.request_reply.proofs.reply.reply_to.Goals as goal
 
 pub returns-then-bytes-gt-MAX_SIZE_REQUEST : goal.returns-then-bytes-gt-MAX_SIZE_REQUEST
 returns-then-bytes-gt-MAX_SIZE_REQUEST g c = refused_reply c.refusal.result (over_limit c.args.bytes.now (search rules)) c.refusal.ensures

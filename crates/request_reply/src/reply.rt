@@ -1,9 +1,9 @@
-//! The reply to the body of a request.
+//! The reply to a request.
 ghost use Rattle.std.specs.Prelude.{◌<◌, All};
 ghost use Rattle.spec_batch.specs.Asked.{asked_by};
 ghost use Rattle.spec_batch.specs.Reply.{asked_in};
 ghost use Rattle.spec_json.specs.TreeData.{data_of};
-ghost use Rattle.conn_serve.specs.Answering.{IsProblem, IsOutcome};
+ghost use Rattle.request_reply.specs.Outcomes.{IsProblem, IsOutcome};
 
 use batch_exec::problem::problem_tree;
 use batch_exec::run::run_batch;
@@ -51,7 +51,8 @@ pub fn reply_to<D: Desk>(
     }
 }
 
-fn reply_to_tree<D: Desk>(
+/// Answers a request that is read, as `reply_to` does.
+pub fn reply_to_tree<D: Desk>(
     alloc: Global,
     request: Tree,
     user: &User,
@@ -73,7 +74,8 @@ fn reply_to_tree<D: Desk>(
     }
 }
 
-fn refusal(alloc: Global, error: RequestError) -> Result<RequestOutcome, DeskError>
+/// The problem that tells why a request is refused as a whole (RFC 8620 section 3.6.1). Takes memory for it.
+pub fn refusal(alloc: Global, error: RequestError) -> Result<RequestOutcome, DeskError>
     ensures { IsProblem error result }
 {
     match problem_tree(alloc, error) {

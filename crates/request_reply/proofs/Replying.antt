@@ -1,22 +1,17 @@
 -- What a batch made of a request is a reply to it.
-use Rattle.std.proofs.Common.{◌≡◌, ℕ, ℤ, ◌≤◌, List, [], ◌∷◌, Bool, true, false, Option, Some, None, Result, Ok, Err, inl, inr, length, length-append, map, refl, sym, ap, ◌∙◌, subst, arith, append-nil, true≢false}
+use Rattle.std.proofs.Common.{◌≡◌, ℕ, ℤ, ◌≤◌, List, [], Bool, true, false, Result, Ok, Err, inl, inr, length, refl, sym, ap, ◌∙◌, subst, arith, append-nil}
 use Rattle.std.proofs.lemmas.Bool.Decides.{nat_tests}
-use Rattle.std.proofs.lemmas.List.{length-map}
-use Rattle.std.specs.Prelude.{◌<◌, if◌then◌else◌, not, nat_lt}
+use Rattle.std.specs.Prelude.{◌<◌, nat_lt}
 use Rattle.spec_batch.proofs.CallCounts.{few_asked, few_calls}
 use Rattle.spec_batch.proofs.Chains.{still}
-use Rattle.spec_batch.specs.Asked.{Asked, asked, asked_by, checked, is_refused, refused}
-use Rattle.spec_core.specs.Capabilities.{is_capability}
-use Rattle.std.specs.List.{list_all}
+use Rattle.spec_batch.specs.Asked.{Asked, asked, asked_by, is_refused, refused}
 use Rattle.spec_batch.specs.Batch.{IsBatch, IsBegun, IsStopped, IsUntouched, NextMeans, Step, made_in}
-use Rattle.spec_core.specs.declared.limits.TheConstants.{MAX_CALLS_IN_REQUEST, MAX_SIZE_REQUEST}
+use Rattle.spec_core.specs.declared.limits.TheConstants.{MAX_SIZE_REQUEST}
 use Rattle.spec_batch.specs.Reply.{BeginsReply, Replies, asked_by_reading, asked_in}
-use Rattle.spec_batch.specs.Requests.{request_of}
 use Rattle.spec_json.specs.Json.{reading}
-use Rattle.spec_json.specs.Parts.{some_of}
-use Rattle.spec_batch.specs.declared.request.Limit.TheVariants.{CallsInRequest, SizeRequest}
-use Rattle.spec_batch.specs.declared.request.RequestError.TheVariants.{Limit, UnknownCapability}
-use Rattle.spec_batch.specs.Chain.{Made, Shown, Stops}
+use Rattle.spec_batch.specs.declared.request.Limit.TheVariants.{SizeRequest}
+use Rattle.spec_batch.specs.declared.request.RequestError.TheVariants.{Limit}
+use Rattle.spec_batch.specs.Chain.{Shown, Stops}
 use Rattle.spec_json.specs.Data.{Data}
 use Rattle.spec_json.specs.TreeData.{data_of}
 use Rattle.spec_batch.specs.declared.desk.DeskError.{DeskError}
@@ -25,12 +20,11 @@ use Rattle.spec_batch.specs.declared.desk.Front.{Front}
 use Rattle.spec_batch.specs.declared.request.BatchError.{BatchError}
 use Rattle.spec_batch.specs.declared.request.BatchError.TheVariants as batch
 use Rattle.spec_batch.specs.declared.request.Invocation.{Invocation}
-use Rattle.spec_batch.specs.declared.request.Request.{Request}
 use Rattle.spec_batch.specs.declared.request.RequestError.{RequestError}
 use Rattle.spec_json.specs.declared.tree.Tree.{Tree}
 use Rattle.spec_core.specs.declared.user.User.{User}
-use Rattle.conn_serve.specs.Answering.{IsProblem, IsOutcome}
-use Rattle.conn_serve.specs.declared.reply.RequestOutcome.{RequestOutcome}
+use Rattle.request_reply.specs.Outcomes.{IsProblem, IsOutcome}
+use Rattle.request_reply.specs.declared.reply.RequestOutcome.{RequestOutcome}
 
 module _ {user : User} {moment : ℤ} where
   -- ---- nothing was called

@@ -1,6 +1,6 @@
 use Rattle.spec_json.specs.TreeData.{data_of}
-use Rattle.conn_serve.proofs.Replying.{batch_reply, memory_of_batch, refused_of_batch, spent_of_batch}
-use Rattle.conn_serve.proofs.reply.reply_to_tree.Goals as goal
+use Rattle.request_reply.proofs.Replying.{batch_reply, memory_of_batch, refused_of_batch, spent_of_batch}
+use Rattle.request_reply.proofs.reply.reply_to_tree.Goals as goal
 
 pub returns-in-Ok : goal.returns-in-Ok
 returns-in-Ok g c = batch_reply (data_of c.args.request) c.in-Ok.tree c.in-Ok.ensures
