@@ -7,7 +7,8 @@ use Rattle.spec_history.specs.History.{changes_of}
 use Rattle.spec_http.specs.Messages.{Message}
 use Rattle.spec_http.specs.Responses.{response_text}
 use Rattle.spec_connection.specs.Routes.{Route, api, direct, route}
-use Rattle.spec_connection.specs.Exchanges.{AllFit, Fits, FitsApi, FitsDirect, Ticked, Exchange, all_bytes, all_made, all_moments, api_response, at_once, by_calls, closes, messages_of}
+use Rattle.spec_connection.specs.Answered.{Ticked}
+use Rattle.spec_connection.specs.Exchanges.{AllFit, Fits, FitsApi, FitsDirect, Exchange, all_bytes, all_made, all_moments, api_response, at_once, by_calls, closes, messages_of}
 use Rattle.spec_site.specs.Configuration.{Site, user_at}
 use Rattle.spec_history.specs.declared.entry.Entry.{Entry}
 use Rattle.account_desk.specs.Determined.{AreAlike, ConnectionsAreDetermined}

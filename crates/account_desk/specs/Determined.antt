@@ -4,7 +4,8 @@ use Rattle.account_desk.specs.FreshDesk.{IsSole, account_rules}
 use Rattle.spec_batch.specs.Asked.{Asked}
 use Rattle.spec_batch.specs.Chain.{Made, Chain, Shown}
 use Rattle.spec_batch.specs.Reply.{Replies}
-use Rattle.spec_connection.specs.Exchanges.{AllFit, Ticked, Exchange, all_bytes, all_made, all_moments, messages_of}
+use Rattle.spec_connection.specs.Answered.{Ticked}
+use Rattle.spec_connection.specs.Exchanges.{AllFit, Exchange, all_bytes, all_made, all_moments, messages_of}
 use Rattle.spec_core.specs.declared.user.User.{User}
 use Rattle.spec_history.specs.History.{changes_of}
 use Rattle.spec_json.specs.Data.{Data}

@@ -1,8 +1,7 @@
 -- One message and its response.
-use Rattle.std.proofs.Common.{◌≡◌, ℕ, ℤ, zero, suc, ◌+◌, ◌≤◌, List, [], ◌∷◌, ◌++◌, Bool, Option, Some, None, Result, Ok, Err, inl, inr, Vec, length, map, refl, sym, ap, ◌∙◌, subst, arith, append-nil}
+use Rattle.std.proofs.Common.{◌≡◌, ℕ, ℤ, ◌+◌, ◌≤◌, List, [], ◌∷◌, ◌++◌, Bool, Option, Result, Ok, Err, inl, inr, Vec, length, map, refl, sym, ap, ◌∙◌, subst, arith, append-nil}
 use Rattle.std.specs.Prelude.{◌⊎◌}
 use Rattle.std.specs.declared.alloc.Global.{Global}
-use Rattle.spec_batch.proofs.Chains.{still}
 use Rattle.spec_batch.specs.Asked.{Asked, asked, is_refused, refused}
 use Rattle.spec_time.specs.Moments.{clamped}
 use Rattle.spec_batch.specs.Reply.{BeginsReply, Replies, asked_in}
@@ -10,8 +9,10 @@ use Rattle.spec_batch.specs.Chain.{Made, Chain, Shown, front_of}
 use Rattle.spec_json.specs.Data.{Data}
 use Rattle.spec_http.specs.Messages.{Message}
 use Rattle.spec_http.specs.Responses.{Response, response_text}
+use Rattle.spec_connection.proofs.InOrder.{answered_at, unasked}
+use Rattle.spec_connection.specs.Answered.{AnsweredInOrder}
 use Rattle.spec_connection.specs.Routes.{Route, api, direct, route}
-use Rattle.spec_connection.specs.Exchanges.{Told, Ticked, Exchange, api_response, at_once, by_calls, called, moment_behind, moments_for, uncalled}
+use Rattle.spec_connection.specs.Exchanges.{Told, Exchange, api_response, at_once, by_calls, called, moments_for, uncalled}
 use Rattle.io_edge.specs.Outside.{Ticks}
 use Rattle.spec_site.specs.Configuration.{Site, user_at}
 use Rattle.spec_json.specs.TreeData.{data_of}
@@ -19,29 +20,17 @@ use Rattle.spec_batch.specs.declared.desk.DeskError.{DeskError}
 use Rattle.spec_batch.specs.declared.desk.DeskError.TheVariants.{NoMemory}
 use Rattle.spec_batch.specs.declared.desk.Front.{Front}
 use Rattle.spec_core.specs.declared.user.User.{User}
-use Rattle.conn_serve.proofs.Exchanging.{told_none}
 use Rattle.conn_serve.specs.Answering.{AnswerHow, AnswersMessage, outcome_response}
 use Rattle.request_reply.specs.Outcomes.{IsOutcome, OutcomeHow}
 use Rattle.request_reply.specs.declared.reply.RequestOutcome.{RequestOutcome}
-
--- ---- the clock
-
-first_tick : (a b : ℕ → ℤ) (r : ℤ) → r ≡ a 0 → ((n : ℕ) → b n ≡ a (n + 1)) → (n : ℕ) → a n ≡ moment_behind (r ∷ []) b n
-first_tick a b r one rest zero = sym one
-first_tick a b r one rest (suc n) = (let e : suc n ≡ n + 1 = omega arith in ap a e ∙ sym (rest n))
-
-ticked_one : (a b : Option (ℕ → ℤ)) (r : ℤ) → Ticks a b r → Ticked a b (r ∷ [])
-ticked_one None b r h = tt
-ticked_one (Some a) None r h = absurd h
-ticked_one (Some a) (Some b) r h = first_tick a b r h.0 h.1
 
 -- ---- no call was made
 
 abbrev quiet : Message → List ℕ → Exchange
 quiet message bytes = record { message = message; moments = []; made = []; bytes = bytes }
 
-told_quiet : {message : Message} {c : Option (ℕ → ℤ)} {f : List Front} {d : Shown} (bytes : List ℕ) → Told c c f f d d (quiet message bytes ∷ [])
-told_quiet {message} {c} {f} {d} bytes = record { ticked = (told_none c f d).ticked; added = sym (append-nil f); chain = still d; few = omega arith }
+told_quiet : {c : Option (ℕ → ℤ)} {f : List Front} {d : Shown} (message : Message) (bytes : List ℕ) → Told c c f f d d (quiet message bytes ∷ [])
+told_quiet {c} {f} {d} message bytes = unasked c f d 1
 
 module _ {site : Site} {close : Bool} {message : Message} {c : Option (ℕ → ℤ)} {f : List Front} {d : Shown} where
   pub answered_at_once : {r : Route} {response : Response} (v : Vec ℕ Global) → r ≡ route site close message → r ≡ direct response → v.items ≡ response_text response → AnswersMessage site close message c c f f d d (Ok v)
@@ -49,12 +38,12 @@ module _ {site : Site} {close : Bool} {message : Message} {c : Option (ℕ → �
     exchange = quiet message v.items;
     is = refl;
     desk = d;
-    told = told_quiet v.items;
+    told = told_quiet message v.items;
     how = (at_once (record { response = response; routed = sym routes ∙ is; unread = refl; uncalled = refl; shows = shows }), refl, refl);
   }
 
   pub not_answered : AnswersMessage site close message c c f f d d (Err NoMemory)
-  not_answered = record { exchange = quiet message []; is = refl; desk = d; told = told_quiet []; how = uncalled refl (omega arith) refl refl }
+  not_answered = record { exchange = quiet message []; is = refl; desk = d; told = told_quiet message []; how = uncalled refl (omega arith) refl refl }
 
 -- ---- calls were made
 
@@ -63,12 +52,8 @@ exchange_at message told made bytes = record { message = message; moments = told
 
 told_one : {c0 c1 : Option (ℕ → ℤ)} {f0 f1 : List Front} {d0 d1 : Shown} (message : Message) (told : ℤ) (made : List Made) (bytes : List ℕ)
     → Ticks c0 c1 told → f1 ≡ f0 ++ map front_of made → Chain d0 d1 made → length made ≤ 16 → Told c0 c1 f0 f1 d0 d1 (exchange_at message told made bytes ∷ [])
-told_one {c0} {c1} {f0} {f1} {d0} {d1} message told made bytes ticks fronts chain few = record {
-  ticked = ticked_one c0 c1 told ticks;
-  added = fronts ∙ ap (λ (l : List Made). f0 ++ map front_of l) (sym (append-nil made));
-  chain = subst (Chain d0 d1) (sym (append-nil made)) chain;
-  few = (let e = ap length (append-nil made) in omega (arith, few, e));
-}
+told_one {c0} {c1} {f0} {f1} {d0} {d1} message told made bytes ticks fronts chain few =
+    subst (λ (l : List Made). AnsweredInOrder c0 c1 f0 f1 d0 d1 (told ∷ []) l 1) (sym (append-nil made)) (answered_at c0 c1 f0 f1 d0 d1 told made ticks fronts chain few)
 
 begins_whole : (user : User) (moment : ℤ) (what : Asked) (made : List Made) (d : Data) (u v : Shown) → Replies user moment what made d → v ≡ u → (made ≡ []) ⊎ BeginsReply user moment what made NoMemory u v
 begins_whole user moment (asked r) made d u v h same =

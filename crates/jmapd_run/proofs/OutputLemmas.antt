@@ -15,7 +15,8 @@ use Rattle.cal_model.specs.Answer.{added, answer}
 use Rattle.command_line.specs.Commands.{Command}
 use Rattle.jmapd_run.specs.Headline.{AnswersInput, IsAnswer, IsWorkText, Surroundings}
 use Rattle.spec_connection.specs.Serving.{refusal_text}
-use Rattle.spec_connection.specs.Exchanges.{Ticked, all_bytes, all_moments, messages_of}
+use Rattle.spec_connection.specs.Answered.{Ticked}
+use Rattle.spec_connection.specs.Exchanges.{all_bytes, all_moments, messages_of}
 use Rattle.spec_json.specs.Json.{text_of}
 use Rattle.io_edge.specs.Outside.{Grows, OpenerShown, Ticks}
 use Rattle.spec_site.specs.Configuration.{Site, built_in, user_at}

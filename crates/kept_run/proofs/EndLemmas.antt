@@ -9,7 +9,7 @@ use Rattle.io_edge.proofs.OutsideLemmas.{Grows-trans}
 use Rattle.io_edge.specs.Outside.{Grows, Rose, SinkShown, Ticks}
 use Rattle.jmapd_run.specs.declared.status.Status.TheVariants.{Done, NoMemory, WriteFault}
 use Rattle.journal_keeper.specs.Journals.{FailsToKeep, KeeperShown, Kept}
-use Rattle.kept_run.proofs.Clocks.{ticked_join, ticked_one}
+use Rattle.spec_connection.proofs.InOrder.{ticked_join, ticked_one}
 use Rattle.kept_run.proofs.LoopLemmas.{Standing, answered_more, bytes_of, feeds_more, left_more, moments_of, more_join, responses_more, texts_more}
 use Rattle.kept_run.proofs.TextLemmas.{same_count}
 use Rattle.kept_run.specs.Lines.{Accounts, AreAnsweredLines, HasMore, IsAnsweredLine, Line, all_texts, left_by, line_texts, response, responses}
@@ -22,7 +22,7 @@ use Rattle.jmapd_run.specs.declared.kept_status.KeptStatus.{KeptStatus}
 use Rattle.jmapd_run.specs.declared.kept_status.KeptStatus.TheVariants.{Plain, KeepFault}
 use Rattle.line_edge.specs.Lines.{with_feeds}
 use Rattle.spec_batch.proofs.Chains.{turns_counted}
-use Rattle.spec_connection.specs.Exchanges.{Ticked}
+use Rattle.spec_connection.specs.Answered.{Ticked}
 use Rattle.spec_site.specs.Configuration.{Site}
 
 -- ---- lists

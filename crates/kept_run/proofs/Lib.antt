@@ -2,7 +2,6 @@ pub mod TextLemmas
 pub mod OpenLemmas
 pub mod TurnLemmas
 pub mod LineLemmas
-pub mod Clocks
 pub mod LoopLemmas
 pub mod EndLemmas
 pub mod StepLemmas

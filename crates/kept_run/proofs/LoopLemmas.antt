@@ -8,11 +8,11 @@ use Rattle.std.specs.Prelude.{All}
 use Rattle.io_edge.proofs.OutsideLemmas.{Grows-nil}
 use Rattle.io_edge.specs.Outside.{Grows, SourceShown}
 use Rattle.journal_keeper.specs.Journals.{Kept, Keeps, Labelled}
-use Rattle.kept_run.proofs.Clocks.{ticked_none}
+use Rattle.spec_connection.proofs.InOrder.{ticked_none}
 use Rattle.kept_run.specs.Lines.{Accounts, AreAnsweredLines, HasMore, IsAnsweredLine, Line, all_texts, left_by, line_texts, response, responses}
 use Rattle.kept_run.specs.Runs.{IsAnswerable, KeptSetting}
 use Rattle.line_edge.specs.Lines.{with_feeds}
-use Rattle.spec_connection.specs.Exchanges.{Ticked}
+use Rattle.spec_connection.specs.Answered.{Ticked}
 use Rattle.spec_site.specs.Configuration.{Site}
 
 -- ---- what a keeper has

@@ -15,7 +15,7 @@ use Rattle.kept_run.specs.declared.status.KeptDone.{KeptDone}
 use Rattle.jmapd_run.specs.declared.kept_status.KeptStatus.{KeptStatus}
 use Rattle.jmapd_run.specs.declared.kept_status.KeptStatus.TheVariants.{Plain, KeepFault, Damaged, BadJournal}
 use Rattle.line_edge.specs.Lines.{HasNoFeed, IsTooLong, with_feeds}
-use Rattle.spec_connection.specs.Exchanges.{Ticked}
+use Rattle.spec_connection.specs.Answered.{Ticked}
 use Rattle.spec_connection.specs.Serving.{IsPrefixOf}
 use Rattle.spec_core.specs.declared.limits.TheConstants.{MAX_SIZE_REQUEST}
 use Rattle.spec_history.specs.Base.{Base}

@@ -1,12 +1,13 @@
 -- A message of a connection and what came of it.
-use Rattle.std.specs.Prelude.{◌≡◌, ℕ, ℤ, zero, suc, ◌+◌, ◌*◌, ◌≤◌, ◌==◌, ◌||◌, List, [], ◌∷◌, ◌++◌, Bool, Option, Some, None, flat_map, length, map, ⊤}
+use Rattle.std.specs.Prelude.{◌≡◌, ℕ, ℤ, suc, ◌+◌, ◌≤◌, ◌==◌, ◌||◌, List, [], ◌∷◌, Bool, Option, flat_map, length, map, ⊤}
 use Rattle.spec_batch.specs.Asked.{Asked, asked, refused}
-use Rattle.spec_batch.specs.Chain.{Made, Chain, Shown, front_of}
+use Rattle.spec_batch.specs.Chain.{Made, Shown}
 use Rattle.spec_json.specs.Data.{Data}
 use Rattle.spec_time.specs.Moments.{clamped}
 use Rattle.spec_batch.specs.Reply.{BeginsReply, Replies, asked_in}
 use Rattle.spec_http.specs.Messages.{Message}
 use Rattle.spec_http.specs.Responses.{Response, response_text}
+use Rattle.spec_connection.specs.Answered.{AnsweredInOrder}
 use Rattle.spec_connection.specs.Routes.{Route, api, direct, route, success, with_problem}
 use Rattle.spec_json.specs.Json.{text_of}
 use Rattle.spec_site.specs.Configuration.{Site, user_at}
@@ -91,22 +92,6 @@ abbrev pub AllFit : Site → ℕ → ℕ → List Exchange → Type 0
 AllFit site most before [] = ⊤
 AllFit site most before (t ∷ ts) = Fits site (closes most before t.message) t × AllFit site most (suc before) ts
 
--- the moments by the number of the call: these first, and then those that are still to come
-abbrev pub moment_behind : List ℤ → (ℕ → ℤ) → ℕ → ℤ
-moment_behind [] now n = now n
-moment_behind (t ∷ ts) now zero = t
-moment_behind (t ∷ ts) now (suc n) = moment_behind ts now n
-
--- a clock that tells its moments gave just these, in order
-abbrev pub Ticked : Option (ℕ → ℤ) → Option (ℕ → ℤ) → List ℤ → Type 0
-Ticked None now ts = ⊤
-Ticked (Some old) None ts = ⊥
-Ticked (Some old) (Some now) ts = (n : ℕ) → old n ≡ moment_behind ts now n
-
--- What clock, fronts and desk were before and after these exchanges. All calls together are one chain.
-pub record Told (clock clock' : Option (ℕ → ℤ)) (fronts fronts' : List Front) (d d' : Shown) (ts : List Exchange) : Type 0 where
-  pub ticked : Ticked clock clock' (all_moments ts)
-  pub added : fronts' ≡ fronts ++ map front_of (all_made ts)
-  pub chain : Chain d d' (all_made ts)
-  -- a request has at most 16 calls
-  pub few : length (all_made ts) ≤ 16 * length ts
+-- what clock, fronts and desk were before and after these exchanges
+abbrev pub Told : Option (ℕ → ℤ) → Option (ℕ → ℤ) → List Front → List Front → Shown → Shown → List Exchange → Type 0
+Told clock clock' fronts fronts' d d' ts = AnsweredInOrder clock clock' fronts fronts' d d' (all_moments ts) (all_made ts) (length ts)

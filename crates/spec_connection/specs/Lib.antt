@@ -1,3 +1,4 @@
 pub mod Routes
+pub mod Answered
 pub mod Exchanges
 pub mod Serving
