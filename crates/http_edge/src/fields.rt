@@ -4,10 +4,10 @@ ghost use Rattle.std.specs.List.{All, list_any};
 ghost use Rattle.std.specs.Str.{IsAscii};
 ghost use Rattle.std.specs.Str.Parse.{digits_value};
 ghost use Rattle.httparse.specs.Spans.{IsHeaderWithin, header_bytes};
-ghost use Rattle.spec_core.specs.Names.{is_token};
-ghost use Rattle.spec_http.specs.Fields.{asks_close, bearer_token, first_value, is_length, length_said, same_word, says_close, token_of, value_if_named, values_of};
+ghost use Rattle.spec_http.specs.Fields.{asks_close, first_value, is_length, length_said, same_word, says_close, token_of, value_if_named, values_of};
 ghost use Rattle.http_edge.specs.Reading.{length_shown, length_step};
 
+use crate::token::bearer_token;
 use httparse::spans::HeaderSpan;
 use spec_json::text::Text;
 use std::alloc::{AllocError, Global};
@@ -136,38 +136,8 @@ pub fn token_in(
 {
     match first_of(head, fields, b"authorization") {
         None => Ok(None),
-        Some(value) => bearer(alloc, value),
+        Some(value) => bearer_token(alloc, value),
     }
-}
-
-// The token that a value shows.
-#[tactic(auto, using(crate::proofs::Ascii::token_ascii))]
-fn bearer(alloc: Global, value: &[u8]) -> Result<Option<Text>, AllocError>
-    ensures { IfOk result (λ token. token ≡ bearer_token value.now) }
-{
-    if value.len() < 7 {
-        return Ok(None);
-    }
-    let (scheme, token) = value.split_at(7);
-    if !is_same_word(scheme, b"bearer ") || !is_token_text(token) {
-        return Ok(None);
-    }
-    Ok(Some(ascii_text(alloc, token)?))
-}
-
-// Whether the bytes are 1 to 255 from `!` to `~`.
-fn is_token_text(bytes: &[u8]) -> bool
-    ensures { result ≡ is_token bytes.now }
-{
-    if bytes.is_empty() || bytes.len() > 255 {
-        return false;
-    }
-    for byte in bytes {
-        if !byte.is_ascii_graphic() {
-            return false;
-        }
-    }
-    true
 }
 
 /// Copies bytes that are ASCII. Takes memory for them.

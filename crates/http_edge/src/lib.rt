@@ -10,3 +10,4 @@ pub mod message;
 pub mod next;
 pub mod response;
 mod search;
+pub mod token;
