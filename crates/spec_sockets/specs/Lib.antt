@@ -1,0 +1,4 @@
+pub mod Texts
+pub mod Links
+pub mod Exchanges
+pub mod Serving
