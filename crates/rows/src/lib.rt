@@ -12,3 +12,5 @@ mod reporting_book;
 mod sockets;
 #[cfg(test)]
 mod system_files;
+#[cfg(test)]
+mod web_sockets;

@@ -1,0 +1,144 @@
+//! What hands out links over TCP.
+ghost use Rattle.std.specs.Prelude.{◌≡◌, ◌≤◌, ◌<◌, None, IfErr, IfOk, IfSome, length};
+ghost use Rattle.io_edge.specs.Outside.{Rose};
+
+use crate::accept::WsAccept;
+use crate::handshake::shake_hands;
+use crate::link::LinkError;
+use crate::socket_link::SocketLink;
+use crate::tcp_end::TcpEnd;
+use session_doc::Site;
+use spec_sockets::served::{WsEnd, WsServed};
+use std::alloc::Global;
+use std::io::{self, ErrorKind};
+use std::net::{Ipv4Addr, Net, OpenListener, SocketAddr};
+use std::time::{Clock, Duration};
+use tungstenite::CloseCode;
+
+/// How long a handshake may take, in seconds.
+const HANDSHAKE_SECONDS: u64 = 10;
+
+/// After how many seconds of silence a peer is asked for a sign of life, and after how many more the link ends.
+const SILENCE_SECONDS: u64 = 30;
+
+/// For how many seconds at most what a peer still sends behind the end is passed over, so that it gets the reason.
+const LINGER_SECONDS: u64 = 2;
+
+/// A link over TCP.
+pub type TcpLink<R> = SocketLink<TcpEnd<<R as Net>::Stream, R>>;
+
+/// Hands out links over localhost, each behind its handshake. It tells nothing of what it was asked for.
+#[derive(Drop)]
+pub struct TcpAccept<R: Net> {
+    alloc: Global,
+    runtime: R,
+    listener: Option<R::Listener>,
+    asked: u64,
+    faults: u64,
+}
+
+impl<R: Net + Clock + Copy + Drop> TcpAccept<R> {
+    /// Makes one over the runtime. TakesMessages no memory.
+    pub fn new(alloc: Global, runtime: R) -> TcpAccept<R>
+        ensures { (result.faults ≡ 0) × (result.asked ≡ 0) }
+    {
+        TcpAccept {
+            alloc,
+            runtime,
+            listener: None,
+            asked: 0,
+            faults: 0,
+        }
+    }
+
+    fn fail(&mut self) -> LinkError
+        ensures later { self.old.faults ≤ self.new.faults }
+        ensures failed { Rose self.old.faults self.new.faults }
+        ensures asked { self.new.asked ≡ self.old.asked }
+        ensures is { result ≡ LinkError.Failed }
+    {
+        self.faults = self.faults.saturating_add(1);
+        LinkError::Failed
+    }
+
+    // The handshake on a connection.
+    fn shake_hands(
+        &self,
+        stream: R::Stream,
+        site: &Site,
+    ) -> Result<Option<(u32, TcpLink<R>)>, LinkError>
+        ensures user { IfOk result (λ found. IfSome found (λ pair. pair.0 < length site.now.users)) }
+        ensures memory { IfErr result (λ error. error ≡ LinkError.NoMemory) }
+    {
+        let patience = Duration::from_secs(HANDSHAKE_SECONDS);
+        let Ok(end) = TcpEnd::until(stream, self.runtime, patience) else {
+            return Ok(None);
+        };
+        let Some((user, mut end)) = shake_hands(self.alloc, end, site)? else {
+            return Ok(None);
+        };
+        match end.wait_at_each_call(Duration::from_secs(SILENCE_SECONDS)) {
+            Ok(()) => Ok(Some((user, SocketLink::new(self.alloc, end)))),
+            Err(_) => Ok(None),
+        }
+    }
+}
+
+// Whether an error of `accept` is that of one connection, and not of the listening socket.
+fn is_of_one(error: &io::Error) -> bool {
+    matches!(
+        error.kind(),
+        ErrorKind::ConnectionAborted | ErrorKind::Interrupted
+    )
+}
+
+// What a peer is told of how its link ended, where it isn't told by then (RFC 6455 section 7.4.1).
+fn close_code(end: WsEnd) -> Option<CloseCode> {
+    match end {
+        WsEnd::Binary => Some(CloseCode::Unsupported),
+        WsEnd::Quota | WsEnd::PassSpent => Some(CloseCode::Restart),
+        WsEnd::NoMemory => Some(CloseCode::Error),
+        WsEnd::Closed | WsEnd::LinkFault => None,
+    }
+}
+
+impl<R: Net + Clock + Copy + Drop> WsAccept for TcpAccept<R> {
+    type Link = TcpLink<R>;
+
+    ghost shown = { λ a. record { ports = None; sockets = None; asked = a.asked; faults = a.faults } };
+
+    fn open(&mut self, port: u16) -> Result<(), LinkError> {
+        let address = SocketAddr::from((Ipv4Addr::LOCALHOST, port));
+        match self.runtime.bind(address) {
+            Ok(listener) => {
+                self.listener = Some(listener);
+                Ok(())
+            }
+            Err(_) => Err(self.fail()),
+        }
+    }
+
+    fn accept(&mut self, site: &Site) -> Result<Option<(u32, TcpLink<R>)>, LinkError> {
+        let Some(listener) = &self.listener else {
+            return Err(self.fail());
+        };
+        let found = match listener.accept() {
+            Ok((stream, _)) => self.shake_hands(stream, site)?,
+            Err(error) if is_of_one(&error) => None,
+            Err(_) => return Err(self.fail()),
+        };
+        self.asked = self.asked.saturating_add(1);
+        Ok(found)
+    }
+
+    fn ended(&mut self, mut link: TcpLink<R>, served: WsServed) {
+        if let Some(code) = close_code(served.end) {
+            link.close(code);
+        }
+        if served.end != WsEnd::Closed {
+            link.stream().pass_over(Duration::from_secs(LINGER_SECONDS));
+        }
+    }
+
+    ghost balanced = { λ a. tt };
+}

@@ -1,0 +1,86 @@
+//! The server's end of a TCP connection.
+
+use std::io::{self, ErrorKind, Read, Write};
+use std::net::{OpenStream, Shutdown};
+use std::time::{Clock, Duration};
+
+/// How many bytes are passed over at once.
+const PIECE: usize = 16_384;
+
+/// A stream that waits for its peer only so long: all its reads together until a deadline, or each read.
+#[derive(Drop)]
+pub struct TcpEnd<S, R> {
+    stream: S,
+    runtime: R,
+    deadline: Option<Duration>,
+}
+
+impl<S: Read + OpenStream, R: Clock> TcpEnd<S, R> {
+    /// A stream all of whose reads together wait for so long. So does each write. TakesMessages no memory.
+    pub fn until(stream: S, runtime: R, patience: Duration) -> io::Result<TcpEnd<S, R>>
+    where
+        S: Drop,
+        R: Drop,
+    {
+        stream.set_nodelay(true)?;
+        stream.set_write_timeout(Some(patience))?;
+        let deadline = runtime.monotonic()?.saturating_add(patience);
+        Ok(TcpEnd {
+            stream,
+            runtime,
+            deadline: Some(deadline),
+        })
+    }
+
+    /// Has each read wait for so long from now on. TakesMessages no memory.
+    pub fn wait_at_each_call(&mut self, patience: Duration) -> io::Result<()> {
+        self.deadline = None;
+        self.stream.set_read_timeout(Some(patience))
+    }
+
+    /// Ends what is written, and passes over what the peer still sends, for so long at most, so that a reset doesn't take the last message from it. TakesMessages no memory.
+    pub fn pass_over(&mut self, patience: Duration) {
+        let Ok(now) = self.runtime.monotonic() else {
+            return;
+        };
+        if self.stream.shutdown(Shutdown::Write).is_err() {
+            return;
+        }
+        self.deadline = Some(now.saturating_add(patience));
+        let mut piece = [0; PIECE];
+        for _ in 0..u64::MAX {
+            match self.read(&mut piece) {
+                Ok(0) | Err(_) => return,
+                Ok(_) => {}
+            }
+        }
+    }
+
+    // How long a read may still wait.
+    fn set_patience(&self, deadline: Duration) -> io::Result<()> {
+        let rest = deadline.saturating_sub(self.runtime.monotonic()?);
+        if rest.is_zero() {
+            return Err(io::Error::from(ErrorKind::TimedOut));
+        }
+        self.stream.set_read_timeout(Some(rest))
+    }
+}
+
+impl<S: Read + OpenStream, R: Clock> Read for TcpEnd<S, R> {
+    fn read(&mut self, buf: &mut [u8]) -> io::Result<usize> {
+        if let Some(deadline) = self.deadline {
+            self.set_patience(deadline)?;
+        }
+        self.stream.read(buf)
+    }
+}
+
+impl<S: Write, R> Write for TcpEnd<S, R> {
+    fn write(&mut self, buf: &[u8]) -> io::Result<usize> {
+        self.stream.write(buf)
+    }
+
+    fn flush(&mut self) -> io::Result<()> {
+        self.stream.flush()
+    }
+}
