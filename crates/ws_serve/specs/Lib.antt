@@ -1,0 +1,7 @@
+pub mod Valued
+pub mod Answering
+pub mod Ending
+pub mod Complete
+pub mod Histories
+pub mod Hosting
+pub mod Chained
