@@ -6,6 +6,7 @@ use Rattle.clap.proofs.WalkLemmas.{first_value-rows}
 use Rattle.clap.proofs.OnLiterals.{clap_on_literals}
 use Rattle.command_line.specs.KeptWords.{kept_app, kept_options, kept_with}
 use Rattle.command_line.specs.ListenKeptWords.{ListenKept, listen_kept_app, listen_kept_options, listen_kept_with}
+use Rattle.command_line.specs.WebsocketWords.{websocket_app, websocket_options, websocket_with}
 use Rattle.command_line.specs.Commands.{Listen, batch, batch_app, batch_of, listen_app, listen_of, listen_with, stdio, stdio_app, stdio_of, workload_app, workload_of, workload_with, accepts, value_of}
 
 pub batch_is_simple : is_simple batch_app ≡ true
@@ -134,3 +135,23 @@ listen_kept_found app words m listen config port workers connections log journal
     (λ i. listen_kept_with (listen_with (found (codes "config") config c i) (found (codes "port") port p i) (found (codes "workers") workers w i) (found (codes "connections") connections n i) (found (codes "log") log f i))
     (found (codes "journals") journals j i)) in
     ap (λ (l : Option Listen). listen_kept_with l journals) with ∙ same ∙ sym (ap (λ b. cond b all None) (ap (λ (a : App). accepts a words) (sym is) ∙ taken))
+
+pub websocket_is_simple : is_simple websocket_app ≡ true
+unfolding websocket_app clap_on_literals
+websocket_is_simple = refl
+
+pub websocket_is_free : is_simple_and_free websocket_app ≡ true
+unfolding websocket_app clap_on_literals
+websocket_is_free = refl
+
+pub websocket_found : (app : App) (words : List (List ℕ)) (m : ArgMatches) (config port connections : Option (List ℕ)) → app ≡ websocket_app
+    → accepts app words ≡ true → HasMatchesOf app words m
+    → config ≡ first_value (found_of m) (codes "config") → port ≡ first_value (found_of m) (codes "port") → connections ≡ first_value (found_of m) (codes "connections")
+    → websocket_with config port connections ≡ websocket_options words
+websocket_found app words m config port connections is taken h c p n =
+    let value = λ (name : List ℕ). value_of websocket_app words name in
+    let found : (name : List ℕ) (o : Option (List ℕ)) → o ≡ first_value (found_of m) name → o ≡ value_of websocket_app words name =
+    λ name o e. e ∙ value_found app websocket_app words m name is websocket_is_simple h in
+    let all = websocket_with (value (codes "config")) (value (codes "port")) (value (codes "connections")) in
+    let same : websocket_with config port connections ≡ all = (λ i. websocket_with (found (codes "config") config c i) (found (codes "port") port p i) (found (codes "connections") connections n i)) in
+    same ∙ sym (ap (λ b. cond b all None) (ap (λ (a : App). accepts a words) (sym is) ∙ taken))

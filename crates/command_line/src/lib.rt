@@ -9,4 +9,5 @@ pub mod listen;
 pub mod listen_kept;
 mod options;
 pub mod slot;
+pub mod websocket;
 pub mod workload;

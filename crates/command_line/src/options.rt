@@ -4,6 +4,7 @@ ghost use Rattle.std.specs.Prelude.{◌≡◌, IfNone, IfOk, IfSome, false, map,
 ghost use Rattle.clap.specs.Words.{HasMatchesOf, app_of, is_simple_and_free, rule_of, with_rule};
 ghost use Rattle.command_line.specs.KeptWords.{kept_app};
 ghost use Rattle.command_line.specs.ListenKeptWords.{listen_kept_app};
+ghost use Rattle.command_line.specs.WebsocketWords.{websocket_app};
 ghost use Rattle.command_line.specs.Commands.{without_flags, batch_app, flag_named, listen_app, option_named, stdio_app, workload_app, accepts};
 
 use clap::error::ErrorKind;
@@ -63,6 +64,16 @@ pub fn kept_command<'a>(alloc: Global) -> Result<Command<'a>, AllocError>
     let command = with_option(alloc, bare_command(alloc, "kept"), "config", true)?;
     let command = with_option(alloc, command, "journal", true)?;
     with_option(alloc, command, "user", false)
+}
+
+/// `websocket --config NAME --port P [--connections N]`. Takes memory for its options.
+#[tactic(auto, unfolding(crate::specs::WebsocketWords::websocket_app))]
+pub fn websocket_command<'a>(alloc: Global) -> Result<Command<'a>, AllocError>
+    ensures { IfOk result (λ command. app_of command ≡ websocket_app) }
+{
+    let command = with_option(alloc, bare_command(alloc, "websocket"), "config", true)?;
+    let command = with_option(alloc, command, "port", true)?;
+    with_option(alloc, command, "connections", false)
 }
 
 /// What `clap` finds in the words of a command, or `None` where it finds a fault with them.

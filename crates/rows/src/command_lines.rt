@@ -1,5 +1,6 @@
 //! What the words of the command line ask for.
 use command_line::command::{Command, read_command};
+use command_line::websocket::Websocket;
 use std::alloc::{AllocError, Global};
 use std::test::Fail;
 
@@ -99,4 +100,28 @@ fn words_of(alloc: Global, line: &str) -> Result<Vec<String>, AllocError> {
         words.push(String::from_str(alloc, word)?)?;
     }
     Ok(words)
+}
+
+#[test]
+fn websocket_names_a_configuration_and_a_port(rt: HostRuntime) -> Result<(), Fail> {
+    for (line, wanted) in [
+        ("websocket --config c --port 80", Some(("c", 80, 1_000_000))),
+        (
+            "websocket --port=65535 --config=c --connections 1",
+            Some(("c", 65535, 1)),
+        ),
+        ("websocket --config c", None),
+        ("websocket --config c --port 0", None),
+        ("websocket --config c --port 65536", None),
+        ("websocket --config c --port 80 --connections 0", None),
+        ("websocket --config c --port 80 --workers 2", None),
+        ("listen --config c --port 80", None),
+    ] {
+        let words = words_of(rt.alloc(), line)?;
+        let asked = Websocket::read(rt.alloc(), &words)?;
+        let came = asked.map(|asked| (asked.config, asked.port, asked.connections));
+        assert_eq!(rt; came, wanted, "at {line}");
+        assert!(rt; read_command(rt.alloc(), &words)?.is_none() || line.starts_with("listen"));
+    }
+    Ok(())
 }

@@ -1,0 +1,12 @@
+use Rattle.std.proofs.Common.{ap, ◌∙◌}
+use Rattle.clap.specs.Words.{app_of, is_simple_and_free}
+use Rattle.command_line.proofs.Values.{websocket_found, websocket_is_free}
+use Rattle.command_line.proofs.websocket.Websocket.read_options.Goals as goal
+
+pub matches_in-requires : goal.matches_in-requires
+matches_in-requires c = ap is_simple_and_free c.in_ok-command.ensures ∙ websocket_is_free
+
+pub returns : goal.returns
+returns c =
+    let found = rw c.in-Some.is at c.in_ok-matches.ensures.taken in
+    c.with.ensures ∙ websocket_found (app_of c.in_ok-command.command) _ c.in-Some.matches _ _ _ c.in_ok-command.ensures found.0 found.1 c.get_str.ensures c.get_str-2.ensures c.get_str-3.ensures
