@@ -1,21 +1,20 @@
 -- A `listen` in which nothing fails serves.
-use Rattle.std.proofs.Common.{◌≡◌, ◌+◌, ℕ, List, Option, Some, None, Result, Ok, Err, refl, sym, ap, ◌∙◌, subst, take, option_map}
+use Rattle.std.proofs.Common.{◌≡◌, ℕ, List, Option, Some, None, Result, Ok, Err, refl, sym, ap, ◌∙◌, subst}
 use Rattle.std.proofs.lemmas.Option.{same_Some}
-use Rattle.std.specs.Prelude.{◌⊎◌, IfSome}
+use Rattle.std.specs.Prelude.{◌⊎◌}
 use mathlib.Core.Logic.{inl, inr}
 use Rattle.command_line.specs.Commands.{Command, Listen, batch, listen, stdio, workload}
-use Rattle.io_edge.specs.Outside.{IsMissing, OpenerShown, file_named}
-use Rattle.jmapd_run.proofs.StartLemmas.{configured_taken}
+use Rattle.io_edge.specs.Outside.{OpenerShown}
+use Rattle.jmapd_run.proofs.Accepted.{comes_to, is_there, never, only_site}
 use Rattle.jmapd_run.specs.Completes.{IsAccepted}
 use Rattle.jmapd_run.specs.Starts.{IsLoaded, IsNotOpened, IsStart, Start, batch_for, configuration_of, misconfigured, not_opened, stdio_of, usage, workers_for, workload_by}
 use Rattle.jmapd_run.specs.declared.status.Status.{Status}
 use Rattle.jmapd_run.specs.declared.status.Status.TheVariants.{Config, Cut, Done, NoMemory, OpenFault, ReadFault, Refused, Usage, WriteFault}
 use Rattle.listen_edge.specs.Listening.{HostShown}
 use Rattle.spec_batch.specs.Chain.{Shown}
-use Rattle.spec_site.specs.Configuration.{Fault, Site, configured}
-use Rattle.spec_site.specs.declared.limits.TheConstants.{MAX_CONFIGURATION_BYTES}
+use Rattle.spec_site.specs.Configuration.{Fault, Site}
 use Rattle.jmapd_listen.specs.Faultless.{FaultlessListensServe, NoneFailed}
-use Rattle.jmapd_listen.specs.Listens.{Listens, ListensFrom, ServesSite, ServesTogether, SpawnerShown}
+use Rattle.jmapd_listen.specs.Listens.{ListensFrom, ServesSite, ServesTogether, SpawnerShown}
 
 -- the `listen` that is asked, or else this one
 abbrev asked_of : Listen → Option Command → Listen
@@ -24,33 +23,6 @@ asked_of d (Some (batch config user)) = d
 asked_of d (Some (stdio config)) = d
 asked_of d (Some (workload number size)) = d
 asked_of d None = d
-
-only_site : (other site : Site) (what : Result Site Fault) → what ≡ Ok other → what ≡ Ok site → other ≡ site
-only_site other site what is_other is_site = cc
-
-never : (fault : Fault) (site : Site) (what : Result Site Fault) → what ≡ Err fault → what ≡ Ok site → ⊥
-never fault site what is_fault is_site = cc
-
-module _ (o o' : OpenerShown) (name : List ℕ) (site : Site) (accepted : IsAccepted (Some name) o site) where
-  abbrev files_of : List (List ℕ × List ℕ)
-  files_of = accepted.1.0
-
-  -- what the file of the name came to is the site
-  comes_to : (what : Result Site Fault) → IsLoaded o o' name what → what ≡ Ok site
-  comes_to what loaded =
-      let told : o.files ≡ Some files_of = accepted.1.1 in
-      let first : option_map (take (MAX_CONFIGURATION_BYTES + 1)) (file_named files_of name) ≡ Some loaded.0 =
-      subst (λ f. IfSome f (λ t. option_map (take (MAX_CONFIGURATION_BYTES + 1)) (file_named t name) ≡ Some loaded.0)) told loaded.1 in
-      let same : take (MAX_CONFIGURATION_BYTES + 1) accepted.0 ≡ loaded.0 =
-      same_Some (take (MAX_CONFIGURATION_BYTES + 1) accepted.0) loaded.0 (ap (option_map (take (MAX_CONFIGURATION_BYTES + 1))) (sym accepted.1.2) ∙ first) in
-      sym loaded.2 ∙ (ap configured (sym same) ∙ (configured_taken accepted.0 ∙ accepted.2))
-
-  -- there is a file of the name
-  is_there : IsMissing o.files name → ⊥
-  is_there missing =
-      let told : o.files ≡ Some files_of = accepted.1.1 in
-      let none : file_named files_of name ≡ None = subst (λ f. IfSome f (λ t. file_named t name ≡ None)) told missing in
-      absurd (let bad : Some accepted.0 ≡ None = sym accepted.1.2 ∙ none in cc)
 
 module _ (o o' : OpenerShown) (h h' : HostShown) (s s' : SpawnerShown) (fine : NoneFailed o o' h h' s s') (l : Listen) (site : Site) (accepted : IsAccepted (Some l.config) o site) where
   opens : IsNotOpened o o' l.config → ⊥

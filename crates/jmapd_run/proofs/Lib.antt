@@ -3,6 +3,7 @@ pub mod Connecting
 pub mod Starting
 pub mod Completing
 pub mod StartLemmas
+pub mod Accepted
 pub mod Reading
 pub mod OutputLemmas
 pub mod AccountPages
