@@ -5,6 +5,7 @@ mod ending;
 mod folder;
 mod journal;
 mod lock;
+mod sockets;
 mod unclaimed;
 mod unopened;
 mod words;
@@ -12,9 +13,11 @@ mod words;
 use crate::ending::{finish, finish_kept};
 use crate::folder::JournalFolder;
 use crate::journal::run_journal;
+use crate::sockets::run_sockets;
 use crate::words::{listen_without_journals, program_words};
 use command_line::kept::KeptCommand;
 use command_line::listen_kept::ListenKept;
+use command_line::websocket::Websocket;
 use io_edge::streams::{ReaderSource, WriterSink};
 use io_edge::system_clock::SystemClock;
 use io_edge::system_files::SystemFiles;
@@ -34,6 +37,11 @@ fn main(rt: HostRuntime) -> ExitCode {
     };
     match KeptCommand::read(rt.alloc(), &words) {
         Ok(Some(asked)) => return finish_kept(&rt, run_journal(rt, asked)),
+        Ok(None) => {}
+        Err(_) => return finish(&rt, Status::NoMemory),
+    }
+    match Websocket::read(rt.alloc(), &words) {
+        Ok(Some(asked)) => return finish(&rt, run_sockets(rt, asked)),
         Ok(None) => {}
         Err(_) => return finish(&rt, Status::NoMemory),
     }
