@@ -18,10 +18,10 @@ import re
 import sys
 
 TOP = os.path.dirname(os.path.dirname(os.path.abspath(__file__)))
-# Where the theorem stands: the clause on `serve_connection`, the one on `run_program`, the law of what answers say of bookings, the clause on `listen_kept`, and the type of an account that is kept.
+# Where the theorem stands: the clause on `serve_connection`, the one on `run_program`, the law of what answers say of bookings, the clause on `listen_kept`, the type of an account that is kept, and the clause on `listen_ws`.
 ROOTS = [
     "crates/spec_connection/specs/Serving.antt", "crates/jmapd_listen/specs/Program.antt", "crates/account_rooms/specs/Storing.antt",
-    "crates/jmapd_listen/specs/ListensKept.antt", "crates/kept_account/specs/HasKept.antt",
+    "crates/jmapd_listen/specs/ListensKept.antt", "crates/kept_account/specs/HasKept.antt", "crates/ws_run/specs/Runs.antt",
 ]
 # What a law says by facts, so that nobody has to believe how it is defined: for a file the law, and those definitions; all of the file where none is named.
 RESTATED = {
