@@ -35,7 +35,7 @@ pub fn told(alloc: Global, asked: &Tree) -> Result<Option<String>, AllocError> {
     Ok(Some(told))
 }
 
-/// The link that a row describes: its `messages`, of which one that is no text is binary, an object being its compact text, and the numbers of the calls that fail. TakesMessages memory for it.
+/// The link that a row describes: its `messages`, of which one that is no text is binary, an object being its compact text, and the numbers of the calls that fail. Takes memory for it.
 pub fn link_in(alloc: Global, asked: &Tree) -> Result<Option<MemLink>, AllocError> {
     let Some(items) = asked.list_at("messages") else {
         return Ok(None);
@@ -60,7 +60,7 @@ fn message_of(alloc: Global, item: &Tree) -> Result<WsMessage, AllocError> {
     }
 }
 
-/// The numbers at a key. TakesMessages memory for them.
+/// The numbers at a key. Takes memory for them.
 pub fn numbers_at(alloc: Global, asked: &Tree, key: &str) -> Result<Vec<u64>, AllocError> {
     let mut numbers = Vec::new(alloc);
     for item in asked.list_at(key).unwrap_or(&[]) {
@@ -71,7 +71,7 @@ pub fn numbers_at(alloc: Global, asked: &Tree, key: &str) -> Result<Vec<u64>, Al
     Ok(numbers)
 }
 
-/// Tells how a socket ended, how many replies were sent and how many calls answered, and what was sent. TakesMessages memory for it.
+/// Tells how a socket ended, how many replies were sent and how many calls answered, and what was sent. Takes memory for it.
 pub fn tell(
     alloc: Global,
     told: &mut String,

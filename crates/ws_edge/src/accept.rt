@@ -15,7 +15,7 @@ pub trait WsAccept {
     /// What contracts see of it.
     ghost shown: { Self → AcceptShown };
 
-    /// Opens a port. TakesMessages memory for it.
+    /// Opens a port. Takes memory for it.
     fn open(&mut self, port: u16) -> Result<(), LinkError>
         ensures ok { OnOk result (Opens (shown self.old) (shown self.new) port) }
         ensures in_vain { result ≡ Err LinkError.Failed → Opens (shown self.old) (shown self.new) port }
@@ -28,7 +28,7 @@ pub trait WsAccept {
     /// Looks at the next handshake, for which it may wait: the number of the user whose token it shows, and the link.
     ///
     /// `None` is a handshake that wasn't completed, that shows no user's token, or that doesn't offer the subprotocol `jmap` (RFC 8887 section 4.2). `Failed` is a
-    /// fault of the port itself. TakesMessages memory for the link.
+    /// fault of the port itself. Takes memory for the link.
     fn accept(&mut self, site: &Site) -> Result<Option<(u32, Self::Link)>, LinkError>
         ensures handed { IfOk result (λ found. IfSome found (λ pair. (shown self.new).sockets ≡ option_map (handing_socket_out pair.0 (Self.Link.shown pair.1)) (shown self.old).sockets)) }
         ensures user { IfOk result (λ found. IfSome found (λ pair. pair.0 < length site.now.users)) }
@@ -40,7 +40,7 @@ pub trait WsAccept {
         ensures later { (shown self.old).faults ≤ (shown self.new).faults }
         ensures failed { result ≡ Err LinkError.Failed → Rose (shown self.old).faults (shown self.new).faults };
 
-    /// TakesMessages a link back that was served so. It may wait, and takes no memory.
+    /// Takes a link back that was served so. It may wait, and takes no memory.
     fn ended(&mut self, link: Self::Link, served: WsServed)
         requires { HasSocketOut (shown self.old) }
         ensures sockets { (shown self.new).sockets ≡ option_map (taking_socket_back (Self.Link.shown link) served) (shown self.old).sockets }

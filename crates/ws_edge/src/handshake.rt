@@ -86,7 +86,7 @@ impl<'a> Callback for Reception<'a> {
 
 /// Does a server's handshake on a stream: the number of the user whose token the client shows, and the stream behind it.
 ///
-/// `None` is a handshake that wasn't completed, that shows no user's token (status 401), or that doesn't offer the subprotocol `jmap` (400). TakesMessages memory for the head and its response.
+/// `None` is a handshake that wasn't completed, that shows no user's token (status 401), or that doesn't offer the subprotocol `jmap` (400). Takes memory for the head and its response.
 pub fn shake_hands<S: Read + Write + Drop>(
     alloc: Global,
     stream: S,

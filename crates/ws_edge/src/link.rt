@@ -31,7 +31,7 @@ pub trait WsLink {
     /// What contracts see of the link.
     ghost shown: { Self → LinkShown };
 
-    /// The next message, for which it may wait. TakesMessages memory for it.
+    /// The next message, for which it may wait. Takes memory for it.
     fn next(&mut self) -> Result<WsIn, LinkError>
         ensures ok { IfOk result (λ given. TakesMessages (shown self.old).left (shown self.new).left (taken_by given)) }
         ensures closed { result ≡ Ok WsIn.Closed → HasNoMoreMessages (shown self.new).left }
@@ -40,7 +40,7 @@ pub trait WsLink {
         ensures later { (shown self.old).faults ≤ (shown self.new).faults }
         ensures failed { result ≡ Err LinkError.Failed → Rose (shown self.old).faults (shown self.new).faults };
 
-    /// SendsTexts a text. TakesMessages memory for it.
+    /// Sends a text. Takes memory for it.
     fn send(&mut self, text: &[u8]) -> Result<(), LinkError>
         ensures ok { OnOk result (SendsTexts (shown self.old).sent (shown self.new).sent (text.now ∷ [])) }
         ensures err { OnErr result ((shown self.new).sent ≡ (shown self.old).sent) }

@@ -51,7 +51,7 @@ impl MemAccept {
 
     /// Makes one of these sockets. The calls of `accept` whose numbers, from 0, stand in `failing` fail.
     ///
-    /// TakesMessages all the memory that it needs, but for the ports that it opens.
+    /// Takes all the memory that it needs, but for the ports that it opens.
     pub fn new(
         alloc: Global,
         sockets: Vec<Option<MemSocket>>,
@@ -73,7 +73,7 @@ impl MemAccept {
         })
     }
 
-    /// The links that came back, in order. TakesMessages no memory.
+    /// The links that came back, in order. Takes no memory.
     pub fn back(&self) -> &[MemSocketBack]
         ensures { result.now ≡ self.now.back.items }
     {

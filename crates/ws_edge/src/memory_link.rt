@@ -21,7 +21,7 @@ pub struct MemLink {
 impl MemLink {
     ghost use Rattle.ws_edge.specs.MemoryForms.{failing_nexts, failing_sends};
 
-    /// Makes a link of these messages. The calls of `next` and of `send` whose numbers, from 0, are listed fail. TakesMessages no memory.
+    /// Makes a link of these messages. The calls of `next` and of `send` whose numbers, from 0, are listed fail. Takes no memory.
     pub fn new(
         alloc: Global,
         messages: Vec<WsMessage>,
@@ -41,7 +41,7 @@ impl MemLink {
         }
     }
 
-    /// The texts that were sent. TakesMessages no memory.
+    /// The texts that were sent. Takes no memory.
     pub fn sent(&self) -> &[Bytes]
         ensures { Some result.now ≡ (⟦<MemLink as WsLink>⟧.shown self.now).sent }
     {

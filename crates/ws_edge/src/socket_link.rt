@@ -25,7 +25,7 @@ pub struct SocketLink<S> {
 }
 
 impl<S: Read + Write + Drop> SocketLink<S> {
-    /// Makes a link of a stream behind its handshake. TakesMessages no memory.
+    /// Makes a link of a stream behind its handshake. Takes no memory.
     pub fn new(alloc: Global, stream: S) -> SocketLink<S>
         ensures { result.faults ≡ 0 }
     {
@@ -39,7 +39,7 @@ impl<S: Read + Write + Drop> SocketLink<S> {
         }
     }
 
-    /// Tells the peer why the link ends, where it can still be told (RFC 6455 section 7.4.1). TakesMessages memory for it.
+    /// Tells the peer why the link ends, where it can still be told (RFC 6455 section 7.4.1). Takes memory for it.
     pub fn close(&mut self, code: CloseCode)
         ensures { self.new.faults ≡ self.old.faults }
     {
@@ -47,7 +47,7 @@ impl<S: Read + Write + Drop> SocketLink<S> {
         let _ = self.socket.close(Some(CloseFrame { code, reason }));
     }
 
-    /// The stream. TakesMessages no memory.
+    /// The stream. Takes no memory.
     pub fn stream(&mut self) -> &mut S {
         self.socket.get_mut()
     }
@@ -79,7 +79,7 @@ impl<S: Read + Write + Drop> SocketLink<S> {
         Some(self.refuse(error))
     }
 
-    // SendsTexts a ping. Says whether it went out.
+    // Sends a ping. Says whether it went out.
     fn ask(&mut self) -> bool
         ensures { self.new.faults ≡ self.old.faults }
     {

@@ -38,7 +38,7 @@ pub struct TcpAccept<R: Net> {
 }
 
 impl<R: Net + Clock + Copy + Drop> TcpAccept<R> {
-    /// Makes one over the runtime. TakesMessages no memory.
+    /// Makes one over the runtime. Takes no memory.
     pub fn new(alloc: Global, runtime: R) -> TcpAccept<R>
         ensures { (result.faults ≡ 0) × (result.asked ≡ 0) }
     {

@@ -16,7 +16,7 @@ pub struct TcpEnd<S, R> {
 }
 
 impl<S: Read + OpenStream, R: Clock> TcpEnd<S, R> {
-    /// A stream all of whose reads together wait for so long. So does each write. TakesMessages no memory.
+    /// A stream all of whose reads together wait for so long. So does each write. Takes no memory.
     pub fn until(stream: S, runtime: R, patience: Duration) -> io::Result<TcpEnd<S, R>>
     where
         S: Drop,
@@ -32,13 +32,13 @@ impl<S: Read + OpenStream, R: Clock> TcpEnd<S, R> {
         })
     }
 
-    /// Has each read wait for so long from now on. TakesMessages no memory.
+    /// Has each read wait for so long from now on. Takes no memory.
     pub fn wait_at_each_call(&mut self, patience: Duration) -> io::Result<()> {
         self.deadline = None;
         self.stream.set_read_timeout(Some(patience))
     }
 
-    /// Ends what is written, and passes over what the peer still sends, for so long at most, so that a reset doesn't take the last message from it. TakesMessages no memory.
+    /// Ends what is written, and passes over what the peer still sends, for so long at most, so that a reset doesn't take the last message from it. Takes no memory.
     pub fn pass_over(&mut self, patience: Duration) {
         let Ok(now) = self.runtime.monotonic() else {
             return;

@@ -42,7 +42,7 @@ pub fn listen_ws<O: Opener, A: WsAccept, C: Clock>(
     host_site(alloc, asked, &site, accepter, &mut desk, clock)
 }
 
-// ServesSocket the users of a site, by a desk over its fresh accounts.
+// Serves the users of a site, by a desk over its fresh accounts.
 fn host_site<A: WsAccept, C: Clock>(
     alloc: Global,
     asked: &Websocket<'_>,

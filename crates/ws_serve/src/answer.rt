@@ -9,7 +9,7 @@ use spec_core::user::User;
 use spec_time::moment::Moment;
 use std::alloc::Global;
 
-/// The reply to a text, at the moment that the clock gives. TakesMessages memory for it.
+/// The reply to a text, at the moment that the clock gives. Takes memory for it.
 pub(crate) fn answer<D: Desk, C: Clock>(
     alloc: Global,
     text: &[u8],

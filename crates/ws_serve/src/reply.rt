@@ -22,7 +22,7 @@ use std::alloc::{AllocError, Global};
 /// Answers a text as a request of a user, on the accounts of a desk, at a moment: the text of a `Response` or of a `RequestError` (RFC 8887 sections 4.3.3 and 4.3.4).
 ///
 /// A front is added for each call that the desk answered, in order. `PassSpent` comes only where the desk made as many calls as it
-/// may. At both errors the calls that were answered stay in the accounts' histories, and their fronts are in the list. TakesMessages memory for the reply.
+/// may. At both errors the calls that were answered stay in the accounts' histories, and their fronts are in the list. Takes memory for the reply.
 pub fn ws_reply<D: Desk>(
     alloc: Global,
     text: &[u8],
@@ -73,7 +73,7 @@ fn reply_to_marked<D: Desk>(
     }
 }
 
-// The client's id of a request. TakesMessages memory for it.
+// The client's id of a request. Takes memory for it.
 fn id_of(tree: &Tree) -> Result<Option<Text>, AllocError>
     ensures { IfOk result (λ id. id ≡ text_at (codes "id") (data_of tree.now)) }
 {

@@ -13,7 +13,7 @@ use ws_edge::link::{LinkError, WsIn, WsLink};
 
 /// Answers the texts of a link for a user, in order (RFC 8887 section 4.3), at most 10,000.
 ///
-/// The clock is read once for each text. TakesMessages memory for one text and its reply at a time, and for the fronts. It may wait, as the link does and the desk.
+/// The clock is read once for each text. Takes memory for one text and its reply at a time, and for the fronts. It may wait, as the link does and the desk.
 pub fn serve_socket<L: WsLink, D: Desk, C: Clock>(
     alloc: Global,
     user: &User,
