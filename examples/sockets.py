@@ -3,8 +3,8 @@
 
 Peers that misbehave do so frame by frame, beside an ordinary one who is to be answered each time. Each frame that breaks the protocol closes the socket with the code of RFC 6455 section 7.4.1
 for it: 1002 where it isn't masked, has a bit that nobody asked for, is a ping of 126 bytes, or is a text between fragments; 1007 for a text that isn't UTF-8; 1009 for more than 16 MiB; 1003
-for bytes that are no text. A ping between fragments is answered. A handshake that doesn't come is given up after 10 s, and with `--silence` a peer that says nothing is asked after 30 s, and
-let go after 30 more.
+for bytes that are no text. A ping between fragments is answered. A handshake that doesn't come is given up after 10 s, 1,000 peers that go before it hold nobody up,
+and with `--silence` a peer that says nothing is asked after 30 s, and let go after 30 more.
 
 Then comes a client that isn't ours: the Python module `websocket`, Debian's package `python3-websocket`. It shakes hands with the subprotocol `jmap`, sends requests, a batch with references,
 texts that are refused, and a text of 9 MB, and closes. Handshakes without a token, with an unknown one, or without the subprotocol come to nothing. Skipped with a line where the module
@@ -250,6 +250,13 @@ def goes_without_a_close(port):
     return True
 
 
+def says_nothing_at_all(port):
+    """1,000 peers connect and go before their handshakes; who comes behind them is served."""
+    for _ in range(1000):
+        joined(port).close()
+    return is_served(port)
+
+
 def never_reads(port):
     """Sends long texts and reads no reply; the server gives it up, and others are served."""
     peer = FramePeer(port)
@@ -315,7 +322,7 @@ def misbehaviour(port, with_silence):
         for name, good in way(port):
             yield name, good
             yield f"an ordinary peer behind: {name}", is_served(port)
-    for way in (fragments, goes_without_a_close, never_reads):
+    for way in (fragments, goes_without_a_close, says_nothing_at_all, never_reads):
         yield way.__name__, way(port)
         yield f"an ordinary peer behind: {way.__name__}", is_served(port)
 
