@@ -1,6 +1,7 @@
 //! Where connections come from, and what runs those who serve them.
 #![tactic(auto)]
 
+pub mod accept_error;
 mod connection;
 mod head_search;
 mod held;

@@ -1,6 +1,7 @@
 //! Where connections wait that need no worker.
 ghost use Rattle.std.specs.Prelude.{◌≡◌};
 
+use crate::accept_error::is_broken;
 use crate::connection::{Connection, Look, Stage, moment};
 use mio::unix::SourceFd;
 use mio::{Events, Interest, Poll, Token};
@@ -344,11 +345,6 @@ fn interest(stage: Stage) -> Interest {
         Stage::Sending => Interest::WRITABLE,
         Stage::Quiet | Stage::Coming | Stage::Lingering => Interest::READABLE,
     }
-}
-
-// Whether the listening socket itself is of no more use: the system says that it is no open, listening socket (EBADF, EINVAL, ENOTSOCK, EOPNOTSUPP).
-fn is_broken(error: &io::Error) -> bool {
-    matches!(error.raw_os_error(), Some(9 | 22 | 88 | 95))
 }
 
 // Whether no more files can be opened (ENFILE, EMFILE).

@@ -7,10 +7,10 @@ use crate::handshake::shake_hands;
 use crate::link::LinkError;
 use crate::socket_link::SocketLink;
 use crate::tcp_end::TcpEnd;
+use listen_edge::accept_error::is_broken;
 use session_doc::Site;
 use spec_sockets::served::{WsEnd, WsServed};
 use std::alloc::Global;
-use std::io::{self, ErrorKind};
 use std::net::{Ipv4Addr, Net, OpenListener, SocketAddr};
 use std::time::{Clock, Duration};
 use tungstenite::CloseCode;
@@ -20,6 +20,9 @@ const HANDSHAKE_SECONDS: u64 = 10;
 
 /// After how many seconds of silence a peer is asked for a sign of life, and after how many more the link ends.
 const SILENCE_SECONDS: u64 = 30;
+
+/// How many milliseconds pass before the next try to accept where one failed.
+const PAUSE_MILLISECONDS: u64 = 100;
 
 /// For how many seconds at most what a peer still sends behind the end is passed over, so that it gets the reason.
 const LINGER_SECONDS: u64 = 2;
@@ -61,6 +64,21 @@ impl<R: Net + Clock + Copy + Drop> TcpAccept<R> {
         LinkError::Failed
     }
 
+    // The next connection, or none where the listening socket is of no more use. Where the system has no room for one, or one ended before it was accepted, it goes on waiting.
+    fn next_stream(&self) -> Option<R::Stream> {
+        let listener = self.listener.as_ref()?;
+        for _ in 0..u64::MAX {
+            match listener.accept() {
+                Ok((stream, _)) => return Some(stream),
+                Err(error) if is_broken(&error) => return None,
+                Err(_) => self
+                    .runtime
+                    .sleep(Duration::from_millis(PAUSE_MILLISECONDS)),
+            }
+        }
+        None
+    }
+
     // The handshake on a connection.
     fn shake_hands(
         &self,
@@ -82,14 +100,6 @@ impl<R: Net + Clock + Copy + Drop> TcpAccept<R> {
             Err(_) => Ok(None),
         }
     }
-}
-
-// Whether an error of `accept` is that of one connection, and not of the listening socket.
-fn is_of_one(error: &io::Error) -> bool {
-    matches!(
-        error.kind(),
-        ErrorKind::ConnectionAborted | ErrorKind::Interrupted
-    )
 }
 
 // What a peer is told of how its link ended, where it isn't told by then (RFC 6455 section 7.4.1).
@@ -119,14 +129,10 @@ impl<R: Net + Clock + Copy + Drop> WsAccept for TcpAccept<R> {
     }
 
     fn accept(&mut self, site: &Site) -> Result<Option<(u32, TcpLink<R>)>, LinkError> {
-        let Some(listener) = &self.listener else {
+        let Some(stream) = self.next_stream() else {
             return Err(self.fail());
         };
-        let found = match listener.accept() {
-            Ok((stream, _)) => self.shake_hands(stream, site)?,
-            Err(error) if is_of_one(&error) => None,
-            Err(_) => return Err(self.fail()),
-        };
+        let found = self.shake_hands(stream, site)?;
         self.asked = self.asked.saturating_add(1);
         Ok(found)
     }

@@ -67,11 +67,18 @@ impl<S: Read + OpenStream, R: Clock> TcpEnd<S, R> {
 }
 
 impl<S: Read + OpenStream, R: Clock> Read for TcpEnd<S, R> {
+    // A read that a signal interrupts is made again.
     fn read(&mut self, buf: &mut [u8]) -> io::Result<usize> {
-        if let Some(deadline) = self.deadline {
-            self.set_patience(deadline)?;
+        for _ in 0..u64::MAX {
+            if let Some(deadline) = self.deadline {
+                self.set_patience(deadline)?;
+            }
+            match self.stream.read(buf) {
+                Err(error) if error.kind() == ErrorKind::Interrupted => {}
+                read => return read,
+            }
         }
-        self.stream.read(buf)
+        Err(io::Error::from(ErrorKind::TimedOut))
     }
 }
 
