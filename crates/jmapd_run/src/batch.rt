@@ -7,11 +7,11 @@ ghost use Rattle.jmapd_run.specs.Runs.{RunsBatch};
 
 use crate::status::Status;
 use account_desk::sole_desk::SoleDesk;
-use request_reply::reply::{RequestOutcome, reply_to};
 use io_edge::clock::Clock;
 use io_edge::sink::{Sink, put_all};
 use io_edge::source::{InputError, Source, read_up_to};
 use json_edge::write::tree_text;
+use request_reply::reply::{RequestOutcome, reply_to};
 use session_doc::Site;
 use spec_batch::desk::DeskError;
 use spec_core::limits::MAX_SIZE_REQUEST;

@@ -7,11 +7,11 @@ ghost use Rattle.spec_history.specs.MostTurns.{most_turns};
 
 use crate::texts::{counts_of, keep_new};
 use account_desk::sole_desk::SoleDesk;
-use request_reply::reply::{RequestOutcome, reply_to};
 use io_edge::clock::Clock;
 use io_edge::sink::{Sink, put_all};
 use journal_keeper::keeper::{KeepError, Keeper};
 use json_edge::write::tree_text;
+use request_reply::reply::{RequestOutcome, reply_to};
 use session_doc::Site;
 use spec_batch::desk::DeskError;
 use spec_time::moment::Moment;
