@@ -36,7 +36,7 @@ ERROR = "urn:ietf:params:jmap:error:"
 
 
 def request(calls, **more):
-    return json.dumps({"@type": "Request", "using": [CORE, CALENDARS], "methodCalls": calls, **more})
+    return json.dumps({"@type": "Request", "using": [CORE, CALENDARS], "methodCalls": calls, **more}, ensure_ascii=False)
 
 
 def connected(port, token="t-ann", subprotocols=("jmap",), seconds=10):
@@ -274,13 +274,14 @@ def never_reads(port):
 
 
 def odd_handshakes(port):
+    # a peer goes before the next one comes, who would wait for it
     other = FramePeer(port, version=8)
-    yield "another version", not other.is_open
     other.end()
+    yield "another version", not other.is_open
     proxied = FramePeer(port, connection="keep-alive, Upgrade", more="Sec-WebSocket-Extensions: permessage-deflate\r\nOrigin: http://x\r\n")
-    yield "a proxy's head, and an extension", proxied.is_open and b"xtensions" not in proxied.head
     proxied.send(CLOSE)
     proxied.end()
+    yield "a proxy's head, and an extension", proxied.is_open and b"xtensions" not in proxied.head
     slow = joined(port)
     begun = time.monotonic()
     slow.sendall(b"GET /jmap/ws HTTP/1.1\r\n")

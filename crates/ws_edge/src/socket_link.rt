@@ -127,7 +127,7 @@ impl<S: Read + Write + Drop> WsLink for SocketLink<S> {
     }
 
     fn send(&mut self, text: &[u8]) -> Result<(), LinkError> {
-        let Ok(words) = str::from_utf8(text) else {
+        let Ok(words) = simdutf8::basic::from_utf8(text) else {
             return Err(self.refuse(Error::Utf8));
         };
         let message = match Message::text(self.alloc, words) {

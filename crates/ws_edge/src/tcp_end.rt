@@ -7,12 +7,18 @@ use std::time::{Clock, Duration};
 /// How many bytes are passed over at once.
 const PIECE: usize = 16_384;
 
-/// A stream that waits for its peer only so long: all its reads together until a deadline, or each read.
+/// For how many seconds a write waits at once. Behind them it tells how much the peer has taken, so that who takes more is waited for anew.
+const WRITE_SLICE_SECONDS: u64 = 1;
+
+/// A stream that waits for its peer only so long: all its reads together until a deadline, or each read; and each write.
 #[derive(Drop)]
 pub struct TcpEnd<S, R> {
     stream: S,
     runtime: R,
+    // until when all reads together may wait
     deadline: Option<Duration>,
+    // how long a peer may take nothing of a write
+    patience: Duration,
 }
 
 impl<S: Read + OpenStream, R: Clock> TcpEnd<S, R> {
@@ -23,12 +29,13 @@ impl<S: Read + OpenStream, R: Clock> TcpEnd<S, R> {
         R: Drop,
     {
         stream.set_nodelay(true)?;
-        stream.set_write_timeout(Some(patience))?;
+        stream.set_write_timeout(Some(Duration::from_secs(WRITE_SLICE_SECONDS)))?;
         let deadline = runtime.monotonic()?.saturating_add(patience);
         Ok(TcpEnd {
             stream,
             runtime,
             deadline: Some(deadline),
+            patience,
         })
     }
 
@@ -82,12 +89,36 @@ impl<S: Read + OpenStream, R: Clock> Read for TcpEnd<S, R> {
     }
 }
 
-impl<S: Write, R> Write for TcpEnd<S, R> {
+impl<S: Write, R: Clock> Write for TcpEnd<S, R> {
+    // A write that a signal interrupts is made again, and so is one of which the peer took nothing, while it may wait.
     fn write(&mut self, buf: &[u8]) -> io::Result<usize> {
-        self.stream.write(buf)
+        let deadline = self.runtime.monotonic()?.saturating_add(self.patience);
+        for _ in 0..u64::MAX {
+            match self.stream.write(buf) {
+                Err(error) if is_for_later(&error) && is_before(&self.runtime, deadline) => {}
+                written => return written,
+            }
+        }
+        Err(io::Error::from(ErrorKind::TimedOut))
     }
 
     fn flush(&mut self) -> io::Result<()> {
         self.stream.flush()
+    }
+}
+
+// Whether a write is to be made again.
+fn is_for_later(error: &io::Error) -> bool {
+    matches!(
+        error.kind(),
+        ErrorKind::WouldBlock | ErrorKind::TimedOut | ErrorKind::Interrupted
+    )
+}
+
+// Whether a moment of the clock is still to come; not where it can't be told.
+fn is_before<R: Clock>(runtime: &R, moment: Duration) -> bool {
+    match runtime.monotonic() {
+        Ok(now) => now < moment,
+        Err(_) => false,
     }
 }
