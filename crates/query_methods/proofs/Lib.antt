@@ -1,4 +1,5 @@
 pub mod TouchedLemmas
+pub mod ComparedLemmas
 pub mod ResultLemmas
 pub mod RefusalLemmas
 pub mod SightLemmas

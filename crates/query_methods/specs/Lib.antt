@@ -1,4 +1,5 @@
 pub mod Among
 pub mod Sights
+pub mod Compared
 pub mod Reports
 pub mod ReadFor

@@ -7,6 +7,7 @@ ghost use Rattle.spec_history.specs.Pages.{is_in};
 ghost use Rattle.spec_history.specs.declared.entry.Kind.TheVariants.{Event};
 ghost use Rattle.spec_queries.specs.Matching.{match_of, result_at, result_of, with_number};
 ghost use Rattle.query_methods.specs.Among.{matches_among, number_if, result_among};
+ghost use Rattle.query_methods.specs.Compared.{seen_in};
 ghost use Rattle.query_methods.specs.Sights.{seen_by};
 
 use crate::sight::Sight;
@@ -70,12 +71,12 @@ fn result_among(
     if order.is_empty() {
         return found_among(alloc, events, sight, state, numbers);
     }
-    let matches = matches_among(alloc, events, sight, state, numbers)?;
+    let matches = matches_among(alloc, events, sight, order, state, numbers)?;
     let places = result(alloc, &matches.items, order)?;
     numbers_at(alloc, &matches.numbers, places.items())
 }
 
-// The events of which a filter holds, each with its item.
+// The events of which a filter holds, each with its item, which holds what the order compares.
 #[derive(Drop)]
 struct Matches {
     numbers: Vec<u64>,
@@ -86,18 +87,19 @@ fn matches_among(
     alloc: Global,
     events: &StoredEvents<'_>,
     sight: &Sight<'_>,
+    order: &Order,
     state: u64,
     numbers: &[u64],
 ) -> Result<Matches, AllocError>
     requires { sight.now.zones.now ≡ events.now.zones.now }
-    ensures numbers { IfOk result (λ m. m.numbers.items ≡ map (λ p. p.0) (matches_among (seen_by sight.now) (changes_up_to (entries events.now.store.now) Event state) numbers.now)) }
-    ensures items { IfOk result (λ m. m.items.items ≡ map (λ p. p.1) (matches_among (seen_by sight.now) (changes_up_to (entries events.now.store.now) Event state) numbers.now)) }
+    ensures numbers { IfOk result (λ m. m.numbers.items ≡ map (λ p. p.0) (matches_among (seen_in order.now (seen_by sight.now)) (changes_up_to (entries events.now.store.now) Event state) numbers.now)) }
+    ensures items { IfOk result (λ m. m.items.items ≡ map (λ p. p.1) (matches_among (seen_in order.now (seen_by sight.now)) (changes_up_to (entries events.now.store.now) Event state) numbers.now)) }
     ensures paired { IfOk result (λ m. length m.numbers.items ≡ length m.items.items) }
 {
     let mut found = Vec::new(alloc);
     let mut items = Vec::new(alloc);
     for number in numbers {
-        if let Some(item) = item_at(alloc, events, sight, state, *number)? {
+        if let Some(item) = item_at(alloc, events, sight, order, state, *number)? {
             found.push(*number)?;
             items.push(item)?;
         }
@@ -112,14 +114,15 @@ fn item_at(
     alloc: Global,
     events: &StoredEvents<'_>,
     sight: &Sight<'_>,
+    order: &Order,
     state: u64,
     number: u64,
 ) -> Result<Option<Item>, AllocError>
     requires { sight.now.zones.now ≡ events.now.zones.now }
-    ensures { IfOk result (λ o. with_number number o ≡ match_of (seen_by sight.now) number (live_object (changes_up_to (entries events.now.store.now) Event state) Event number)) }
+    ensures { IfOk result (λ o. with_number number o ≡ match_of (seen_in order.now (seen_by sight.now)) number (live_object (changes_up_to (entries events.now.store.now) Event state) Event number)) }
 {
     match events.event_at(number, state) {
-        Some(event) => sight.see(alloc, &event),
+        Some(event) => sight.see(alloc, order, &event),
         None => Ok(None),
     }
 }

@@ -9,10 +9,11 @@ ghost use Rattle.spec_queries.specs.Items.{seen_where};
 ghost use Rattle.spec_windows.specs.ZoneRules.{rule_of, utc_rule};
 ghost use Rattle.query_filter.specs.AnyTime.{IsForAnyTime};
 
-use crate::item::item_of;
+use crate::item::compared_item;
 use event_store::StoredEvent;
 use jiff_tz::posix::TimeZone;
 use query_filter::{Filter, ZonedFilter};
+use query_order::order::Order;
 use spec_json::text::Text;
 use spec_queries::item::Item;
 use std::alloc::{AllocError, Global};
@@ -32,6 +33,7 @@ pub(crate) struct Sight<'a> {
 }
 
 impl<'a> Sight<'a> {
+    ghost use Rattle.query_methods.specs.Compared.{seen_in};
     ghost use Rattle.query_methods.specs.Sights.{seen_by};
 
     /// What is seen by a filter whose zone has this rule. Takes memory for folded texts.
@@ -63,17 +65,19 @@ impl<'a> Sight<'a> {
         self.meets(alloc, event)
     }
 
-    /// What comparators see of an event, or `None` where the filter doesn't hold of it.
+    /// What the comparators of an order see of an event, or `None` where the filter doesn't hold of it.
     pub(crate) fn see(
         &self,
         alloc: Global,
+        order: &Order,
         event: &StoredEvent<'_>,
     ) -> Result<Option<Item>, AllocError>
         requires { HasItsSeries self.now.zones.now event.now }
-        ensures { IfOk result (λ o. o ≡ seen_by self.now event.now.object.now) }
+        ensures { IfOk result (λ o. o ≡ seen_in order.now (seen_by self.now) event.now.object.now) }
     {
         if self.meets(alloc, event)? {
-            Ok(Some(item_of(alloc, self.zones, self.floating, event.object)?))
+            let item = compared_item(alloc, self.zones, self.floating, order, event.object)?;
+            Ok(Some(item))
         } else {
             Ok(None)
         }
