@@ -24,7 +24,7 @@ tls_port=$((30000 + RANDOM % 10000))
 trap 'kill "${server:-}" "${proxy:-}" 2>/dev/null; wait 2>/dev/null; rm -rf "$folder"' EXIT
 openssl req -x509 -newkey ec -pkeyopt ec_paramgen_curve:prime256v1 -nodes -subj /CN=localhost -days 1 \
     -keyout "$folder/key.pem" -out "$folder/certificate.pem" 2>/dev/null || exit 1
-sed -e "s|FOLDER|$folder|g" -e "s|JMAPD_PORT|$jmapd_port|" -e "s|TLS_PORT|$tls_port|" examples/nginx.conf >"$folder/nginx.conf"
+sed -e "s|FOLDER|$folder|g" -e "s|PAGE|$PWD/web|" -e "s|JMAPD_PORT|$jmapd_port|" -e "s|TLS_PORT|$tls_port|" examples/nginx.conf >"$folder/nginx.conf"
 
 "$program" listen --config examples/site.json --port "$jmapd_port" --workers 2 &
 server=$!
