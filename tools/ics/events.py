@@ -9,7 +9,7 @@ from datetime import datetime, timezone
 
 import people
 from rules import rule_of
-from values import UTC, DAY, basic, duration_text, escaped, length_of, local_text, local_time, moment_of, text_of, texts_of, utc_text
+from values import UTC, basic, duration_text, escaped, length_of, local_text, local_time, moment_of, text_of, texts_of, utc_text
 from zones import to_zone, zone
 
 KEPT = "iCalComponent"
@@ -346,20 +346,24 @@ def uid_of(component):
     return text_of(text).strip() if text and text.strip() else str(uuid.uuid5(uuid.NAMESPACE_OID, component.written().decode()))
 
 
+def version_of(component):
+    """By what the later of two components with one uid is told (RFC 5546 section 2.1.5)."""
+    number = (component.value("SEQUENCE") or "").strip()
+    return int(number) if number.isdigit() else 0, component.value("DTSTAMP") or ""
+
+
 def series_of(components):
     """The VEVENTs by their uids: each master with its occurrences that are otherwise. Where there is no master each stands alone."""
     groups = {}
-    for it in components:
-        groups.setdefault(uid_of(it), []).append(it)
-    for uid, group in groups.items():
-        masters = [it for it in group if it.first("RECURRENCE-ID") is None]
-        instances = [it for it in group if it.first("RECURRENCE-ID") is not None]
-        if masters:
-            # Of two with one uid the later says what is so (RFC 5545 section 3.8.7.4).
-            latest = max(masters, key=lambda it: int(it.value("SEQUENCE") or 0) if (it.value("SEQUENCE") or "0").strip().isdigit() else 0)
-            yield uid, latest, instances, len(masters) - 1
+    for it in sorted(components, key=version_of):
+        groups.setdefault(uid_of(it), {})[it.value("RECURRENCE-ID")] = it
+    for uid in dict.fromkeys(uid_of(it) for it in components):
+        group = groups[uid]
+        master = group.pop(None, None)
+        if master:
+            yield uid, master, list(group.values())
         else:
-            yield from ((uid, it, [], 0) for it in instances)
+            yield from ((uid, it, []) for it in group.values())
 
 
 def event_of(uid, component, instances, zones, tell):

@@ -63,12 +63,16 @@ class Import:
             self.refuse(item, "the server refuses it each time")
 
     def read(self, text):
+        """The items of a text. Its calendars are read as one, since an event may come in more than one of them."""
         parts = parse(text, self.tell)
-        calendars = [it for it in parts if it.name == "VCALENDAR"]
+        whole = Component("VCALENDAR")
         for it in parts:
-            if it.name != "VCALENDAR":
+            if it.name == "VCALENDAR":
+                whole.lines += it.lines
+                whole.parts += it.parts
+            else:
                 self.tell(f"{it.name} is no calendar, and isn't taken")
-        return [item for it in calendars for item in self.events_of(it)]
+        return list(self.events_of(whole))
 
     def events_of(self, calendar):
         zones = Zones([it for it in calendar.parts if it.name == "VTIMEZONE"], self.server.known_zones)
@@ -78,10 +82,13 @@ class Import:
         for it in calendar.parts:
             if it.name not in ("VEVENT", "VTIMEZONE"):
                 self.tell(f"{it.name} {it.value('UID') or ''} isn't an event, and isn't taken")
-        for uid, component, instances, doubles in series_of([it for it in calendar.parts if it.name == "VEVENT"]):
+        events = [it for it in calendar.parts if it.name == "VEVENT"]
+        series = list(series_of(events))
+        doubles = len(events) - sum(1 + len(instances) for *_, instances in series)
+        if doubles:
+            self.tell(f"{doubles} of its events come again, and the latest of each is taken")
+        for uid, component, instances in series:
             tell = lambda what, uid=uid: self.tell(f"{uid}: {what}")
-            if doubles:
-                tell("comes more than once, and is taken once")
             try:
                 event = event_of(uid, component, instances, zones, tell)
             except NoEvent as error:
