@@ -2,9 +2,9 @@
 import { DAY, dateText, dayOf, isZone, localText, monthsLater, moved, wallAt, wallOf, written } from "./dates.js";
 import { button, colored, keepingFocus, make, say } from "./dom.js";
 import { edit } from "./editor.js";
-import { Client, MethodError } from "./jmap.js";
+import { Client, MethodError, NoAnswer } from "./jmap.js";
 import { follow } from "./push.js";
-import { SetError, Store, baseOf } from "./store.js";
+import { Store, baseOf } from "./store.js";
 import { daysInView, itemOf, table, zoneOf } from "./view.js";
 import { reason, whenWords } from "./words.js";
 
@@ -149,11 +149,13 @@ function showChoices(id, choices, chosen) {
     part(id).replaceChildren(...choices.map(([value, text]) => make("option", { value, selected: value === chosen }, text)));
 }
 
+/** Says when the server goes away and when it is there again, each once. */
 function told(failure) {
-    const wasAway = document.body.classList.toggle("away", Boolean(failure)) || part("status").textContent.startsWith("The server doesn't");
+    const wasAway = document.body.classList.contains("away");
+    document.body.classList.toggle("away", Boolean(failure));
     if (failure?.status === 401) signOut("The server doesn't know this token.");
-    else if (failure) say("The server doesn't answer. Asking again.");
-    else if (wasAway) say("The server is there again.");
+    else if (failure && !wasAway) say(failure instanceof NoAnswer ? "The server doesn't answer. It is asked again." : `That failed: ${failure.message}.`);
+    else if (!failure && wasAway) say("The server is there again.");
 }
 
 /** Goes on with an account, which is then followed. */
@@ -188,6 +190,7 @@ async function signIn(token) {
 function signOut(why = "Signed out.") {
     page.ending?.abort();
     held.clear();
+    document.body.classList.remove("away");
     Object.assign(page, { client: null, store: null });
     part("view").replaceChildren();
     part("page").hidden = true;

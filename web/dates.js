@@ -4,6 +4,7 @@
 // of milliseconds of UTC from 1970.
 
 export const MINUTE = 60000;
+export const HOUR = 60 * MINUTE;
 export const DAY = 86400000;
 
 /** The wall time of a LocalDateTime, or of a date alone. */

@@ -1,14 +1,14 @@
 // The dialog in which an event is made, changed and removed: one occurrence, or the whole series.
-import { DAY, MINUTE, dateText, dayOf, durationOf, endOf, instantOf, localText, moved, wallOf } from "./dates.js";
+import { DAY, HOUR, MINUTE, dateText, dayOf, durationOf, endOf, instantOf, localText, moved, wallOf } from "./dates.js";
 import { make, say } from "./dom.js";
-import { SLOTS } from "./jmap.js";
+import { NoAnswer, SLOTS } from "./jmap.js";
 import { fillRepeats, prepareRepeats, readRepeats, tidyRepeats } from "./rules.js";
 import { baseOf } from "./store.js";
 import { zoneOf } from "./view.js";
 import { ownersOf, reason, slotWords } from "./words.js";
 
-// How many days ahead a free time is looked for.
-const SLOT_DAYS = 60;
+// How many days ahead a free time is looked for: no more than the server looks.
+const SLOT_DAYS = 31;
 const FLOATING = "(no zone)";
 const dialog = document.getElementById("editor");
 const form = dialog.querySelector("form");
@@ -149,7 +149,8 @@ async function ending(act, words) {
         dialog.close();
         say(words);
     } catch (error) {
-        trouble.textContent = await reason(error, store);
+        const again = error instanceof NoAnswer ? " Save again once it is there: nothing is made twice." : "";
+        trouble.textContent = `${await reason(error, store)}${again}`;
     }
     fields.save.disabled = fields.remove.disabled = store.isReadOnly;
 }
@@ -157,7 +158,7 @@ async function ending(act, words) {
 /** Puts the form to the room's next free time from its own on. */
 async function nextSlot() {
     const { store } = open, room = chosenRoom(), told = read();
-    const start = wallOf(told.start), length = wallOf(fields.end.value) - wallOf(fields.start.value);
+    const start = wallOf(told.start), length = endOf(start, told.duration, room.resourceZone) - start;
     const asked = {
         calendarId: room.id,
         duration: told.duration,
@@ -167,7 +168,10 @@ async function nextSlot() {
     };
     try {
         const [{ slot }] = await store.client.did(store.call("Resource/findSlot", asked));
-        if (slot) showTimes(wallOf(slot), wallOf(slot) + length, false);
+        if (slot) {
+            fields.isWhole.checked = false;
+            showTimes(wallOf(slot), wallOf(slot) + length, false);
+        }
         trouble.textContent = slotWords(slot, room);
     } catch (error) {
         trouble.textContent = await reason(error, store);
@@ -192,8 +196,10 @@ fields.scope.addEventListener("change", fill);
 fields.places.addEventListener("change", tidyPlaces);
 fields.frequency.addEventListener("change", () => tidyRepeats(form));
 fields.isWhole.addEventListener("change", () => {
-    const [start, end] = [fields.start, fields.end].map((it) => wallOf(it.value));
-    if (fields.isWhole.checked) showTimes(dayOf(start), Math.max(dayOf(start), dayOf(end)) + DAY, true);
-    else showTimes(start + DAY * 0.375, end + DAY * 0.4, false);
+    const [start, end] = [fields.start, fields.end].map((it) => dayOf(wallOf(it.value)));
+    // Whole days are those of any clock, but in a room those of its own.
+    if (!chosenRoom()) showZones(fields.isWhole.checked ? null : open.store.zone);
+    if (fields.isWhole.checked) showTimes(start, end + DAY, true);
+    else showTimes(start + 9 * HOUR, end + 10 * HOUR, false);
 });
 prepareRepeats(form);

@@ -28,6 +28,7 @@ export class Store {
         this.occurrences = new Map();
         this.found = null;
         this.states = null;
+        this.loaded = null;
         this.turn = Promise.resolve();
     }
 
@@ -50,19 +51,21 @@ export class Store {
         return this.inTurn(() => this.window === wanted && this.load());
     }
 
-    /** Asks for everything that is in view. The states are those before it, so what changes meanwhile is told later. */
+    /** Asks for everything that is in view, a window. The states are those before it, so what changes meanwhile is told later. */
     async load() {
+        const { window } = this;
         const first = [this.call("Calendar/get", {}), this.call("CalendarEvent/get", { ids: [] })];
-        const [calendars, none, query, page] = await this.client.did(...first, ...this.expanded(this.window, 0, first.length));
+        const [calendars, none, query, page] = await this.client.did(...first, ...this.expanded(window, 0, first.length));
         const list = [...page.list];
         for (let told = query.ids.length, position = told; told === OBJECTS; position += told) {
-            const [{ ids }, more] = await this.client.did(...this.expanded(this.window, position));
+            const [{ ids }, more] = await this.client.did(...this.expanded(window, position));
             list.push(...more.list);
             told = ids.length;
         }
         this.occurrences = new Map(list.map((it) => [it.id, it]));
         this.calendars = new Map(calendars.list.map((it) => [it.id, it]));
         this.states = { calendars: calendars.state, events: none.state };
+        this.loaded = window;
         this.changed();
     }
 
@@ -89,7 +92,7 @@ export class Store {
     /** Takes up what has changed since. */
     sync() {
         return this.inTurn(async () => {
-            if (!this.states) return this.load();
+            if (this.loaded !== this.window) return this.load();
             let more = true;
             while (more) more = await this.syncOnce();
         });

@@ -1,5 +1,5 @@
 // The days in view, as a table with a cell for each day: a week by its hours, or a month.
-import { DAY, MINUTE, dateText, dayOf, endOf, fullDate, isZone, moved, timeWritten, wallOf, weekOf, written } from "./dates.js";
+import { DAY, HOUR, MINUTE, dateText, dayOf, endOf, fullDate, isZone, moved, timeWritten, wallOf, weekOf, written } from "./dates.js";
 import { button, colored, make } from "./dom.js";
 
 const STEP = 15 * MINUTE;
@@ -126,7 +126,7 @@ function dayCell(day, items, view, month, acts) {
 
 /** The hours beside a week, for the eye alone: each event says its own. */
 function axis() {
-    const marks = Array.from({ length: 24 }, (_, hour) => make("li", {}, timeWritten(hour * 60 * MINUTE)));
+    const marks = Array.from({ length: 24 }, (_, hour) => make("li", {}, timeWritten(hour * HOUR)));
     return make("td", { class: "axis", "aria-hidden": "true" }, make("ul", {}, ...marks));
 }
 

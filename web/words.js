@@ -31,7 +31,7 @@ const REFUSALS = {
 
 /** An error in words. */
 export async function reason(error, store) {
-    if (error instanceof NoAnswer) return "The server gave no answer. Save again once it is there: nothing is made twice.";
+    if (error instanceof NoAnswer) return "The server gave no answer.";
     if (error.status === 401) return "The server doesn't know this token.";
     const { type, properties } = error instanceof SetError ? error.error : error;
     if (type === "clash") return clashWords(error.error, store);

@@ -22,6 +22,7 @@ WORDS = {
 NUMBERS = {"PRIORITY": "priority", "SEQUENCE": "sequence"}
 # What is taken as a whole, elsewhere than line by line; the server has its own times of the last change.
 STRUCTURE = {"UID", "DTSTART", "DTEND", "DURATION", "RRULE", "RDATE", "EXDATE", "RECURRENCE-ID"}
+ONCE = {"UID", "DTSTART", "DTEND", "DURATION", "RECURRENCE-ID"}
 OWN_OF_SERVER = {"DTSTAMP", "LAST-MODIFIED"}
 # Of these there may be many, so a line is told by its value too.
 MANY = {"ATTENDEE", "ATTACH", "RELATED-TO"}
@@ -110,6 +111,8 @@ class Reader:
     def duration(self):
         """The Duration: from a DTEND the time that goes by, from a DURATION what it says; of a date alone one day (RFC 5545 section 3.6.1)."""
         end, length = self.component.first("DTEND"), self.component.first("DURATION")
+        if end and length:
+            self.tell(f"it has a DTEND, so its DURATION:{length.value} isn't held")
         start = local_time(self.event["start"])
         try:
             if end:
@@ -133,14 +136,19 @@ class Reader:
 
     def take(self, line):
         """Takes a line by itself: into a property, or as it is."""
-        if line.name in STRUCTURE | OWN_OF_SERVER:
+        if line.name in OWN_OF_SERVER:
             return
-        held = self.held(line)
+        if line.name in ONCE and line is not self.component.first(line.name):
+            self.tell(f"a second {line.name}:{line.value} isn't held")
+            return
+        held = {"TZID", "RANGE"} if line.name in STRUCTURE else self.held(line)
         if held is None:
             self.keep(line)
             return
         rest = {name.lower(): value for name, value in line.params.items() if name not in held and name != "VALUE"}
-        if rest:
+        if rest and line.name in STRUCTURE - ONCE:
+            self.tell(f"the parameters of {line.name}:{line.value} aren't held: {', '.join(rest)}")
+        elif rest:
             self.kept["parameters"].append([line.name.lower(), rest, line.value if line.name in MANY else ""])
 
     def held(self, line):

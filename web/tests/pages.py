@@ -102,12 +102,19 @@ class Site:
         """Ends the server by SIGKILL."""
         self.server.end()
 
+    def read(self, path, token="t-ann", body=None):
+        request = urllib.request.Request(f"{self.address}{path}", body, {"Authorization": f"Bearer {token}"})
+        with urllib.request.urlopen(request, timeout=SECONDS, context=ssl.create_default_context(cafile=self.folder / "certificate.pem")) as answer:
+            return json.load(answer)
+
+    def session(self):
+        return self.read("/.well-known/jmap")
+
     def did(self, *calls, token="t-ann"):
         """The arguments of the responses to some calls of account A1, which another client makes."""
         made = [[name, {"accountId": "A1"} | arguments, str(place)] for place, (name, arguments) in enumerate(calls)]
-        request = urllib.request.Request(f"{self.address}/jmap", json.dumps({"using": USING, "methodCalls": made}).encode(), {"Authorization": f"Bearer {token}"})
-        with urllib.request.urlopen(request, timeout=SECONDS, context=ssl.create_default_context(cafile=self.folder / "certificate.pem")) as answer:
-            return [arguments for _, arguments, _ in json.load(answer)["methodResponses"]]
+        answer = self.read("/jmap", token, json.dumps({"using": USING, "methodCalls": made}).encode())
+        return [arguments for _, arguments, _ in answer["methodResponses"]]
 
     def made(self, **events):
         """The ids of events that another client makes."""

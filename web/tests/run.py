@@ -12,10 +12,13 @@ import tempfile
 import time
 from datetime import date, timedelta
 
-import pages
-from pages import Site, Window, browsing, until
+sys.dont_write_bytecode = True
+
+import pages  # noqa: E402
+from pages import Site, Window, browsing, until  # noqa: E402
 
 ME = "web/tests/run.py"
+SLOTS = "https://jmapd.example/slots"
 HOUR = "PT1H"
 # A week in which clocks of New York are set forward already, and those of Zurich not yet.
 MONDAY = "2026-03-09"
@@ -115,7 +118,7 @@ def what_others_wrote_is_text(site, browser):
         for put_in in ("document.body.innerHTML = '<p>'", "document.createElement('script').textContent = 'window.taken = 3'"):
             assert window.run(f"try {{ {put_in} }} catch (error) {{ return error.name }}") == "TypeError", put_in
         assert window.run("return window.taken === undefined")
-        until(lambda: window.run("return window.kept_off.includes('script-src-elem')"), "the policy keeps no script off")
+        until(lambda: window.run("return window.kept_off.includes('require-trusted-types-for')"), "the policy keeps no script off")
 
 
 def the_page_goes_on_when_the_server_was_killed(site, browser):
@@ -265,6 +268,65 @@ def a_search_follows_what_others_change(site, browser):
         window.sees("Budget 2")
 
 
+def the_next_free_time_is_offered_where_the_server_finds_it(site, browser):
+    site.made(it=weekly("Board", f"{MONDAY}T09:00:00", calendarIds={"C2": True}))
+    with Window(browser, site.address, "t-ann") as window:
+        window.go("week", MONDAY)
+        window.add(title="Visit", start="2026-03-16T08:30", end="2026-03-16T09:30")
+        assert not window.one("#editor [name=slot]").is_displayed()
+        window.choose("place", "Room 1")
+        if SLOTS not in site.session()["capabilities"]:
+            assert not window.one("#editor [name=slot]").is_displayed()
+            return
+        # The hour from 9 is taken each Monday, so an hour has room from 10 on.
+        window.press("slot")
+        assert "Room 1 is free" in window.trouble(), window.trouble()
+        assert window.one("#editor [name=start]").get_property("value") == "2026-03-16T10:00"
+        assert window.one("#editor [name=end]").get_property("value") == "2026-03-16T11:00"
+        window.press("save")
+        window.is_closed()
+        assert site.titled("Visit")[0]["start"] == "2026-03-16T10:00:00"
+
+
+# A stream of events in the place of the server's, which the case writes into.
+STREAM = """
+const asking = window.fetch;
+window.streams = [];
+window.fetch = (address, options) => {
+    if (!String(address).includes("/events")) return asking(address, options);
+    const stream = new TransformStream(), writer = stream.writable.getWriter();
+    window.streams.push({ address, options, writer });
+    return Promise.resolve(new Response(stream.readable, { headers: { "Content-Type": "text/event-stream" } }));
+};
+window.tell = (text) => window.streams.at(-1).writer.write(new TextEncoder().encode(text));
+"""
+
+
+def a_stream_of_events_is_followed(site, browser):
+    with Window(browser, site.address, None) as window:
+        window.run(STREAM)
+        window.sign_in("t-ann")
+        window.go("week", MONDAY)
+        until(lambda: window.run("return window.streams.length"), "the stream isn't asked for")
+        assert "types=Calendar%2CCalendarEvent" in window.run("return window.streams[0].address")
+        assert window.run("return window.streams[0].options.headers.Authorization") == "Bearer t-ann"
+        time.sleep(2)
+        window.run("window.asked.length = 0")
+        site.made(it=event("Told", f"{MONDAY}T10:00:00"))
+        # Longer than the page waits where it has to ask.
+        time.sleep(5)
+        assert window.run("return window.asked.length") == 0 and "Told" not in window.titles()
+        # An event comes in pieces, among others (RFC 8620 section 7.3).
+        window.run("tell(': hello\\n\\nevent: ping\\ndata: {\"interval\": 60}\\n\\nevent: sta')")
+        window.run("tell('te\\ndata: {\"@type\": \"StateChange\", \"changed\": {\"A1\": {\"CalendarEvent\": \"0-1\"}}}\\r')")
+        window.run("tell('\\n\\r\\n')")
+        window.sees("Told")
+        window.run("window.streams[0].writer.close()")
+        site.made(it=event("After it", f"{MONDAY}T12:00:00"))
+        window.sees("After it")
+        until(lambda: window.run("return window.streams.length") > 1, "the stream isn't asked for again")
+
+
 def who_may_read_alone_changes_nothing(site, browser):
     site.made(it=event("To be read", f"{MONDAY}T10:00:00"))
     with Window(browser, site.address, "t-eve") as window:
@@ -305,6 +367,8 @@ CASES = [
     all_is_done_by_the_keyboard,
     everything_has_a_name_for_who_does_not_see_it,
     a_search_follows_what_others_change,
+    the_next_free_time_is_offered_where_the_server_finds_it,
+    a_stream_of_events_is_followed,
     who_may_read_alone_changes_nothing,
 ]
 

@@ -14,12 +14,13 @@ import subprocess
 import sys
 import tempfile
 import time
-from datetime import date, datetime, timedelta
+from datetime import date, datetime, timedelta, timezone
 from pathlib import Path
 
 ME = "tools/ics/tests/run.py"
 TOP = Path(__file__).resolve().parents[3]
 ICS = TOP / "tools/ics/ics"
+sys.dont_write_bytecode = True
 sys.path[:0] = [str(TOP / "tools/ics"), str(TOP / "examples")]
 
 try:
@@ -31,18 +32,19 @@ except ImportError as error:
 
 import cases  # noqa: E402
 import served  # noqa: E402
-from events import KEPT, OWN_OF_SERVER, STRUCTURE  # noqa: E402
+from events import OWN_OF_SERVER, STRUCTURE  # noqa: E402
 from lines import parse  # noqa: E402
 from server import Server  # noqa: E402
-from values import UTC, length_of, local_text, text_of  # noqa: E402
-from zones import rule_text  # noqa: E402
+from values import local_text, text_of  # noqa: E402
+from zones import rule_text, to_zone, zone  # noqa: E402
 
 # The zones of the server: those that the files name, and one that a VTIMEZONE of theirs fits by its rule alone.
 ZONES = ("America/New_York", "America/Los_Angeles", "America/Chicago", "Europe/Zurich", "Europe/Vienna", "Pacific/Fiji", "Australia/Sydney")
 OWN = {"id", "created", "updated", "calendarIds"}
 MANY = 10_000
 SECONDS_FOR_MANY = 60
-YEARS = 2
+# A query expands at most 366 days; three windows of so many days are two years.
+WINDOWS, DAYS = 3, 244
 
 
 class Site(served.Site):
@@ -133,7 +135,7 @@ def round_trip(bridge, file, number):
 
 
 def told_by_server(bridge, calendar, begin, end):
-    """The uid, the local start and the length of each occurrence in a window of days."""
+    """Each occurrence in a window of days."""
     found, position = [], 0
     while True:
         window = {"inCalendar": calendar, "after": local_text(begin), "before": local_text(end)}
@@ -145,12 +147,27 @@ def told_by_server(bridge, calendar, begin, end):
         position += len(ids)
 
 
+def on_utc(event):
+    if "timeZone" not in event:
+        return event["start"]
+    return local_text(to_zone(datetime.fromisoformat(event["start"]), zone(event["timeZone"]), timezone.utc))
+
+
 def expanded(text, begin, end):
-    """The same of `recurring_ical_events`: dates and times on the clock of the event."""
+    """The same of `recurring_ical_events`, by titles, since some events have no uid of their own, and on the clock of UTC where there is a zone."""
     calendar = icalendar.Calendar.from_ical(text)
     for it in recurring_ical_events.of(calendar, components=["VEVENT"]).between(begin, end):
         start = it["DTSTART"].dt
-        yield str(it["UID"]), local_text(start)
+        yield str(it.get("SUMMARY", "")), local_text(start.astimezone(timezone.utc) if getattr(start, "tzinfo", None) else start)
+
+
+def unreadable(file):
+    """Why the package can't expand a file, if so."""
+    try:
+        list(expanded(text_in(file), datetime(2026, 1, 1), datetime(2026, 1, 2)))
+    except Exception as error:  # pylint: disable=broad-except
+        return repr(error)[:120]
+    return None
 
 
 def occurrences(bridge, file, calendar):
@@ -159,19 +176,14 @@ def occurrences(bridge, file, calendar):
     starts = [datetime.fromisoformat(it["start"]) for it in bridge.server.events(calendar, lambda *_: None)]
     compared = 0
     for first in {min(starts).replace(hour=0, minute=0, second=0), datetime.combine(date.today(), datetime.min.time())}:
-        for year in range(YEARS):
-            begin, end = first + timedelta(days=365 * year), first + timedelta(days=365 * (year + 1))
-            ours = sorted({(it["uid"], it["start"]) for it in told_by_server(bridge, calendar, begin, end) if begin <= datetime.fromisoformat(it["start"]) < end})
-            theirs = sorted({(uid, start) for uid, start in expanded(text, begin - timedelta(days=1), end + timedelta(days=1)) if begin <= datetime.fromisoformat(start) < end})
+        for place in range(WINDOWS):
+            begin, end = first + timedelta(days=DAYS * place), first + timedelta(days=DAYS * (place + 1))
+            wide = begin - timedelta(days=2), end + timedelta(days=2)
+            found = {(it.get("title", ""), on_utc(it)) for it in told_by_server(bridge, calendar, *wide)}
+            ours, theirs = (sorted(it for it in told if begin <= datetime.fromisoformat(it[1]) < end) for told in (found, set(expanded(text, *wide))))
             same(f"{file.name} from {begin:%Y-%m-%d}", ours, theirs)
             compared += len(ours)
     return compared
-
-
-# Why `recurring_ical_events` can't be asked of a file, or tells otherwise by its own rules.
-NOT_EXPANDED = {
-    "issue_53_parsing_failure.ics": "its events have no start that the package reads",
-}
 
 
 def files_of_others(program, folders):
@@ -182,13 +194,12 @@ def files_of_others(program, folders):
         with tempfile.TemporaryDirectory() as folder, Site(program, folder).bridged() as bridge:
             calendar, events = round_trip(bridge, file, number)
             taken += events
-            if events and file.name not in NOT_EXPANDED:
-                try:
-                    icalendar.Calendar.from_ical(text_in(file))
-                except ValueError:
-                    continue
+            why_not = unreadable(file) if events else "no event"
+            if why_not is None:
                 compared += occurrences(bridge, file, calendar)
                 expanded_files += 1
+            elif events:
+                print(f"{ME}: {file.name} isn't expanded by recurring_ical_events: {why_not}", flush=True)
     print(f"{ME}: {len(files)} files with {taken} events came back as they were, and {compared} occurrences in {expanded_files} of them are those of recurring_ical_events", flush=True)
 
 
