@@ -114,8 +114,10 @@ function hours(items, day, acts) {
 function dayCell(day, items, view, month, acts) {
     const there = items.filter((it) => it.start < day + DAY && (it.end > day || it.start >= day));
     const byHours = view === "week";
-    const named = { "aria-label": `${fullDate(day)}, ${there.length} events. Add one`, "data-key": `day ${day}`, "data-place": day, tabindex: -1 };
-    const head = button(written(day, byHours ? { weekday: "short", day: "numeric", month: "short" } : { day: "numeric" }), { class: "day", ...named }, () => acts.add(day));
+    const label = `${fullDate(day)}, ${there.length} events. Add one`;
+    const named = { "aria-label": label, "data-key": `day ${day}`, "data-place": day, tabindex: -1 };
+    const words = written(day, byHours ? { weekday: "short", day: "numeric", month: "short" } : { day: "numeric" });
+    const head = button(words, { class: "day", ...named }, () => acts.add(day));
     const listed = byHours ? there.filter((it) => it.isWhole) : there;
     const list = make("ul", { class: "listed" }, ...listed.map((it) => make("li", {}, eventButton(it, day, false, acts))));
     const classes = [byHours || dateText(day).startsWith(month) ? "" : "beside", day === acts.today() ? "today" : ""].join(" ").trim();
@@ -146,14 +148,16 @@ function walkDays(table, chosen, acts) {
 /** The table of a view around a chosen day. */
 export function table(view, chosen, store, isShown, acts) {
     const days = daysInView(view, chosen), month = dateText(chosen).slice(0, 7);
-    const items = [...store.occurrences.values()].filter(isShown).map((it) => itemOf(it, store)).sort((one, other) => one.start - other.start || other.end - one.end);
+    const items = [...store.occurrences.values()].filter(isShown).map((it) => itemOf(it, store));
+    items.sort((one, other) => one.start - other.start || other.end - one.end);
     const corner = view === "week" ? [make("td", { class: "axis" })] : [];
     const heads = days.slice(0, 7).map((day) => make("th", { scope: "col" }, written(day, { weekday: "long" })));
     const rows = [];
     for (let first = 0; first < days.length; first += 7) {
         rows.push(make("tr", {}, ...(view === "week" ? [axis()] : []), ...days.slice(first, first + 7).map((day) => dayCell(day, items, view, month, acts))));
     }
-    const element = make("table", { class: view, "aria-labelledby": "period" }, make("thead", {}, make("tr", {}, ...corner, ...heads)), make("tbody", {}, ...rows));
+    const head = make("thead", {}, make("tr", {}, ...corner, ...heads));
+    const element = make("table", { class: view, "aria-labelledby": "period" }, head, make("tbody", {}, ...rows));
     walkDays(element, chosen, acts);
     return element;
 }

@@ -23,6 +23,11 @@ def is_whole(event):
     return bool(event.get("showWithoutTime")) and "timeZone" not in event and event["start"].endswith("T00:00:00") and days[1] > 0 and days[2] == 0
 
 
+def numbered(members):
+    """The members of an object in the order of the numbers at the ends of their names."""
+    return sorted(members.items(), key=lambda it: (len(it[0]), it[0]))
+
+
 class Writer:
     """Writes the VEVENT of an event, or of an occurrence of it; `component` is what it comes to."""
 
@@ -39,7 +44,7 @@ class Writer:
         self.times()
         self.words()
         self.others()
-        for alert in event.get("alerts", {}).values():
+        for _, alert in numbered(event.get("alerts", {})):
             self.component.parts.append(self.alarm(alert))
         self.add_kept()
         for name in sorted(event.keys() - TOLD):
@@ -90,7 +95,7 @@ class Writer:
                 add("GEO", place["coordinates"][4:].replace(",", ";"))
         if event.get("keywords"):
             add("CATEGORIES", ",".join(escaped(it) for it in event["keywords"]))
-        for link in event.get("links", {}).values():
+        for _, link in numbered(event.get("links", {})):
             if link.get("rel") == "enclosure":
                 add("ATTACH", link["href"], **({"FMTTYPE": link["contentType"]} if "contentType" in link else {}))
             else:

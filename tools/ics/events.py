@@ -71,6 +71,8 @@ class Reader:
             self.take(line)
         for part in component.parts:
             self.take_part(part)
+        # Participants have no order, so neither have the parameters of their lines.
+        self.kept["parameters"].sort(key=str)
         held = {key: it for key, it in self.kept.items() if it}
         if held:
             self.event[KEPT] = {"@type": "ICalComponent", "name": "vevent"} | held

@@ -4,7 +4,7 @@ import json
 from dataclasses import dataclass, field
 
 from components import components_of
-from events import KEPT, NoEvent, event_of, series_of
+from events import KEPT, NoEvent, event_of, series_of, uid_of
 from lines import Component, parse
 from rules import first_ones, with_until
 from server import Refused
@@ -84,9 +84,10 @@ class Import:
                 self.tell(f"{it.name} {it.value('UID') or ''} isn't an event, and isn't taken")
         events = [it for it in calendar.parts if it.name == "VEVENT"]
         series = list(series_of(events))
-        doubles = len(events) - sum(1 + len(instances) for *_, instances in series)
-        if doubles:
-            self.tell(f"{doubles} of its events come again, and the latest of each is taken")
+        taken = {id(it) for _, master, instances in series for it in (master, *instances)}
+        for it in events:
+            if id(it) not in taken:
+                self.tell(f"{uid_of(it)}: comes more than once, and the latest is taken: not that of SEQUENCE {it.value('SEQUENCE') or 0} and DTSTAMP {it.value('DTSTAMP')}")
         for uid, component, instances in series:
             tell = lambda what, uid=uid: self.tell(f"{uid}: {what}")
             try:

@@ -13,8 +13,8 @@ from pathlib import Path
 TOP = Path(__file__).resolve().parents[2]
 sys.path.insert(0, str(TOP / "examples"))
 
-from peers import free_port  # noqa: E402
-from served import Served  # noqa: E402
+from peers import free_port
+from served import Served
 
 SECONDS = 30
 ZONES = [{"name": "America/New_York", "rule": "EST5EDT,M3.2.0,M11.1.0"}, {"name": "Europe/Zurich", "rule": "CET-1CEST,M3.5.0,M10.5.0/3"}]
@@ -35,7 +35,7 @@ FIND = "(title) => [...document.querySelectorAll('.event')].find((it) => it.quer
 def missing():
     """What is needed and isn't here, or None."""
     try:
-        import selenium  # noqa: F401
+        import selenium
     except ImportError:
         return "python3-selenium"
     return next((it for it in TOOLS if not shutil.which(it)), None)

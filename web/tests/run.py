@@ -14,8 +14,8 @@ from datetime import date, timedelta
 
 sys.dont_write_bytecode = True
 
-import pages  # noqa: E402
-from pages import Site, Window, browsing, until  # noqa: E402
+import pages
+from pages import Site, Window, browsing, until
 
 ME = "web/tests/run.py"
 SLOTS = "https://jmapd.example/slots"
