@@ -9,8 +9,8 @@ from rules import gives, rule_text
 from values import UTC, basic, escaped, length_of, local_text, local_time
 from zones import is_zone, to_zone, zone
 
-# Properties that have their place, or none outside of the server.
-TOLD = {
+# Properties that have their place in iCalendar, or none outside of the server.
+PLACED = {
     "@type", "id", "uid", "calendarIds", "created", "updated", "start", "timeZone", "duration", "showWithoutTime", "recurrenceRules", "recurrenceOverrides",
     "recurrenceId", "baseEventId", "locations", "keywords", "links", "relatedTo", "participants", "replyTo", "alerts", "excluded", KEPT,
     *TEXTS.values(), *NUMBERS.values(), *(key for key, _ in WORDS.values()),
@@ -47,7 +47,7 @@ class Writer:
         for _, alert in numbered(event.get("alerts", {})):
             self.component.parts.append(self.alarm(alert))
         self.add_kept()
-        for name in sorted(event.keys() - TOLD):
+        for name in sorted(event.keys() - PLACED):
             tell(f"{name} has no place in iCalendar")
         if event.get("showWithoutTime") and not self.is_whole:
             tell("showWithoutTime has no place in iCalendar beside a time of the day")

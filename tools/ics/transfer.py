@@ -2,8 +2,9 @@
 
 import json
 from dataclasses import dataclass, field
+from datetime import datetime, timedelta
 
-from components import components_of
+from components import PLACED, components_of
 from events import KEPT, NoEvent, event_of, series_of, uid_of
 from lines import Component, parse
 from rules import first_ones, with_until
@@ -38,6 +39,15 @@ def key_of(event):
     """By what an event is found again: its uid, and for an occurrence alone that too."""
     lines = event.get(KEPT, {}).get("properties", [])
     return event["uid"], next((value for name, _, _, value in lines if name == "recurrence-id"), None)
+
+
+def words_of(error):
+    """A SetError in words (`clash` is the server's own)."""
+    if error["type"] != "clash":
+        return json.dumps(error)
+    second = datetime(1970, 1, 1) + timedelta(days=error["day"], seconds=error["second"])
+    other = f"the event {error['with']}" if error["with"] else "itself"
+    return f"in {error['calendarId']} it would clash with {other} on {second:%Y-%m-%d at %H:%M:%S}"
 
 
 class Import:
@@ -108,9 +118,12 @@ class Import:
         overrides = sorted(event.get("recurrenceOverrides", {}).items())
         if len(overrides) > MAX_OVERRIDES:
             event["recurrenceOverrides"] = dict(overrides[-MAX_OVERRIDES:])
-            for name, patch in overrides[:-MAX_OVERRIDES]:
-                tell(f"the occurrence {name} stays as the others are: {json.dumps(patch)[:80]}")
+            self.drop(overrides[:-MAX_OVERRIDES], tell)
         return item
+
+    def drop(self, overrides, tell):
+        for name, patch in overrides:
+            tell(f"the occurrence {name} stays as the others are, without {json.dumps(patch)[:80]}")
 
     def send(self, items):
         """Sends what has to be sent; gives those items that are worth another try."""
@@ -143,12 +156,12 @@ class Import:
             elif self.put_aside(item, refused[key]):
                 again.append(item)
             else:
-                self.refuse(item, json.dumps(refused[key]))
+                self.refuse(item, words_of(refused[key]))
         return again
 
     def patch(self, item):
-        """What of a stored event is otherwise in the file."""
-        keys = (item.event.keys() | item.stored.keys()) - OF_SERVER
+        """What of a stored event is otherwise in the file. Properties that no file can tell are left as they are."""
+        keys = (item.event.keys() | item.stored.keys() & PLACED) - OF_SERVER
         return {key: item.event.get(key) for key in sorted(keys) if item.event.get(key) != item.stored.get(key)}
 
     def count(self, what):
@@ -169,6 +182,8 @@ class Import:
             kept = item.event.setdefault(KEPT, {"@type": "ICalComponent", "name": "vevent"})
             kept.setdefault("properties", []).extend(it.kept() for it in lines)
             told = "; ".join(f"{it.name}:{it.value}" for it in lines)[:120]
+            if name == "recurrenceOverrides":
+                self.drop([it for it in value.items() if it[1] and "excluded" not in it[1]], lambda what, uid=item.event["uid"]: self.tell(f"{uid}: {what}"))
             self.tell(f"{item.event['uid']}: the server takes no such {name}, which is kept as it is: {told}{self.written_out(item, name, value)}")
         return bool(bad)
 

@@ -51,6 +51,7 @@ class Zones:
         self.components = {text: it for it in components if (text := it.value("TZID"))}
         self.known = known
         self.found = {}
+        self.all_known = None
 
     def named(self, tzid, year):
         """The name of the server's zone that a TZID means in a year, and None where there is none."""
@@ -73,7 +74,9 @@ class Zones:
         clock = clock_of(component) if component else None
         if clock is None:
             return None
-        return next((it for it in sorted(self.known(sorted(all_names()))) if shows_same(clock, zone(it), year)), None)
+        if self.all_known is None:
+            self.all_known = sorted(self.known(sorted(all_names())))
+        return next((it for it in self.all_known if shows_same(clock, zone(it), year)), None)
 
     def clock(self, tzid):
         """What tells the offsets of a TZID that the server doesn't know, or None."""

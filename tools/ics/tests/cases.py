@@ -59,6 +59,47 @@ def ruled(*rules, **members):
     return {"start": "1997-09-02T09:00:00", "timeZone": "America/New_York", "recurrenceRules": [{"@type": "RecurrenceRule"} | it for it in rules]} | members
 
 
+# Rules of the examples of section 3.8.5.3, all but those of hours and minutes, of seconds and of weeks by their numbers, which the server doesn't take, and
+# of the 20th Monday, which icalendar 4.0.3 doesn't read.
+RULES = [
+    (f"DTSTART;TZID=America/New_York:{start}T090000", rule)
+    for start, rule in (
+        ("19970902", "FREQ=DAILY;COUNT=10"),
+        ("19970902", "FREQ=DAILY;UNTIL=19971224T000000Z"),
+        ("19970902", "FREQ=DAILY;INTERVAL=2"),
+        ("19970902", "FREQ=DAILY;INTERVAL=10;COUNT=5"),
+        ("19970902", "FREQ=WEEKLY;COUNT=10"),
+        ("19970902", "FREQ=WEEKLY;UNTIL=19971224T000000Z"),
+        ("19970902", "FREQ=WEEKLY;INTERVAL=2;WKST=SU"),
+        ("19970902", "FREQ=WEEKLY;UNTIL=19971007T000000Z;WKST=SU;BYDAY=TU,TH"),
+        ("19970902", "FREQ=WEEKLY;COUNT=10;WKST=SU;BYDAY=TU,TH"),
+        ("19970902", "FREQ=WEEKLY;INTERVAL=2;COUNT=8;WKST=SU;BYDAY=TU,TH"),
+        ("19970805", "FREQ=WEEKLY;INTERVAL=2;COUNT=4;BYDAY=TU,SU;WKST=MO"),
+        ("19970805", "FREQ=WEEKLY;INTERVAL=2;COUNT=4;BYDAY=TU,SU;WKST=SU"),
+        ("19970905", "FREQ=MONTHLY;COUNT=10;BYDAY=1FR"),
+        ("19970907", "FREQ=MONTHLY;INTERVAL=2;COUNT=10;BYDAY=1SU,-1SU"),
+        ("19970922", "FREQ=MONTHLY;COUNT=6;BYDAY=-2MO"),
+        ("19970928", "FREQ=MONTHLY;BYMONTHDAY=-3"),
+        ("19970902", "FREQ=MONTHLY;COUNT=10;BYMONTHDAY=2,15"),
+        ("19970930", "FREQ=MONTHLY;COUNT=10;BYMONTHDAY=1,-1"),
+        ("19970910", "FREQ=MONTHLY;INTERVAL=18;COUNT=10;BYMONTHDAY=10,11,12,13,14,15"),
+        ("19970902", "FREQ=MONTHLY;INTERVAL=2;BYDAY=TU"),
+        ("19980213", "FREQ=MONTHLY;BYDAY=FR;BYMONTHDAY=13"),
+        ("19970913", "FREQ=MONTHLY;BYDAY=SA;BYMONTHDAY=7,8,9,10,11,12,13"),
+        ("19970904", "FREQ=MONTHLY;COUNT=3;BYDAY=TU,WE,TH;BYSETPOS=3"),
+        ("19970929", "FREQ=MONTHLY;BYDAY=MO,TU,WE,TH,FR;BYSETPOS=-2"),
+        ("20070115", "FREQ=MONTHLY;BYMONTHDAY=15,30;COUNT=5"),
+        ("19980101", "FREQ=YEARLY;UNTIL=20000131T140000Z;BYMONTH=1;BYDAY=SU,MO,TU,WE,TH,FR,SA"),
+        ("19970610", "FREQ=YEARLY;COUNT=10;BYMONTH=6,7"),
+        ("19970310", "FREQ=YEARLY;INTERVAL=2;COUNT=10;BYMONTH=1,2,3"),
+        ("19970101", "FREQ=YEARLY;INTERVAL=3;COUNT=10;BYYEARDAY=1,100,200"),
+        ("19970313", "FREQ=YEARLY;BYMONTH=3;BYDAY=TH"),
+        ("19970605", "FREQ=YEARLY;BYMONTH=6,7,8;BYDAY=TH"),
+        ("19961105", "FREQ=YEARLY;INTERVAL=4;BYMONTH=11;BYDAY=TU;BYMONTHDAY=2,3,4,5,6,7,8"),
+    )
+]
+
+
 def days(*names, **members):
     return [{"@type": "NDay", "day": name} | members for name in names]
 

@@ -8,11 +8,15 @@ python3-icalendar or python3-recurring-ical-events isn't here."""
 
 import argparse
 import contextlib
+import functools
+import http.server
 import json
 import os
+import pty
 import subprocess
 import sys
 import tempfile
+import threading
 import time
 from datetime import date, datetime, timedelta, timezone
 from pathlib import Path
@@ -191,7 +195,8 @@ def occurrences(bridge, file, calendar):
             wide = begin - timedelta(days=2), end + timedelta(days=2)
             found = {(it.get("title", ""), on_utc(it)) for it in told_by_server(bridge, calendar, *wide)}
             ours, theirs = (sorted(it for it in told if begin <= datetime.fromisoformat(it[1]) < end) for told in (found, set(expanded(text, *wide))))
-            same(f"{file.name} from {begin:%Y-%m-%d}", ours, theirs)
+            only = {"ours": sorted(set(ours) - set(theirs))[:5], "theirs": sorted(set(theirs) - set(ours))[:5]}
+            assert ours == theirs, f"{file.name} from {begin:%Y-%m-%d}: {only}"
             compared += len(ours)
     return compared
 
@@ -249,12 +254,17 @@ def what_is_changed_elsewhere(program, _):
     """A file that says otherwise changes what is there; what it doesn't speak of stays."""
     with tempfile.TemporaryDirectory() as folder, Site(program, folder).bridged() as bridge:
         file, calendar = Path(folder, "a.ics"), bridge.new("Some")
-        file.write_text(cases.calendar(cases.event("one", "SUMMARY:One"), cases.event("two", "SUMMARY:Two")))
+        file.write_text(cases.calendar(cases.event("one", "SUMMARY:One"), cases.event("two", "SUMMARY:Two", "DESCRIPTION:Here")))
         bridge.brought(file, calendar)
-        file.write_text(cases.calendar(cases.event("two", "SUMMARY:Two, moved", start="20260302T100000")))
+        # Another client gives it a property that iCalendar has no place for.
+        two = next(it for it in bridge.server.events(calendar, lambda *_: None) if it["uid"] == "two")
+        same("not updated", bridge.server.set({}, {two["id"]: {"locale": "de"}}), {})
+        file.write_text(cases.calendar(cases.event("two", "SUMMARY:Two\\, moved", start="20260302T100000")))
         counts, _ = bridge.brought(file, calendar)
         same("changed", counts, {"made": 0, "changed": 1, "unchanged": 0, "not taken": 0})
         same("titles", sorted(it["title"] for it in bridge.events(calendar).values()), ["One", "Two, moved"])
+        two = bridge.events(calendar)["two 2026-03-02T10:00:00"]
+        same("what the file can't tell, and what it tells no more", (two["locale"], "description" in two), ("de", False))
         print(f"{ME}: a file changes what it says otherwise, and nothing else", flush=True)
 
 
@@ -271,6 +281,55 @@ def what_the_server_does_not_take(program, _):
             assert f"RRULE:{rule}" in bridge.ics("export", "--calendar", calendar).stdout
             same(f"{name} again", bridge.brought(file, calendar)[0]["unchanged"], 1)
         print(f"{ME}: what the server doesn't take is kept and told", flush=True)
+
+
+def what_clashes_in_a_room(program, _):
+    """A room takes no two events at once, so one isn't taken, and is told with what it clashes."""
+    with tempfile.TemporaryDirectory() as folder, Site(program, folder).bridged() as bridge:
+        room = bridge.server.add_calendar({"name": "Room 1", "resourceZone": "Europe/Zurich"})
+        file, start = Path(folder, "a.ics"), "DTSTART;TZID=Europe/Zurich:"
+        weekly = cases.event("board", "RRULE:FREQ=WEEKLY", "DURATION:PT1H").replace("DTSTART:", start)
+        later = cases.event("visit", "DURATION:PT1H", start="20260907T093000").replace("DTSTART:", start)
+        file.write_text(cases.calendar(weekly, later))
+        counts, told = bridge.brought(file, room)
+        same("a clash", counts, {"made": 1, "changed": 0, "unchanged": 0, "not taken": 1})
+        same("a clash is told", told, [f"visit: not taken: in {room} it would clash with the event E1 on 2026-09-07 at 09:30:00"])
+        print(f"{ME}: what clashes in a room isn't taken, and told", flush=True)
+
+
+class Quiet(http.server.SimpleHTTPRequestHandler):
+    """A server of files that tells nothing."""
+
+    def log_message(self, *_):
+        pass
+
+
+def what_an_address_leads_to(program, _):
+    """An import from an address, and the bar that somebody sees who looks at it."""
+    with tempfile.TemporaryDirectory() as folder, Site(program, folder).bridged() as bridge:
+        Path(folder, "a.ics").write_text(cases.calendar(*[cases.event(f"event {number}") for number in range(600)]))
+        handler = functools.partial(Quiet, directory=folder)
+        with http.server.ThreadingHTTPServer(("127.0.0.1", 0), handler) as files:
+            threading.Thread(target=files.serve_forever, daemon=True).start()
+            terminal, seen = pty.openpty()
+            words = [ICS, "--server", bridge.address, "import", "--new", "Feed", f"http://127.0.0.1:{files.server_port}/a.ics"]
+            done = subprocess.run(words, env=os.environ | {"JMAP_TOKEN": served.TOKEN}, stdout=subprocess.PIPE, stderr=seen, text=True, check=True)
+            files.shutdown()
+        same("an address", done.stdout, "calendar C1: 600 made, 0 changed, 0 unchanged, 0 not taken\n")
+        bars = os.read(terminal, 1_000_000).decode()
+        assert "] 600 of 600" in bars and "####....." in bars, bars
+        print(f"{ME}: an address is imported, with a bar of progress", flush=True)
+
+
+def rules_of_the_standard(program, _):
+    """The examples of RFC 5545 section 3.8.5.3 come to the occurrences that `recurring_ical_events` gives."""
+    with tempfile.TemporaryDirectory() as folder, Site(program, folder).bridged() as bridge:
+        file, calendar = Path(folder, "rules.ics"), bridge.new("Rules")
+        file.write_text(cases.calendar(*[cases.event(rule, f"SUMMARY:{rule}", f"RRULE:{rule}").replace("DTSTART:20260302T090000", start) for start, rule in cases.RULES]))
+        counts, told = bridge.read(file, calendar)
+        same("the rules", (counts["made"], told), (len(cases.RULES), []))
+        compared = occurrences(bridge, file, calendar)
+        print(f"{ME}: {compared} occurrences of {len(cases.RULES)} rules of RFC 5545 are those of recurring_ical_events", flush=True)
 
 
 def words_and_statuses(program, _):
@@ -309,7 +368,8 @@ def main():
     cases.all_hold(same)
     print(f"{ME}: examples of the standards are read and written as these say", flush=True)
     if not words.without_server:
-        for test in (words_and_statuses, what_is_changed_elsewhere, what_the_server_does_not_take, files_of_others, many_events):
+        tests = (words_and_statuses, what_an_address_leads_to, what_is_changed_elsewhere, what_the_server_does_not_take, what_clashes_in_a_room)
+        for test in (*tests, rules_of_the_standard, files_of_others, many_events):
             test(os.path.abspath(words.program), words.files)
 
 
