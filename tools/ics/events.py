@@ -223,15 +223,13 @@ class Reader:
     def person(self, line):
         is_organizer = line.name == "ORGANIZER"
         told, held = (people.organizer if is_organizer else people.attendee)(line)
-        everyone = self.event.setdefault("participants", {})
-        there = everyone.get(people.id_of(line.value))
-        if there and (is_organizer or set(there["roles"]) - {"owner"}):
+        everyone, key = self.event.setdefault("participants", {}), people.id_of(line.value)
+        roles = everyone.get(key, {}).get("roles", {})
+        if any("owner" in it["roles"] for it in everyone.values()) if is_organizer else roles.keys() - {"owner"}:
             return None
-        if is_organizer:
-            if "replyTo" in self.event:
-                return None
+        if is_organizer and "sendTo" in told:
             self.event["replyTo"] = dict(told["sendTo"])
-        everyone[people.id_of(line.value)] = told | (there or {}) | {"roles": told["roles"] | (there or {}).get("roles", {})} if there else told
+        everyone[key] = told | everyone.get(key, {}) | {"roles": told["roles"] | roles}
         return held
 
     def take_part(self, part):

@@ -1,10 +1,12 @@
 """Organizers and attendees (RFC 5545 sections 3.8.4.1 and 3.8.4.3) and participants (RFC 8984 section 4.4.6)."""
 
 import hashlib
+from urllib.parse import quote
 
 from lines import Line
-from values import escaped
 
+# Whoever has a name alone is told by an address that leads nowhere (RFC 2606 section 2).
+NOWHERE = "@name.invalid"
 ROLES = {
     "CHAIR": {"attendee", "chair"},
     "REQ-PARTICIPANT": {"attendee"},
@@ -26,10 +28,11 @@ def person(line):
     if line.params.get("CN"):
         told["name"] = line.params["CN"]
         held.add("CN")
+    if address.lower().endswith(NOWHERE):
+        return told, held
     if address.lower().startswith("mailto:"):
-        told["email"] = address[7:]
-    told["sendTo"] = {"imip" if address.lower().startswith("mailto:") else "other": address}
-    return told, held
+        return told | {"email": address[7:], "sendTo": {"imip": address}}, held
+    return told | {"sendTo": {"other": address}}, held
 
 
 def attendee(line):
@@ -67,9 +70,7 @@ def params_of(participant, *more):
 
 def lines_of(participant):
     """The lines of a participant: it is organizer, attendee or both."""
-    address = address_of(participant)
-    # Whoever has a name alone is told by an address that leads nowhere (RFC 2606 section 2).
-    value = address or f"invalid:{escaped(participant.get('name', ''))}"
+    value = address_of(participant) or f"mailto:{quote(participant.get('name', ''))}{NOWHERE}"
     roles = set(participant["roles"])
     found = [Line("ORGANIZER", params_of(participant), value)] if "owner" in roles else []
     rest = roles - {"owner"}

@@ -204,6 +204,14 @@ class Window:
         self.sees(title)
         until(pressed, f"{title} can't be pressed")
 
+    def drag(self, title, right, down):
+        """Drags an event by so many pixels."""
+        from selenium.webdriver.common.action_chains import ActionChains
+
+        self.sees(title)
+        event = self.run(f"return ({FIND})(arguments[0])", title)
+        ActionChains(self.browser).click_and_hold(event).move_by_offset(round(right / 2), round(down / 2)).move_by_offset(round(right / 2), round(down / 2)).release().perform()
+
     def fill(self, **values):
         """Puts values into the dialog, as a hand would leave them there."""
         for name, value in values.items():

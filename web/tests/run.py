@@ -196,6 +196,57 @@ def times_are_put_on_the_clock_of_the_reader(site, browser):
         until(lambda: site.titled("Call later")[0]["start"] == "2026-03-30T09:15:00", "it isn't moved by the keyboard")
 
 
+def an_event_is_dragged_to_another_day_and_hour(site, browser):
+    site.made(it=event("Here", f"{MONDAY}T10:00:00"), series=weekly("Each week", "2026-03-11T10:00:00"))
+    with Window(browser, site.address, "t-ann") as window:
+        window.go("week", MONDAY)
+        window.sees("Each week")
+        window.run("document.getElementById('view').scrollTop = 350")
+        day = window.run("return document.querySelector('td[data-day]').getBoundingClientRect().width")
+        hour = window.run("return document.querySelector('.timed').getBoundingClientRect().height / 24")
+        window.drag("Here", day, 2 * hour)
+        until(lambda: site.titled("Here")[0]["start"] == "2026-03-10T12:00:00", "it isn't moved")
+        assert not window.run("return document.getElementById('editor').open"), "the drag opens it"
+        window.drag("Each week", 0, -hour / 4)
+        moved = {"2026-03-11T10:00:00": {"start": "2026-03-11T09:45:00"}}
+        until(lambda: site.titled("Each week")[0].get("recurrenceOverrides") == moved, "the one occurrence isn't moved")
+        window.go("month", MONDAY)
+        window.drag("Here", window.run("return document.querySelector('td[data-day]').getBoundingClientRect().width"), 0)
+        until(lambda: site.titled("Here")[0]["start"] == "2026-03-11T12:00:00", "it isn't moved in the month")
+
+
+def a_room_is_added_and_whole_days_are_booked(site, browser):
+    with Window(browser, site.address, "t-ann") as window:
+        window.go("month", MONDAY)
+        window.one("#adding summary").click()
+        for name, room in (("Holidays", False), ("Room 2", True)):
+            window.one("#adding [name=name]").send_keys(name)
+            if room:
+                window.one("#adding [name=room]").click()
+            window.one("#adding button").click()
+            until(lambda: window.status() == f"Added {name}.", f"{name} isn't added")
+        added = {it["name"]: it for it in site.did(("Calendar/get", {}))[0]["list"]}
+        assert (added["Room 2"]["resourceZone"], added["Holidays"]["resourceZone"]) == ("Europe/Zurich", None)
+        assert any("Room 2" in it for it in window.texts("#rooms li")) and any("Holidays" in it for it in window.texts("#calendars li"))
+        window.add(title="Fair", start="2026-03-12T09:00", end="2026-03-13T10:00", isWhole=True)
+        window.press("save")
+        window.is_closed()
+        [held] = site.titled("Fair")
+        assert {name: held.get(name) for name in ("start", "duration", "showWithoutTime", "timeZone")} == {
+            "start": "2026-03-12T00:00:00", "duration": "P2D", "showWithoutTime": True, "timeZone": None,
+        }, held
+        window.sees("Fair")
+        assert [day for day in ("11", "12", "13", "14") if "Fair" in window.one(f"td[data-day='2026-03-{day}']").text] == ["12", "13"]
+        window.add(title="Away", start="2026-03-17T09:00", end="2026-03-17T10:00")
+        window.choose("place", "Room 2")
+        window.fill(isWhole=True)
+        window.press("save")
+        window.is_closed()
+        [held] = site.titled("Away")
+        assert (held["timeZone"], held["start"], held["duration"]) == ("Europe/Zurich", "2026-03-17T00:00:00", "P1D"), held
+        assert added["Room 2"]["id"] in held["calendarIds"]
+
+
 def all_is_done_by_the_keyboard(site, browser):
     site.made(it=event("Here", f"{MONDAY}T10:00:00"))
     with Window(browser, site.address, "t-ann") as window:
@@ -364,6 +415,8 @@ CASES = [
     the_page_goes_on_when_the_server_was_killed,
     one_of_a_series_is_changed_or_all_of_it,
     times_are_put_on_the_clock_of_the_reader,
+    an_event_is_dragged_to_another_day_and_hour,
+    a_room_is_added_and_whole_days_are_booked,
     all_is_done_by_the_keyboard,
     everything_has_a_name_for_who_does_not_see_it,
     a_search_follows_what_others_change,

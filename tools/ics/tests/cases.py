@@ -301,6 +301,14 @@ def people_are_read(same):
     assert any('DELEGATED-FROM="mailto:bob@example.com"' in it for it in written(both[0])[0]), written(both[0])
 
 
+def who_has_no_address_is_told_by_name(same):
+    held = {"uid": "it", "start": "2026-03-02T09:00:00", "participants": {"me": {"@type": "Participant", "name": "Ann Lee", "roles": {"owner": True}}}}
+    assert 'ORGANIZER;CN="Ann Lee":mailto:Ann%20Lee@name.invalid' in written(held)[0], written(held)
+    [back], _ = read(*[it.written().decode() for it in components_of({"updated": "2026-01-01T00:00:00Z"} | held, lambda _: None)])
+    same("who has no address", list(back["participants"].values()), list(held["participants"].values()))
+    assert "replyTo" not in back
+
+
 def occurrences_are_read(same):
     start = "20260302T090000Z"
     series = event("it", "SUMMARY:Board", "DESCRIPTION:Each week", "RRULE:FREQ=WEEKLY", start=start)
@@ -358,5 +366,5 @@ def zones_are_written(same):
 
 
 def all_hold(same):
-    for case in (values_are_read, lines_are_read, people_are_read, occurrences_are_read, the_latest_of_one_uid_is_taken, events_are_written, zones_are_written):
+    for case in (values_are_read, lines_are_read, people_are_read, who_has_no_address_is_told_by_name, occurrences_are_read, the_latest_of_one_uid_is_taken, events_are_written, zones_are_written):
         case(same)
