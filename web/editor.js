@@ -100,10 +100,10 @@ function fill() {
 
 /** Opens the dialog on an event of the days in view, or on a new one. */
 export async function edit(store, zones, shown) {
-    const held = shown.id ? await store.event(baseOf(shown)) : { event: shown };
-    const whole = shown.recurrenceId ? await store.event(shown.id) : null;
-    if (!held || (shown.recurrenceId && !whole)) return say("It isn't there any more.");
-    open = { store, zones, event: held.event, state: held.state, occurrence: whole?.event };
+    const ids = shown.id ? [...new Set([baseOf(shown), shown.id])] : [];
+    const { events, state } = ids.length ? await store.events(ids) : { events: [shown] };
+    if (events.includes(null)) return say("It isn't there any more.");
+    open = { store, zones, event: events[0], state, occurrence: events[1] };
     document.getElementById("editor-title").textContent = isNew() ? "New event" : "Event";
     fields.scope.hidden = !open.occurrence;
     fields.which.value = "one";

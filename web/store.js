@@ -161,10 +161,10 @@ export class Store {
         Object.assign(this.found, { ids: ids.slice(0, FOUND), queryState: changes.newQueryState });
     }
 
-    /** One event whole, with the state in which it is so; null where there is none. */
-    async event(id) {
-        const [{ list, state }] = await this.client.did(this.call("CalendarEvent/get", { ids: [id] }));
-        return list.length ? { event: list[0], state } : null;
+    /** Events and occurrences whole, null for each that isn't there, with the state in which they are so. */
+    async events(ids) {
+        const [{ list, state }] = await this.client.did(this.call("CalendarEvent/get", { ids }));
+        return { events: ids.map((id) => list.find((it) => it.id === id) ?? null), state };
     }
 
     /** Whether an event with this uid is there. */
@@ -184,13 +184,13 @@ export class Store {
     /** Patches one occurrence of a series; null leaves it out. It begins again where others changed anything meanwhile. */
     async override(id, recurrenceId, patch) {
         for (;;) {
-            const held = await this.event(id);
-            if (!held) throw new SetError({ type: "notFound" });
-            const overrides = held.event.recurrenceOverrides;
+            const { events: [event], state } = await this.events([id]);
+            if (!event) throw new SetError({ type: "notFound" });
+            const overrides = event.recurrenceOverrides;
             const changed = patch ? { ...overrides?.[recurrenceId], ...patch } : { excluded: true };
             const update = overrides ? { [`recurrenceOverrides/${recurrenceId}`]: changed } : { recurrenceOverrides: { [recurrenceId]: changed } };
             try {
-                return await this.set("CalendarEvent", { ifInState: held.state, update: { [id]: update } });
+                return await this.set("CalendarEvent", { ifInState: state, update: { [id]: update } });
             } catch (error) {
                 if (error.type !== "stateMismatch") throw error;
             }

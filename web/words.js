@@ -15,9 +15,9 @@ async function clashWords({ calendarId, day, second, with: other }, store) {
     const wall = day * DAY + second * 1000;
     const when = `on ${fullDate(wall)} at ${written(wall, { timeStyle: "medium" })}`;
     if (!other) return `${room}: two of its own times would meet there ${when}.`;
-    const held = await store.event(other).catch(() => null);
-    const owners = held && ownersOf(held.event);
-    return `${room} is taken ${when} by “${held?.event.title || "(no title)"}”${owners ? ` of ${owners}` : ""}.`;
+    const event = await store.events([other]).then(({ events }) => events[0], () => null);
+    const owners = event && ownersOf(event);
+    return `${room} is taken ${when} by “${event?.title || "(no title)"}”${owners ? ` of ${owners}` : ""}.`;
 }
 
 const REFUSALS = {

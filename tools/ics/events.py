@@ -20,6 +20,11 @@ WORDS = {
     "CLASS": ("privacy", {"PUBLIC": "public", "PRIVATE": "private", "CONFIDENTIAL": "secret"}),
 }
 NUMBERS = {"PRIORITY": "priority", "SEQUENCE": "sequence"}
+# What takes a line of another kind, by its name.
+READERS = {
+    "CATEGORIES": "keywords", "LOCATION": "location", "GEO": "coordinates", "URL": "link",
+    "ATTACH": "attachment", "RELATED-TO": "relation", "ORGANIZER": "person", "ATTENDEE": "person",
+}
 # What is taken as a whole, elsewhere than line by line; the server has its own times of the last change.
 STRUCTURE = {"UID", "DTSTART", "DTEND", "DURATION", "RRULE", "RDATE", "EXDATE", "RECURRENCE-ID"}
 ONCE = {"UID", "DTSTART", "DTEND", "DURATION", "RECURRENCE-ID"}
@@ -162,11 +167,8 @@ class Reader:
             return self.put(key, words.get(line.value.upper()))
         if line.name in NUMBERS:
             return self.put(NUMBERS[line.name], int(line.value) if re.fullmatch(r"\s*\d{1,9}\s*", line.value) else None)
-        reader = {
-            "CATEGORIES": self.keywords, "LOCATION": self.location, "GEO": self.coordinates, "URL": self.link,
-            "ATTACH": self.attachment, "RELATED-TO": self.relation, "ORGANIZER": self.person, "ATTENDEE": self.person,
-        }.get(line.name)
-        return reader(line) if reader else None
+        reader = READERS.get(line.name)
+        return getattr(self, reader)(line) if reader else None
 
     def put(self, key, value):
         if value is None or key in self.event:

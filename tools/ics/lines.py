@@ -1,9 +1,13 @@
 """Components and content lines of iCalendar (RFC 5545 sections 3.1 and 3.6), with values as they are written. Folding and parameters are those of `icalendar`."""
 
+import re
 from dataclasses import dataclass, field
+from functools import lru_cache
 
 from icalendar.parser import Contentline, Contentlines, Parameters
 
+# A name with its parameters, whose values may hold a colon in quotes.
+HEAD = re.compile(r'([^:;"]+)((?:;(?:[^":]|"[^"]*")*)?):')
 # Values of properties that others made, as jCal has them where their type isn't known (RFC 7265 section 5).
 UNKNOWN = "unknown"
 
@@ -66,19 +70,17 @@ class Component:
         return Component(name.upper(), [Line.of_kept(it) for it in lines], [Component.of_kept(it) for it in parts])
 
 
+@lru_cache(4096)
+def params_of(text):
+    return {name.upper(): value for name, value in Parameters.from_ical(text).items()}
+
+
 def split(text):
     """The property of an unfolded content line; raises ValueError where it is none."""
-    quoted = False
-    for place, letter in enumerate(text):
-        if letter == '"':
-            quoted = not quoted
-        elif letter == ":" and not quoted:
-            name, _, params = text[:place].partition(";")
-            if not name:
-                break
-            found = Parameters.from_ical(params) if params else {}
-            return Line(name.upper(), {key.upper(): value for key, value in found.items()}, text[place + 1 :])
-    raise ValueError("no content line")
+    found = HEAD.match(text)
+    if not found:
+        raise ValueError("no content line")
+    return Line(found[1].upper(), dict(params_of(found[2][1:])) if found[2] else {}, text[found.end() :])
 
 
 def parse(text, tell):

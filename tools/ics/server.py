@@ -76,13 +76,15 @@ class Server:
         """The events of a calendar in order of creation; `tick` is called with how many there are and how many came."""
         found, total = [], 1
         while len(found) < total:
-            query = {"filter": {"inCalendar": calendar}, "sort": [{"property": "created"}], "position": len(found), "limit": self.most, "calculateTotal": True}
+            # Without a sort they are in order of creation; without a limit as many come as the server tells at once.
+            query = {"filter": {"inCalendar": calendar}, "position": len(found), "calculateTotal": True}
             answer = self.did("CalendarEvent/query", query)
-            total = answer["total"]
-            if not answer["ids"]:
+            ids, total = answer["ids"], answer["total"]
+            for first in range(0, len(ids), self.most):
+                found += self.did("CalendarEvent/get", {"ids": ids[first : first + self.most]})["list"]
+                tick(total, len(found))
+            if not ids:
                 break
-            found += self.did("CalendarEvent/get", {"ids": answer["ids"]})["list"]
-            tick(total, len(found))
         return found
 
     def set(self, create, update):

@@ -9,7 +9,7 @@ from events import KEPT, NoEvent, event_of, series_of, uid_of
 from lines import Component, parse
 from rules import first_ones, with_until
 from server import Refused
-from values import UTC, escaped, local_text, local_time
+from values import UTC, escaped, local_text, local_time, text_of
 from zones import Zones, is_zone, vtimezone
 
 # Of which lines a property comes, where the server refuses it.
@@ -55,9 +55,13 @@ class Import:
 
     def __init__(self, server, calendar, tell, tick):
         self.server, self.calendar, self.tell, self.tick = server, calendar, tell, tick
+        # What a calendar may say of itself that needs no telling.
+        self.held = {("CALSCALE", "GREGORIAN")}
         self.counts = dict.fromkeys(("made", "changed", "unchanged", "not taken"), 0)
 
     def run(self, text):
+        names = [it["name"] for it in self.server.calendars() if it["id"] == self.calendar]
+        self.held |= {(key, name) for key in ("NAME", "X-WR-CALNAME") for name in names}
         items = self.read(text)
         there = {key_of(it): it for it in self.server.events(self.calendar, lambda *_: None)}
         waiting = []
@@ -87,7 +91,7 @@ class Import:
     def events_of(self, calendar):
         zones = Zones([it for it in calendar.parts if it.name == "VTIMEZONE"], self.server.known_zones)
         for line in calendar.lines:
-            if line.name not in ("VERSION", "PRODID", "CALSCALE", "X-WR-CALNAME", "NAME"):
+            if line.name not in ("VERSION", "PRODID") and (line.name, text_of(line.value)) not in self.held:
                 self.tell(f"the calendar's {line.name}:{line.value[:60]} isn't held")
         for it in calendar.parts:
             if it.name not in ("VEVENT", "VTIMEZONE"):

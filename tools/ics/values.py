@@ -6,6 +6,7 @@ from datetime import datetime, timezone
 UTC = "Etc/UTC"
 DAY = 86400
 SIGNED = re.compile(r"([+-]?)P(?:(\d+)W)?(?:(\d+)D)?(?:T(?:(\d+)H)?(?:(\d+)M)?(?:(\d+)S)?)?")
+MOMENT = re.compile(r"(\d{4})(\d\d)(\d\d)(?:T(\d\d)(\d\d)(\d\d)(Z?))?")
 ESCAPES = {"\\": "\\\\", ";": "\\;", ",": "\\,", "\n": "\\n"}
 
 
@@ -42,15 +43,15 @@ def duration_text(days, seconds):
 
 def moment_of(text):
     """The date, or the date and time, of a value (RFC 5545 sections 3.3.4 and 3.3.5), and whether it is of UTC; raises ValueError where it is neither."""
-    text = text.strip()
-    if re.fullmatch(r"\d{8}", text):
-        return datetime.strptime(text, "%Y%m%d").date(), False
-    if not re.fullmatch(r"\d{8}T\d{6}Z?", text):
+    found = MOMENT.fullmatch(text.strip())
+    if not found:
         raise ValueError(f"no date and no time: {text}")
+    day = datetime(*(int(it) for it in found.group(1, 2, 3)))
+    if found[4] is None:
+        return day.date(), False
+    hour, minute, second = (int(it) for it in found.group(4, 5, 6))
     # A leap second is the second before it.
-    if text[13:15] == "60":
-        text = f"{text[:13]}59{text[15:]}"
-    return datetime.strptime(text[:15], "%Y%m%dT%H%M%S"), text.endswith("Z")
+    return day.replace(hour=hour, minute=minute, second=59 if second == 60 else second), bool(found[7])
 
 
 def local_text(moment):

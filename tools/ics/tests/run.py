@@ -169,17 +169,20 @@ def on_utc(event):
 
 def expanded(text, begin, end):
     """The same of `recurring_ical_events`, by titles, since some events have no uid of their own, and on the clock of UTC where there is a zone."""
-    calendar = icalendar.Calendar.from_ical(text)
-    for it in recurring_ical_events.of(calendar, components=["VEVENT"]).between(begin, end):
-        start = it["DTSTART"].dt
-        yield str(it.get("SUMMARY", "")), local_text(start.astimezone(timezone.utc) if getattr(start, "tzinfo", None) else start)
+    for calendar in icalendar.Calendar.from_ical(text, multiple=True):
+        for it in recurring_ical_events.of(calendar, components=["VEVENT"]).between(begin, end):
+            start = it["DTSTART"].dt
+            yield str(it.get("SUMMARY", "")), local_text(start.astimezone(timezone.utc) if getattr(start, "tzinfo", None) else start)
 
 
 def unreadable(file):
-    """Why the package can't expand a file, if so."""
+    """Why the package can't expand a file, or not as one calendar, if so."""
+    events = [it for whole in parse(text_in(file), lambda _: None) for it in whole.parts if it.name == "VEVENT"]
+    if len({(uid_of(it), it.value("RECURRENCE-ID")) for it in events}) < len(events):
+        return "an event of it comes more than once"
     try:
         list(expanded(text_in(file), datetime(2026, 1, 1), datetime(2026, 1, 2)))
-    except Exception as error:  # pylint: disable=broad-except
+    except Exception as error:  # It ends in many ways where a file isn't as it expects.
         return repr(error)[:120]
     return None
 
