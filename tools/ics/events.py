@@ -148,6 +148,8 @@ class Reader:
         if line.name in ONCE and line is not self.component.first(line.name):
             self.tell(f"a second {line.name}:{line.value} isn't held")
             return
+        if line.name == "EXRULE":
+            self.tell(f"EXRULE:{line.value} is kept, but the times that it gives aren't left out")
         held = {"TZID", "RANGE"} if line.name in STRUCTURE else self.held(line)
         if held is None:
             self.keep(line)

@@ -343,6 +343,8 @@ def events_are_written(same):
         assert line in parts[2], (line, parts[2])
     there_and_back = [it.written().decode() for it in components_of(CALCULUS, lambda _: None)]
     same("calculus there and back", read(*there_and_back)[0], [{key: it for key, it in CALCULUS.items() if key != "updated"}])
+    [held], told = read(event("it", "RRULE:FREQ=DAILY", "EXRULE:FREQ=WEEKLY"))
+    same("EXRULE", (told, "EXRULE:FREQ=WEEKLY" in written(held)[0]), (["EXRULE:FREQ=WEEKLY is kept, but the times that it gives aren't left out"], True))
     told = []
     components_of({"uid": "it", "start": "2026-03-02T09:00:00", "updated": "2026-01-01T00:00:00Z", "locale": "de"}, told.append)
     same("a property without a place", told, ["locale has no place in iCalendar"])
@@ -353,6 +355,7 @@ def events_are_written(same):
 def values_are_read(same):
     same("a negative duration", length_of("-PT15M"), (-1, 0, 900))
     same("no duration", [length_of(it) for it in ("P", "PT", "15M", "PT1.5H", "")], [None] * 5)
+    same("escapes", text_of(r"a\nb\Nc\,\;\\"), "a\nb\nc,;\\")
     same("texts", texts_of(r"a\,b,c\\,d"), ["a,b", "c\\", "d"])
     for text in ("a\\b", "a;b,c", "line\nline", "\\n", "üé🗓️"):
         same("a text there and back", text_of(escaped(text)), text)
