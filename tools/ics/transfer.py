@@ -90,18 +90,9 @@ class Import:
 
     def events_of(self, calendar):
         zones = Zones([it for it in calendar.parts if it.name == "VTIMEZONE"], self.server.known_zones)
-        for line in calendar.lines:
-            if line.name not in ("VERSION", "PRODID") and (line.name, text_of(line.value)) not in self.held:
-                self.tell(f"the calendar's {line.name}:{line.value[:60]} isn't held")
-        for it in calendar.parts:
-            if it.name not in ("VEVENT", "VTIMEZONE"):
-                self.tell(f"{it.name} {it.value('UID') or ''} isn't an event, and isn't taken")
         events = [it for it in calendar.parts if it.name == "VEVENT"]
         series = list(series_of(events))
-        taken = {id(it) for _, master, instances in series for it in (master, *instances)}
-        for it in events:
-            if id(it) not in taken:
-                self.tell(f"{uid_of(it)}: comes more than once, and the latest is taken: not that of SEQUENCE {it.value('SEQUENCE') or 0} and DTSTAMP {it.value('DTSTAMP')}")
+        self.tell_of_rest(calendar, events, {id(it) for _, master, instances in series for it in (master, *instances)})
         for uid, component, instances in series:
             tell = lambda what, uid=uid: self.tell(f"{uid}: {what}")
             try:
@@ -111,6 +102,18 @@ class Import:
                 tell(f"not taken: {error}")
                 continue
             yield self.fitted(Item(event | {"calendarIds": {self.calendar: True}}, component), tell)
+
+    def tell_of_rest(self, calendar, events, taken):
+        """Tells what of a calendar is no event, or an event that isn't among those taken."""
+        for line in calendar.lines:
+            if line.name not in ("VERSION", "PRODID") and (line.name, text_of(line.value)) not in self.held:
+                self.tell(f"the calendar's {line.name}:{line.value[:60]} isn't held")
+        for it in calendar.parts:
+            if it.name not in ("VEVENT", "VTIMEZONE"):
+                self.tell(f"{it.name} {it.value('UID') or ''} isn't an event, and isn't taken")
+        for it in events:
+            if id(it) not in taken:
+                self.tell(f"{uid_of(it)}: comes more than once, and the latest is taken: not that of SEQUENCE {it.value('SEQUENCE') or 0} and DTSTAMP {it.value('DTSTAMP')}")
 
     def fitted(self, item, tell):
         """The item within the server's limits that one can meet without loss, or by what is told."""
