@@ -65,8 +65,10 @@ class Site:
         key = ["-keyout", "key.pem", "-out", "certificate.pem"]
         words = ["openssl", "req", "-x509", "-newkey", "ec", "-pkeyopt", "ec_paramgen_curve:prime256v1", "-nodes", "-subj", "/CN=localhost", "-days", "1", *key]
         subprocess.run(words, cwd=folder, check=True, capture_output=True)
+        # Where root starts nginx, its workers read the files as nobody.
         shutil.copytree(TOP / "web", self.folder / "page")
-        self.folder.chmod(0o755)
+        for it in [self.folder, *(self.folder / "page").rglob("*"), self.folder / "page"]:
+            it.chmod(0o755)
         values = {"FOLDER": str(folder), "PAGE": str(self.folder / "page"), "JMAPD_PORT": str(self.port), "TLS_PORT": str(self.tls_port)}
         text = (TOP / "examples/nginx.conf").read_text()
         for name, value in values.items():

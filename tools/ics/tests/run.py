@@ -207,18 +207,19 @@ def occurrences(bridge, file, calendar):
 def files_of_others(program, folders):
     """All files, each over a server of its own."""
     files = sorted(Path(icalendar.__file__).parent.glob("tests/*.ics")) + sorted(it for folder in folders for it in Path(folder).rglob("*.ics"))
-    taken = compared = expanded_files = 0
+    taken = filled = compared = expanded_files = 0
     for number, file in enumerate(files):
         with tempfile.TemporaryDirectory() as folder, Site(program, folder).bridged() as bridge:
             calendar, events = round_trip(bridge, file, number)
             taken += events
+            filled += events > 0
             why_not = unreadable(file) if events else "no event"
             if why_not is None:
                 compared += occurrences(bridge, file, calendar)
                 expanded_files += 1
             elif events:
                 print(f"{ME}: {file.name} isn't expanded by recurring_ical_events: {why_not}", flush=True)
-    print(f"{ME}: {len(files)} files with {taken} events came back as they were, and {compared} occurrences in {expanded_files} of them are those of recurring_ical_events", flush=True)
+    print(f"{ME}: {len(files)} files, {filled} of them with {taken} events, came back as they were, and {compared} occurrences in {expanded_files} of them are those of recurring_ical_events", flush=True)
 
 
 def many_text():
