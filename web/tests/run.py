@@ -7,6 +7,7 @@ Skipped with a line where chromium, its driver, python3-selenium, nginx or opens
 
 import argparse
 import os
+import shutil
 import sys
 import tempfile
 import time
@@ -142,6 +143,60 @@ def the_page_goes_on_when_the_server_was_killed(site, browser):
             window.sees(title)
         assert len(site.titled("Waiting")) == 1
         until(lambda: "away" not in window.one("body").get_attribute("class"), "it says that the server is away")
+
+
+# Loses the answer to the next set, which is made all the same.
+LOSE = """
+const asking = window.fetch;
+window.fetch = async (address, options) => {
+    const answer = await asking(address, options);
+    if (!options.body?.includes("/set")) return answer;
+    window.fetch = asking;
+    throw new TypeError("lost");
+};
+"""
+
+
+def an_answer_that_was_lost_makes_nothing_twice(site, browser):
+    with Window(browser, site.address, "t-ann") as window:
+        window.go("week", MONDAY)
+        window.add(title="Once", start=f"{MONDAY}T09:00", end=f"{MONDAY}T10:00")
+        window.run(LOSE)
+        window.press("save")
+        assert "no answer" in window.trouble()
+        window.press("save")
+        window.is_closed()
+        window.sees("Once")
+        assert len(site.titled("Once")) == 1
+
+
+def a_server_with_older_data_is_read_anew(site, browser):
+    site.made(it=event("Lost", f"{MONDAY}T09:00:00"))
+    with Window(browser, site.address, "t-ann") as window:
+        window.go("week", MONDAY)
+        window.sees("Lost")
+        site.kill()
+        shutil.rmtree(site.folder / "journals")
+        (site.folder / "journals").mkdir()
+        site.start()
+        until(lambda: window.titles() == [], "what was lost is still shown")
+        rooms(site)
+        site.made(it=event("New", f"{MONDAY}T10:00:00"))
+        window.sees("New")
+
+
+def a_month_of_more_than_one_answer_is_shown_whole(site, browser):
+    daily = [{"@type": "RecurrenceRule", "frequency": "daily"}]
+    site.made(**{f"k{number}": event(f"Daily {number}", "2026-02-01T09:00:00", recurrenceRules=daily) for number in range(15)})
+    with Window(browser, site.address, "t-ann") as window:
+        # The weeks of March 2026 have 42 days, and an answer has 500 objects at most.
+        window.go("month", MONDAY)
+        until(lambda: len(window.titles()) == 15 * 42, "not all are shown")
+        window.go("week", MONDAY)
+        until(lambda: len(window.titles()) == 15 * 7, "not all of the week are shown")
+        # More changes at once than the page follows one by one.
+        site.made(**{f"k{number}": event(f"Once {number}", f"{MONDAY}T12:00:00") for number in range(20)})
+        until(lambda: len(window.titles()) == 15 * 7 + 20, "not all that came are shown")
 
 
 def one_of_a_series_is_changed_or_all_of_it(site, browser):
@@ -413,6 +468,9 @@ CASES = [
     a_series_without_end_is_there_in_the_year_2500,
     what_others_wrote_is_text,
     the_page_goes_on_when_the_server_was_killed,
+    an_answer_that_was_lost_makes_nothing_twice,
+    a_server_with_older_data_is_read_anew,
+    a_month_of_more_than_one_answer_is_shown_whole,
     one_of_a_series_is_changed_or_all_of_it,
     times_are_put_on_the_clock_of_the_reader,
     an_event_is_dragged_to_another_day_and_hour,
