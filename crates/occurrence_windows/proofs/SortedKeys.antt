@@ -1,5 +1,5 @@
 -- Lists that were sorted by a key.
-use Rattle.std.proofs.Common.{◌≡◌, Bor, suc, ◌+◌, ℤ, ◌≤ℤ◌, Bool, false, List, ◌∷◌, slice_index_or, subst, arith}
+use Rattle.std.proofs.Common.{◌≡◌, Bor, suc, ◌+◌, ℤ, ◌≤ℤ◌, false, List, ◌∷◌, slice_index_or, subst, arith}
 use Rattle.std.specs.Fn.{Called, ComputesKey, Mut}
 use Rattle.std.specs.List.Sorted.{IsSortedByKey}
 use Rattle.std.specs.Ordering.{int_cmp, is_lt}
