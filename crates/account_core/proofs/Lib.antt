@@ -11,3 +11,4 @@ pub mod InUse
 pub mod AskedLemmas
 pub mod FoundLemmas
 pub mod KeptLemmas
+pub mod SlotLemmas

@@ -11,7 +11,9 @@ use crate::ledger::Ledger;
 use crate::opening::{EntriesError, open_at};
 use crate::queries::{availability, query, query_changes};
 use crate::set::set;
+use crate::slots::{find_slot, slot};
 use resource_book::Room;
+use slot_request::SlotRequest;
 use spec_bookings::clash::Clash;
 use spec_books::book::Book;
 use spec_calls::call::{Asks, Call, Reply};
@@ -19,6 +21,7 @@ use spec_history::entry::Entry;
 use spec_history::stamp::Stamp;
 use spec_json::text::Text;
 use spec_series::series::Series;
+use spec_slots::slot::FoundSlot;
 use spec_time::moment::Moment;
 use std::alloc::{AllocError, Global};
 use std::marker::Model;
@@ -55,11 +58,14 @@ impl Account {
     ghost use Rattle.account_rooms.specs.Covered.{AreCoveredOnce};
     ghost use Rattle.account_rooms.specs.Rooms.{AreFree};
     ghost use Rattle.cal_model.specs.Sound.{unsound_place};
+    ghost use Rattle.slot_request.specs.Shown.{request_shown};
+    ghost use Rattle.slot_request.specs.Told.{AreTold};
     ghost use Rattle.spec_history.specs.History.{changes_of};
     ghost use Rattle.spec_bookings.specs.BookedResources.{bookings_of, other_bookings};
     ghost use Rattle.spec_bookings.specs.Resources.{is_resource};
     ghost use Rattle.spec_bookings.specs.Clashes.{IsClash, IsClear, first_clash, second_of};
     ghost use Rattle.spec_series.specs.Lengths.{IsWeekLong};
+    ghost use Rattle.spec_slots.specs.AccountSlots.{slot_in_account};
     ghost use Rattle.rule_expand.specs.Least.{IsLeastOf};
 
     /// An account of this id, with these zones and no entries, in this generation of the data. Takes no memory.
@@ -159,6 +165,15 @@ impl Account {
     {
         self.ledger.room_of(calendar)
     }
+
+    /// The first slot of a resource for what is asked, with each earlier start and what stands against it, over all days without end; or
+    /// `None` where the account has no live resource calendar of the id. Takes memory for it.
+    pub fn find_slot(&self, asked: &SlotRequest) -> Result<Option<FoundSlot>, AllocError>
+        ensures found { IfOk result (λ found. found ≡ slot_in_account self.now.0.zones (changes_of self.now.1) (request_shown asked.now)) }
+        ensures told { IfOk result (λ found. IfSome found AreTold) }
+    {
+        find_slot(&self.ledger, asked)
+    }
 }
 
 impl Book for Account {
@@ -222,5 +237,6 @@ fn answer<K: EntryKeeper>(
         Asks::Query(arguments) => query(ledger, arguments),
         Asks::QueryChanges(arguments) => query_changes(ledger, arguments),
         Asks::Availability(arguments) => availability(ledger, arguments),
+        Asks::Slot(arguments) => slot(ledger, arguments),
     }
 }

@@ -14,5 +14,6 @@ mod properties;
 mod queries;
 mod reply;
 mod set;
+mod slots;
 mod tally;
 mod uses;

@@ -1,8 +1,8 @@
 -- Answers look at the changes of a history and at nothing else of it.
-use Rattle.std.proofs.Common.{◌≡◌, ℕ, ℤ, List, [], Option, Some, None, length, unwrap_or, refl, sym, ap, ◌∙◌}
+use Rattle.std.proofs.Common.{◌≡◌, ℕ, ℤ, List, [], Option, Some, None, Result, Ok, Err, length, unwrap_or, refl, sym, ap, ◌∙◌}
 use Rattle.std.proofs.lemmas.List.{length-map}
 use Rattle.account_core.proofs.Committing.{changes_back}
-use Rattle.cal_model.specs.Answer.{answer, answer_to, added, availability_answer, changes_answer, changes_by, get_answer, ground, query_answer, query_changes_answer, refused, set_answer, unless_error, unless_refused}
+use Rattle.cal_model.specs.Answer.{answer, answer_to, added, availability_answer, changes_answer, changes_by, get_answer, ground, query_answer, query_changes_answer, refused, set_answer, slot_answer, slot_reply, unless_error, unless_refused}
 use Rattle.cal_model.specs.Changes.{changes_response, changes_refusal}
 use Rattle.cal_model.specs.Gets.{get_response, get_error, ids_not_found, listed}
 use Rattle.cal_model.specs.SetReply.{set_arguments}
@@ -11,7 +11,7 @@ use Rattle.spec_availability.specs.Availability.{availability_refusal, availabil
 use Rattle.spec_history.specs.Base.{Base}
 use Rattle.spec_history.specs.History.{changes_of}
 use Rattle.spec_calls.specs.declared.call.Asks.{Asks}
-use Rattle.spec_calls.specs.declared.call.Asks.TheVariants.{Availability, Changes, Get, Query, QueryChanges, Set}
+use Rattle.spec_calls.specs.declared.call.Asks.TheVariants.{Availability, Changes, Get, Query, QueryChanges, Set, Slot}
 use Rattle.spec_calls.specs.declared.call.AvailabilityArguments.{AvailabilityArguments}
 use Rattle.spec_calls.specs.declared.call.Call.{Call}
 use Rattle.spec_calls.specs.declared.call.ChangesArguments.{ChangesArguments}
@@ -21,11 +21,15 @@ use Rattle.spec_calls.specs.declared.call.QueryArguments.{QueryArguments}
 use Rattle.spec_calls.specs.declared.call.QueryChangesArguments.{QueryChangesArguments}
 use Rattle.spec_calls.specs.declared.call.Reply.{Reply}
 use Rattle.spec_calls.specs.declared.call.SetArguments.{SetArguments}
+use Rattle.spec_calls.specs.declared.call.SlotArguments.{SlotArguments}
 use Rattle.spec_history.specs.declared.entry.Change.{Change}
 use Rattle.spec_history.specs.declared.entry.Entry.{Entry}
 use Rattle.spec_history.specs.declared.stamp.Stamp.{Stamp}
 use Rattle.spec_json.specs.declared.tree.Tree.TheVariants.{Null}
 use Rattle.spec_queries.specs.Queries.{query_changes_refusal, query_changes_response, query_refusal, query_response}
+use Rattle.spec_slots.specs.AccountSlots.{slot_answered}
+use Rattle.spec_slots.specs.Texts.{slot_object}
+use Rattle.spec_slots.specs.declared.slot.FoundSlot.{FoundSlot}
 use Rattle.time_text.specs.State.{number_named}
 
 module _ (b : Base) (h h' : List Entry) (same : changes_of h ≡ changes_of h') where
@@ -92,6 +96,18 @@ module _ (b : Base) (h h' : List Entry) (same : changes_of h ≡ changes_of h') 
       place = same_length i;
     })
 
+    same_slot_reply : (r : Result FoundSlot MethodError) → slot_reply b h r ≡ slot_reply b h' r
+    same_slot_reply (Ok found) = λ i. record {
+      arguments = slot_object b.account_id found;
+      error = None;
+      created = [];
+      place = same_length i;
+    }
+    same_slot_reply (Err e) = same_refused e
+
+    same_slot : (q : SlotArguments) → slot_answer b h q ≡ slot_answer b h' q
+    same_slot q = ap (λ (cs : List Change). slot_reply b h (slot_answered b.zones cs q)) same ∙ same_slot_reply (slot_answered b.zones (changes_of h') q)
+
     same_to : (asks : Asks) → answer_to b h m created asks ≡ answer_to b h' m created asks
     same_to (Get q) = same_get q
     same_to (Changes q) = same_page q
@@ -99,6 +115,7 @@ module _ (b : Base) (h h' : List Entry) (same : changes_of h ≡ changes_of h') 
     same_to (Query q) = same_query q
     same_to (QueryChanges q) = same_query_changes q
     same_to (Availability q) = same_availability q
+    same_to (Slot q) = same_slot q
 
     same_changes : (asks : Asks) → changes_by b h m created asks ≡ changes_by b h' m created asks
     same_changes (Get q) = refl
@@ -108,6 +125,7 @@ module _ (b : Base) (h h' : List Entry) (same : changes_of h ≡ changes_of h') 
     same_changes (Query q) = refl
     same_changes (QueryChanges q) = refl
     same_changes (Availability q) = refl
+    same_changes (Slot q) = refl
 
   module _ (c : Call) where
     -- two histories with the same changes have the same answer at one moment

@@ -36,6 +36,7 @@ fn error_name(error: MethodError) -> &'static str
         MethodError::UnsupportedFilter => "unsupportedFilter",
         MethodError::UnsupportedSort => "unsupportedSort",
         MethodError::AnchorNotFound => "anchorNotFound",
+        MethodError::NotFound => "notFound",
         MethodError::CannotCalculateChanges => "cannotCalculateChanges",
         MethodError::TooManyChanges => "tooManyChanges",
         MethodError::ServerFail => "serverFail",

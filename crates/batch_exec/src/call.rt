@@ -1,14 +1,15 @@
 //! The calls on accounts that methods make of their arguments.
-ghost use Rattle.std.specs.Prelude.{◌≡◌, ◌≢◌, IfOk, Some, codes, option_map};
-ghost use Rattle.spec_calls.specs.Asking.{argument, availability_asks, changes_asks, get_asks, list_tree, number_argument, object_tree, paging_given, query_asks, query_changes_asks, set_asks, text_argument, truth_argument, zone_argument};
+ghost use Rattle.std.specs.Prelude.{◌≡◌, ◌≢◌, [], IfOk, Some, codes, option_map, unwrap_or};
+ghost use Rattle.spec_calls.specs.Asking.{argument, availability_asks, changes_asks, get_asks, list_tree, number_argument, object_tree, paging_given, query_asks, query_changes_asks, set_asks, slot_given, text_argument, truth_argument, zone_argument};
 ghost use Rattle.spec_calls.specs.Methods.{call_of, row};
 ghost use Rattle.spec_json.specs.Edit.{ChangesOnlyAt};
 ghost use Rattle.spec_batch.specs.Meaning.{grant_of};
 ghost use Rattle.spec_json.specs.Parts.{as_object, as_text, as_texts};
+ghost use Rattle.spec_json.specs.declared.tree.Tree.TheVariants.{List as Listed};
 
 use spec_calls::call::{
     Asks, AvailabilityArguments, Call, ChangesArguments, Criteria, GetArguments, Paging,
-    QueryArguments, QueryChangesArguments, SetArguments,
+    QueryArguments, QueryChangesArguments, SetArguments, SlotArguments,
 };
 use spec_calls::method::Method;
 use spec_core::user::{Grant, Grants};
@@ -16,7 +17,7 @@ use spec_history::entry::Kind;
 use spec_json::lists::{Pairs, Texts};
 use spec_json::num::Num;
 use spec_json::text::Text;
-use spec_json::tree::{Tree, TreeObject};
+use spec_json::tree::{Tree, TreeList, TreeObject};
 use std::alloc::{AllocError, Global};
 
 /// The time zone where a call names none.
@@ -80,6 +81,7 @@ fn asks_from(alloc: Global, method: Method, arguments: TreeObject) -> Result<Ask
         Method::EventQuery => query_asks(alloc, arguments),
         Method::EventQueryChanges => query_changes_asks(alloc, arguments),
         Method::GetAvailability => availability_asks(alloc, arguments),
+        Method::FindSlot => Ok(Asks::Slot(slot_given(alloc, arguments))),
     }
 }
 
@@ -129,7 +131,7 @@ fn query_asks(alloc: Global, mut arguments: TreeObject) -> Result<Asks, AllocErr
         paging: take_paging(&mut arguments),
         criteria: Criteria {
             filter: take_filter(&mut arguments),
-            sort: take_sort(&mut arguments),
+            sort: take_list(&mut arguments, "sort"),
             time_zone: take_zone(alloc, &mut arguments)?,
         },
     }))
@@ -146,7 +148,7 @@ fn query_changes_asks(alloc: Global, mut arguments: TreeObject) -> Result<Asks, 
         up_to: take_text(&mut arguments, "upToId"),
         criteria: Criteria {
             filter: take_filter(&mut arguments),
-            sort: take_sort(&mut arguments),
+            sort: take_list(&mut arguments, "sort"),
             time_zone: take_zone(alloc, &mut arguments)?,
         },
     }))
@@ -161,6 +163,19 @@ fn availability_asks(alloc: Global, mut arguments: TreeObject) -> Result<Asks, A
         utc_end: take_text_or_empty(&mut arguments, "utcEnd"),
         time_zone: take_zone(alloc, &mut arguments)?,
     }))
+}
+
+/// The arguments of a call for a slot, without rules where there are none. Texts and rules are moved out. Takes no memory.
+pub fn slot_given(alloc: Global, mut arguments: TreeObject) -> SlotArguments
+    ensures { result ≡ slot_given arguments }
+{
+    SlotArguments {
+        calendar: take_text_or_empty(&mut arguments, "calendarId"),
+        duration: take_text_or_empty(&mut arguments, "duration"),
+        after: take_text_or_empty(&mut arguments, "after"),
+        before: take_text_or_empty(&mut arguments, "before"),
+        rules: take_rules(alloc, &mut arguments),
+    }
 }
 
 fn take_paging(arguments: &mut TreeObject) -> Paging
@@ -242,12 +257,21 @@ fn take_filter(arguments: &mut TreeObject) -> Option<Tree>
     take_object(arguments, "filter").map(Tree::Object)
 }
 
-fn take_sort(arguments: &mut TreeObject) -> Option<Tree>
-    ensures value { result ≡ argument arguments.old list_tree (codes "sort") }
-    ensures others { ChangesOnlyAt (codes "sort") arguments.old arguments.new }
+fn take_list(arguments: &mut TreeObject, key: &str) -> Option<Tree>
+    ensures value { result ≡ argument arguments.old list_tree key.now }
+    ensures others { ChangesOnlyAt key.now arguments.old arguments.new }
 {
     arguments
-        .take("sort")
+        .take(key)
         .and_then(Tree::into_list)
         .map(Tree::List)
+}
+
+fn take_rules(alloc: Global, arguments: &mut TreeObject) -> Tree
+    ensures { result ≡ unwrap_or (argument arguments.old list_tree (codes "recurrenceRules")) (Listed []) }
+{
+    match take_list(arguments, "recurrenceRules") {
+        Some(rules) => rules,
+        None => Tree::List(TreeList::new(Vec::new(alloc))),
+    }
 }

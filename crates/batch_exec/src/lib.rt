@@ -1,9 +1,9 @@
 //! Requests: what they ask for, what each invocation means, and the responses, over any desk.
 #![tactic(auto)]
 
-mod arguments;
+pub mod arguments;
 mod batch;
-mod call;
+pub mod call;
 pub mod laws;
 mod meaning;
 pub mod problem;

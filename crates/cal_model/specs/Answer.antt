@@ -1,6 +1,6 @@
--- What a call is answered at a history, and what it adds: the standard methods (RFC 8620 section 5), and free and busy times (draft JMAP for
--- Calendars).
-use Rattle.std.specs.Prelude.{ℕ, ℤ, suc, List, [], ◌∷◌, Bool, Option, Some, None, length, map, unwrap_or}
+-- What a call is answered at a history, and what it adds: the standard methods (RFC 8620 section 5), free and busy times (draft JMAP for
+-- Calendars), and slots of resources (a method of this server's own).
+use Rattle.std.specs.Prelude.{ℕ, ℤ, suc, List, [], ◌∷◌, Bool, Option, Some, None, length, map, unwrap_or, Result, Ok, Err}
 use Rattle.cal_model.specs.Changes.{changes_response, changes_refusal}
 use Rattle.cal_model.specs.Gets.{get_response, get_error, ids_not_found, listed}
 use Rattle.cal_model.specs.Operations.{Ground}
@@ -8,7 +8,7 @@ use Rattle.cal_model.specs.SetReply.{set_arguments}
 use Rattle.cal_model.specs.Sets.{new_ids, objects_of, set_changes, set_refusal}
 use Rattle.spec_availability.specs.Availability.{availability_refusal, availability_response}
 use Rattle.spec_calls.specs.declared.call.Asks.{Asks}
-use Rattle.spec_calls.specs.declared.call.Asks.TheVariants.{Availability, Changes, Get, Query, QueryChanges, Set}
+use Rattle.spec_calls.specs.declared.call.Asks.TheVariants.{Availability, Changes, Get, Query, QueryChanges, Set, Slot}
 use Rattle.spec_calls.specs.declared.call.AvailabilityArguments.{AvailabilityArguments}
 use Rattle.spec_calls.specs.declared.call.Call.{Call}
 use Rattle.spec_calls.specs.declared.call.ChangesArguments.{ChangesArguments}
@@ -19,6 +19,7 @@ use Rattle.spec_calls.specs.declared.call.QueryArguments.{QueryArguments}
 use Rattle.spec_calls.specs.declared.call.QueryChangesArguments.{QueryChangesArguments}
 use Rattle.spec_calls.specs.declared.call.Reply.{Reply}
 use Rattle.spec_calls.specs.declared.call.SetArguments.{SetArguments}
+use Rattle.spec_calls.specs.declared.call.SlotArguments.{SlotArguments}
 use Rattle.spec_history.specs.Base.{Base}
 use Rattle.spec_history.specs.History.{changes_of}
 use Rattle.spec_history.specs.declared.entry.Change.{Change}
@@ -28,6 +29,9 @@ use Rattle.spec_history.specs.declared.stamp.Stamp.{Stamp}
 use Rattle.spec_json.specs.declared.tree.Tree.{Tree}
 use Rattle.spec_json.specs.declared.tree.Tree.TheVariants.{Null}
 use Rattle.spec_queries.specs.Queries.{query_changes_refusal, query_changes_response, query_refusal, query_response}
+use Rattle.spec_slots.specs.AccountSlots.{slot_answered}
+use Rattle.spec_slots.specs.Texts.{slot_object}
+use Rattle.spec_slots.specs.declared.slot.FoundSlot.{FoundSlot}
 use Rattle.time_text.specs.State.{number_named}
 
 -- the arguments of a response, and the ids that the call created (RFC 8620 sections 3.3 and 3.4)
@@ -73,6 +77,14 @@ query_changes_answer base h q = unless_error h (query_changes_refusal base (chan
 abbrev pub availability_answer : Base → List Entry → AvailabilityArguments → Reply
 availability_answer base h q = unless_error h (availability_refusal base q) (answered h (availability_response base (changes_of h) q) [])
 
+abbrev pub slot_reply : Base → List Entry → Result FoundSlot MethodError → Reply
+slot_reply base h (Ok found) = answered h (slot_object base.account_id found) []
+slot_reply base h (Err e) = refused h e
+
+-- `Resource/findSlot`
+abbrev pub slot_answer : Base → List Entry → SlotArguments → Reply
+slot_answer base h q = slot_reply base h (slot_answered base.zones (changes_of h) q)
+
 module _ (base : Base) (h : List Entry) (moment : ℤ) (created : List (List ℕ × List ℕ)) where
   abbrev pub ground : Ground
   ground = record { base = base; moment = moment }
@@ -92,6 +104,7 @@ module _ (base : Base) (h : List Entry) (moment : ℤ) (created : List (List ℕ
   answer_to (Query q) = query_answer base h q
   answer_to (QueryChanges q) = query_changes_answer base h q
   answer_to (Availability q) = availability_answer base h q
+  answer_to (Slot q) = slot_answer base h q
 
   -- the changes that a call makes
   abbrev pub changes_by : Asks → List Change
@@ -101,6 +114,7 @@ module _ (base : Base) (h : List Entry) (moment : ℤ) (created : List (List ℕ
   changes_by (Query q) = []
   changes_by (QueryChanges q) = []
   changes_by (Availability q) = []
+  changes_by (Slot q) = []
 
 abbrev pub entry_of : Stamp → ℕ → Change → Entry
 entry_of stamp part c = record { author = stamp.author; turn = stamp.turn; part = part; moment = stamp.moment; change = c }

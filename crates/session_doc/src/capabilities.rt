@@ -4,7 +4,7 @@ ghost use Rattle.spec_json.specs.Data.{members_of, object, whole};
 ghost use Rattle.spec_site.specs.SessionObject.{account_capabilities, capabilities, core_capability};
 ghost use Rattle.spec_json.specs.TreeData.{data_of};
 
-use spec_core::capability::{AVAILABILITY, CALENDARS, CORE};
+use spec_core::capability::{AVAILABILITY, CALENDARS, CORE, SLOTS};
 use spec_core::limits::{
     MAX_CALLS_IN_REQUEST, MAX_OBJECTS_IN_GET, MAX_OBJECTS_IN_SET, MAX_SIZE_REQUEST,
 };
@@ -18,6 +18,7 @@ pub(crate) fn capabilities(alloc: Global) -> Result<Tree, AllocError>
     ensures { IfOk result (λ tree. data_of tree ≡ capabilities) }
 {
     let members = vec![in alloc;
+        (SLOTS, no_members(alloc)),
         (CALENDARS, no_members(alloc)),
         (CORE, core_capability(alloc)?),
         (AVAILABILITY, no_members(alloc)),
@@ -30,6 +31,7 @@ pub(crate) fn account_capabilities(alloc: Global) -> Result<Tree, AllocError>
     ensures { IfOk result (λ tree. data_of tree ≡ account_capabilities) }
 {
     let members = vec![in alloc;
+        (SLOTS, no_members(alloc)),
         (CALENDARS, no_members(alloc)),
         (AVAILABILITY, no_members(alloc)),
     ]?;

@@ -9,7 +9,7 @@ ghost use Rattle.spec_json.specs.TreeData.{data_of, keyed};
 use crate::capabilities::capabilities;
 use crate::session_accounts::accounts_object;
 use crate::site::Site;
-use spec_core::capability::{AVAILABILITY, CALENDARS};
+use spec_core::capability::{AVAILABILITY, CALENDARS, SLOTS};
 use spec_core::user::Grant;
 use spec_json::text::Text;
 use spec_json::tree::{Tree, TreeObject};
@@ -112,10 +112,13 @@ fn primary_accounts(alloc: Global, grants: &[Grant]) -> Result<Tree, AllocError>
         [grant, ..] => {
             let calendars = Tree::Text(grant.id.copy()?);
             let availability = Tree::Text(grant.id.copy()?);
-            Tree::object(
-                alloc,
-                vec![in alloc; (CALENDARS, calendars), (AVAILABILITY, availability)]?,
-            )
+            let slots = Tree::Text(grant.id.copy()?);
+            let members = vec![in alloc;
+                (SLOTS, slots),
+                (CALENDARS, calendars),
+                (AVAILABILITY, availability),
+            ]?;
+            Tree::object(alloc, members)
         }
     }
 }

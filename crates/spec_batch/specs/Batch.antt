@@ -11,7 +11,7 @@ use Rattle.spec_batch.specs.Chain.{Made, Shown, Chain, Stops, front_of}
 use Rattle.spec_json.specs.TreeData.{data_of}
 use Rattle.spec_calls.specs.declared.call.Call.{Call}
 use Rattle.spec_calls.specs.declared.call.MethodError.{MethodError}
-use Rattle.spec_calls.specs.declared.call.MethodError.TheVariants.{UnknownMethod, InvalidArguments, InvalidResultReference, AccountNotFound, AccountReadOnly, RequestTooLarge, StateMismatch, UnsupportedFilter, UnsupportedSort, AnchorNotFound, CannotCalculateChanges, TooManyChanges, ServerFail}
+use Rattle.spec_calls.specs.declared.call.MethodError.TheVariants.{UnknownMethod, InvalidArguments, InvalidResultReference, AccountNotFound, AccountReadOnly, RequestTooLarge, StateMismatch, UnsupportedFilter, UnsupportedSort, AnchorNotFound, NotFound, CannotCalculateChanges, TooManyChanges, ServerFail}
 use Rattle.spec_batch.specs.declared.desk.DeskError.{DeskError}
 use Rattle.spec_batch.specs.declared.desk.DeskError.TheVariants as reason
 use Rattle.spec_batch.specs.declared.desk.Front.{Front}
@@ -51,6 +51,7 @@ error_type StateMismatch = codes "stateMismatch"
 error_type UnsupportedFilter = codes "unsupportedFilter"
 error_type UnsupportedSort = codes "unsupportedSort"
 error_type AnchorNotFound = codes "anchorNotFound"
+error_type NotFound = codes "notFound"
 error_type CannotCalculateChanges = codes "cannotCalculateChanges"
 error_type TooManyChanges = codes "tooManyChanges"
 error_type ServerFail = codes "serverFail"

@@ -51,6 +51,11 @@ query_changes_arguments = needs (codes "sinceQueryState") ∷ takes (codes "maxC
 abbrev pub availability_arguments : List Argument
 availability_arguments = needs (codes "accountId") ∷ needs (codes "id") ∷ needs (codes "utcStart") ∷ needs (codes "utcEnd") ∷ takes (codes "timeZone") Text ∷ []
 
+-- of a method of this server's own (RFC 8620 section 1.8)
+abbrev pub slot_arguments : List Argument
+slot_arguments = needs (codes "accountId") ∷ needs (codes "calendarId") ∷ needs (codes "duration") ∷ needs (codes "after") ∷ needs (codes "before")
+    ∷ takes (codes "recurrenceRules") Objects ∷ []
+
 abbrev pub has_shape : Shape → Data → Bool
 has_shape Text d = is_some (as_text d)
 has_shape Number d = is_some (as_whole d)

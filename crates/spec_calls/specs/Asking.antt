@@ -3,9 +3,10 @@ use Rattle.std.specs.Prelude.{ℕ, ℤ, pos, List, [], Bool, false, Option, opti
 use Rattle.spec_json.specs.Data.{Data, Pair, lookup}
 use Rattle.spec_json.specs.Parts.{as_text, as_truth, as_whole, as_texts, as_list, as_object}
 use Rattle.spec_calls.specs.declared.call.Asks.{Asks}
-use Rattle.spec_calls.specs.declared.call.Asks.TheVariants.{Get, Changes, Set, Query, QueryChanges, Availability}
+use Rattle.spec_calls.specs.declared.call.Asks.TheVariants.{Get, Changes, Set, Query, QueryChanges, Availability, Slot}
 use Rattle.spec_calls.specs.declared.call.Criteria.{Criteria}
 use Rattle.spec_calls.specs.declared.call.Paging.{Paging}
+use Rattle.spec_calls.specs.declared.call.SlotArguments.{SlotArguments}
 use Rattle.spec_history.specs.declared.entry.Kind.{Kind}
 use Rattle.spec_history.specs.declared.entry.Kind.TheVariants.{Calendar}
 use Rattle.spec_json.specs.declared.tree.Tree.{Tree}
@@ -85,3 +86,15 @@ module _ (arguments : List Pair) where
     utc_end = text_argument (codes "utcEnd");
     time_zone = zone_argument;
   })
+
+  abbrev pub slot_given : SlotArguments
+  slot_given = record {
+    calendar = text_argument (codes "calendarId");
+    duration = text_argument (codes "duration");
+    after = text_argument (codes "after");
+    before = text_argument (codes "before");
+    rules = unwrap_or (argument list_tree (codes "recurrenceRules")) (Listed []);
+  }
+
+  abbrev pub slot_asks : Asks
+  slot_asks = Slot slot_given

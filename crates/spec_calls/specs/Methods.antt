@@ -1,14 +1,14 @@
--- The methods, a row each (RFC 8620 sections 2, 4 and 5, draft JMAP for Calendars).
+-- The methods, a row each (RFC 8620 sections 2, 4 and 5, draft JMAP for Calendars; the last is this server's own, as RFC 8620 section 1.8 allows).
 use Rattle.std.specs.Prelude.{ℕ, List, [], ◌∷◌, Bool, true, false, Option, Some, None, if◌then◌else◌, option_and_then, option_map, codes}
 use Rattle.std.specs.List.{list_all, list_any}
 use Rattle.std.specs.Str.{bytes_eq}
-use Rattle.spec_calls.specs.Arguments.{Argument, availability_arguments, calendar_set_arguments, changes_arguments, event_set_arguments, get_arguments, is_well_given, query_arguments, query_changes_arguments}
-use Rattle.spec_calls.specs.Asking.{availability_asks, calendar_set_asks, changes_asks, get_asks, query_asks, query_changes_asks, set_asks}
+use Rattle.spec_calls.specs.Arguments.{Argument, availability_arguments, calendar_set_arguments, changes_arguments, event_set_arguments, get_arguments, is_well_given, query_arguments, query_changes_arguments, slot_arguments}
+use Rattle.spec_calls.specs.Asking.{availability_asks, calendar_set_asks, changes_asks, get_asks, query_asks, query_changes_asks, set_asks, slot_asks}
 use Rattle.spec_calls.specs.declared.call.Asks.{Asks}
 use Rattle.spec_calls.specs.declared.call.Call.{Call}
 use Rattle.spec_calls.specs.declared.method.Method.{Method}
-use Rattle.spec_calls.specs.declared.method.Method.TheVariants.{Echo, CalendarGet, CalendarChanges, CalendarSet, EventGet, EventChanges, EventSet, EventQuery, EventQueryChanges, GetAvailability}
-use Rattle.spec_core.specs.Capabilities.{core, calendars, availability}
+use Rattle.spec_calls.specs.declared.method.Method.TheVariants.{Echo, CalendarGet, CalendarChanges, CalendarSet, EventGet, EventChanges, EventSet, EventQuery, EventQueryChanges, GetAvailability, FindSlot}
+use Rattle.spec_core.specs.Capabilities.{core, calendars, availability, slots}
 use Rattle.spec_history.specs.declared.entry.Kind.TheVariants.{Calendar, Event}
 use Rattle.spec_json.specs.Data.{Pair, lookup}
 
@@ -34,9 +34,10 @@ row EventSet = record { name = codes "CalendarEvent/set"; capability = calendars
 row EventQuery = record { name = codes "CalendarEvent/query"; capability = calendars; is_set = false; arguments = query_arguments; asks = Some query_asks }
 row EventQueryChanges = record { name = codes "CalendarEvent/queryChanges"; capability = calendars; is_set = false; arguments = query_changes_arguments; asks = Some query_changes_asks }
 row GetAvailability = record { name = codes "Principal/getAvailability"; capability = availability; is_set = false; arguments = availability_arguments; asks = Some availability_asks }
+row FindSlot = record { name = codes "Resource/findSlot"; capability = slots; is_set = false; arguments = slot_arguments; asks = Some slot_asks }
 
 abbrev pub methods : List Method
-methods = Echo ∷ CalendarGet ∷ CalendarChanges ∷ CalendarSet ∷ EventGet ∷ EventChanges ∷ EventSet ∷ EventQuery ∷ EventQueryChanges ∷ GetAvailability ∷ []
+methods = Echo ∷ CalendarGet ∷ CalendarChanges ∷ CalendarSet ∷ EventGet ∷ EventChanges ∷ EventSet ∷ EventQuery ∷ EventQueryChanges ∷ GetAvailability ∷ FindSlot ∷ []
 
 abbrev pub first_named : List ℕ → List Method → Option Method
 first_named name [] = None

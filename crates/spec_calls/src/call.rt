@@ -121,6 +121,21 @@ pub struct AvailabilityArguments {
     pub time_zone: Text,
 }
 
+/// The arguments of a call for the first slot of a resource in which a series could be booked.
+#[derive(Drop)]
+pub struct SlotArguments {
+    /// The id of the resource's calendar.
+    pub calendar: Text,
+    /// How long an occurrence lasts, a Duration (RFC 8984 section 1.4.6).
+    pub duration: Text,
+    /// The LocalDateTime (RFC 8984 section 1.4.5) from which on starts are tried.
+    pub after: Text,
+    /// The LocalDateTime up to but without which they are.
+    pub before: Text,
+    /// The list of the series' recurrence rules (RFC 8984 section 4.3.3), empty for one occurrence alone.
+    pub rules: Tree,
+}
+
 /// What a method call asks of an account, by its arguments.
 #[derive(Drop)]
 pub enum Asks {
@@ -136,6 +151,8 @@ pub enum Asks {
     QueryChanges(QueryChangesArguments),
     /// Asks when the account's owner is busy (draft JMAP for Calendars).
     Availability(AvailabilityArguments),
+    /// Asks for the first slot of a resource in which a series could be booked.
+    Slot(SlotArguments),
 }
 
 /// Why a method call was refused (RFC 8620 section 3.6.2). The call changed nothing.
@@ -161,6 +178,8 @@ pub enum MethodError {
     UnsupportedSort,
     /// The anchor isn't in the result.
     AnchorNotFound,
+    /// The account has no resource calendar of the id that the call names. RFC 8620 section 5.3 has the name, for the ids of a set.
+    NotFound,
     /// What changed since the state can't be told.
     CannotCalculateChanges,
     /// The changes are more than the client takes.

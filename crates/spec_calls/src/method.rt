@@ -3,7 +3,7 @@ ghost use Rattle.std.specs.Prelude.{◌≡◌, map};
 ghost use Rattle.spec_calls.specs.Arguments.{argument_of};
 ghost use Rattle.spec_calls.specs.Methods.{method_named, row};
 
-use spec_core::capability::{AVAILABILITY, CALENDARS, CORE};
+use spec_core::capability::{AVAILABILITY, CALENDARS, CORE, SLOTS};
 
 /// A method that requests may call.
 #[derive(Clone, Copy, Debug, PartialEq, Eq, Drop)]
@@ -18,6 +18,7 @@ pub enum Method {
     EventQuery,
     EventQueryChanges,
     GetAvailability,
+    FindSlot,
 }
 
 /// A kind of JSON value that an argument may have.
@@ -108,6 +109,15 @@ const AVAILABILITY_ARGUMENTS: &[Argument] = &[
     Argument::Takes("timeZone", Shape::Text),
 ];
 
+const SLOT_ARGUMENTS: &[Argument] = &[
+    Argument::Needs("accountId"),
+    Argument::Needs("calendarId"),
+    Argument::Needs("duration"),
+    Argument::Needs("after"),
+    Argument::Needs("before"),
+    Argument::Takes("recurrenceRules", Shape::Objects),
+];
+
 impl Method {
     /// The method of a name. Takes no memory.
     pub fn named(name: &str) -> Option<Method>
@@ -124,6 +134,7 @@ impl Method {
             "CalendarEvent/query" => Some(Method::EventQuery),
             "CalendarEvent/queryChanges" => Some(Method::EventQueryChanges),
             "Principal/getAvailability" => Some(Method::GetAvailability),
+            "Resource/findSlot" => Some(Method::FindSlot),
             _ => None,
         }
     }
@@ -135,6 +146,7 @@ impl Method {
         match self {
             Method::Echo => CORE,
             Method::GetAvailability => AVAILABILITY,
+            Method::FindSlot => SLOTS,
             _ => CALENDARS,
         }
     }
@@ -152,6 +164,7 @@ impl Method {
             Method::EventQuery => QUERY_ARGUMENTS,
             Method::EventQueryChanges => QUERY_CHANGES_ARGUMENTS,
             Method::GetAvailability => AVAILABILITY_ARGUMENTS,
+            Method::FindSlot => SLOT_ARGUMENTS,
         }
     }
 }

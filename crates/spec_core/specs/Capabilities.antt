@@ -11,6 +11,10 @@ calendars = codes "urn:ietf:params:jmap:calendars"
 abbrev pub availability : List ℕ
 availability = codes "urn:ietf:params:jmap:principals:availability"
 
+-- an extension of this server's own (RFC 8620 sections 1.8 and 9.4)
+abbrev pub slots : List ℕ
+slots = codes "https://jmapd.example/slots"
+
 -- a capability that a request may use
 abbrev pub is_capability : List ℕ → Bool
-is_capability u = bytes_eq u core || (bytes_eq u calendars || bytes_eq u availability)
+is_capability u = bytes_eq u core || (bytes_eq u calendars || (bytes_eq u availability || bytes_eq u slots))

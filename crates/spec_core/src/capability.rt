@@ -8,3 +8,6 @@ pub const CALENDARS: &str = "urn:ietf:params:jmap:calendars";
 
 /// The capability of `Principal/getAvailability` (draft JMAP for Calendars).
 pub const AVAILABILITY: &str = "urn:ietf:params:jmap:principals:availability";
+
+/// The capability of `Resource/findSlot`, an extension of this server's own (RFC 8620 sections 1.8 and 9.4).
+pub const SLOTS: &str = "https://jmapd.example/slots";

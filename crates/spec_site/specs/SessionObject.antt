@@ -1,7 +1,7 @@
--- The session object of a user (RFC 8620 section 2, draft JMAP for Calendars).
+-- The session object of a user (RFC 8620 section 2, draft JMAP for Calendars), with an extension of this server's own (RFC 8620 section 1.8).
 use Rattle.std.specs.Prelude.{ℕ, pos, List, [], ◌∷◌, ◌++◌, Bool, true, false, codes, map, slice_index_or}
 use Rattle.spec_core.specs.declared.limits.TheConstants.{MAX_CALLS_IN_REQUEST, MAX_OBJECTS_IN_GET, MAX_OBJECTS_IN_SET, MAX_SIZE_REQUEST}
-use Rattle.spec_core.specs.Capabilities.{core, calendars, availability}
+use Rattle.spec_core.specs.Capabilities.{core, calendars, availability, slots}
 use Rattle.spec_json.specs.Data.{Data, Pair, truth, whole, text, list, object, items_of, members_of}
 use Rattle.spec_json.specs.Edit.{put_all}
 use Rattle.spec_site.specs.Configuration.{Site, SiteAccount}
@@ -27,10 +27,10 @@ core_capability = object (members_of (
     ∷ (codes "maxSizeUpload", number 0) ∷ []))
 
 abbrev pub capabilities : Data
-capabilities = object (members_of ((calendars, empty) ∷ (core, core_capability) ∷ (availability, empty) ∷ []))
+capabilities = object (members_of ((slots, empty) ∷ (calendars, empty) ∷ (core, core_capability) ∷ (availability, empty) ∷ []))
 
 abbrev pub account_capabilities : Data
-account_capabilities = object (members_of ((calendars, empty) ∷ (availability, empty) ∷ []))
+account_capabilities = object (members_of ((slots, empty) ∷ (calendars, empty) ∷ (availability, empty) ∷ []))
 
 module _ (site : Site) where
   abbrev unnamed : SiteAccount
@@ -54,7 +54,7 @@ module _ (site : Site) where
   -- each capability with the account that it is first used for
   abbrev pub primary_accounts : List Grant → Data
   primary_accounts [] = empty
-  primary_accounts (g ∷ gs) = object (members_of ((calendars, text g.id) ∷ (availability, text g.id) ∷ []))
+  primary_accounts (g ∷ gs) = object (members_of ((slots, text g.id) ∷ (calendars, text g.id) ∷ (availability, text g.id) ∷ []))
 
   abbrev address : List ℕ → Data
   address path = text (site.base_url ++ path)

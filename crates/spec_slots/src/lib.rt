@@ -3,5 +3,6 @@
 #![tactic(auto)]
 
 pub mod laws;
+pub mod limits;
 pub mod slot;
 pub mod wish;

@@ -3,7 +3,7 @@ use Rattle.account_core.proofs.KeptLemmas.{looked}
 use Rattle.account_core.specs.Ledger.{base, ledger_entries}
 use Rattle.cal_model.specs.Answer.{answer_to, changes_by, entries_from}
 use Rattle.spec_books.specs.Acting.{Came}
-use Rattle.spec_calls.specs.declared.call.Asks.TheVariants.{Availability, Changes, Get, Query, QueryChanges, Set}
+use Rattle.spec_calls.specs.declared.call.Asks.TheVariants.{Availability, Changes, Get, Query, QueryChanges, Set, Slot}
 use Rattle.account_core.proofs.account.answer.Goals as goal
 
 pub returns-in-Get-clause-came : goal.returns-in-Get-clause-came
@@ -27,3 +27,7 @@ pub returns-in-Availability-clause-came : goal.returns-in-Availability-clause-ca
 returns-in-Availability-clause-came g c =
     looked g.K.EntryKeeper.unkept (base c.args.ledger.now) (ledger_entries c.args.ledger.now) c.args.call.now c.args.stamp.now (Availability c.in-Availability.arguments) c.availability.result c.in-Availability.is refl
     c.availability.ensures
+
+pub returns-in-Slot-clause-came : goal.returns-in-Slot-clause-came
+returns-in-Slot-clause-came g c =
+    looked g.K.EntryKeeper.unkept (base c.args.ledger.now) (ledger_entries c.args.ledger.now) c.args.call.now c.args.stamp.now (Slot c.in-Slot.arguments) c.slot.result c.in-Slot.is refl c.slot.ensures
