@@ -35,7 +35,7 @@ shown='%{stderr}%{http_code} %{content_type}\n%{stdout}\n'
 common=(--silent --show-error --cacert "$folder/certificate.pem" --max-time 20 --retry 20 --retry-connrefused --retry-all-errors --retry-delay 1 -H 'Authorization: Bearer t-ann' -w "$shown")
 sent=("${common[@]}" "https://localhost:$tls_port/.well-known/jmap")
 for request in set get rename changes destroy event move sync weekly weeks week agenda search list room free slot book; do
-    sent+=(--next "${common[@]}" --data-binary "@examples/$request.json" "https://localhost:$tls_port/jmap")
+    sent+=(--next "${common[@]}" --data-binary "@examples/over_http/$request.json" "https://localhost:$tls_port/jmap")
 done
 if ! answers=$(curl "${sent[@]}"); then
     cat "$folder/errors"
