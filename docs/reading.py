@@ -34,6 +34,7 @@ RESTATED = {
     ),
     "spec_bookings/BookedResources": ("bookings_clash_where_two_would_cover_a_second", "clash_in first_clash_in clash_of_event"),
     "spec_bookings/HistoryBookings": ("bookings_are_of_live_events", "booking_of bookings_at"),
+    "spec_slots/Slots": ("slots_are_least", "first_free tried_of slot_among"),
     "spec_recurrence/RulesOf": (
         "rules_are_their_parts",
         "is_interval has_by_parts ends_within repeats_within weeks_start_within is_within_limits IsWithinLimits limits_of rule_by rule_where rule_by_parts",
