@@ -313,9 +313,11 @@ def silence(port):
     peer.socket.settimeout(70)
     begun = time.monotonic()
     frame = peer.next()
-    yield "a ping behind 30 s", frame is not None and frame[0] == PING and 29 < time.monotonic() - begun < 35
-    yield "the end behind 30 s more", peer.next() is None and 58 < time.monotonic() - begun < 70
+    asked = frame is not None and frame[0] == PING and 29 < time.monotonic() - begun < 35
+    let_go = peer.next() is None and 58 < time.monotonic() - begun < 70
     peer.end()
+    yield "a ping behind 30 s", asked
+    yield "the end behind 30 s more", let_go
 
 
 def misbehaviour(port, with_silence):
@@ -362,11 +364,14 @@ def by_the_other_client(program):
 def main():
     words = [word for word in sys.argv[1:] if word != "--silence"]
     program = words[0] if words else "crates/jmapd/out/jmapd"
-    bad = 0
+    tried, bad = 0, 0
     for name, good in (*by_frames(program, "--silence" in sys.argv), *by_the_other_client(program)):
+        tried += 1
         if not good:
             bad += 1
             print(f"examples/sockets.py: {name}: another answer")
+    if not bad:
+        print(f"examples/sockets.py: all of {tried} came as the standards and API.md say")
     sys.exit(bad > 0)
 
 

@@ -133,7 +133,7 @@ fn a_client_is_read_and_answered(rt: HostRuntime) -> Result<(), Fail> {
     let frame = [
         0x81, 0x85, 0x37, 0xfa, 0x21, 0x3d, 0x7f, 0x9f, 0x4d, 0x51, 0x58,
     ];
-    assert!(rt; client.get_ref().output.as_slice() == frame);
+    assert!(rt; client.get_ref().output.as_slice() == frame.as_slice());
     assert!(rt; client.close(None).is_ok());
     let mut link = SocketLink::new(alloc, Memory::of(alloc, &client.get_ref().output)?);
     match link.next() {
@@ -143,7 +143,7 @@ fn a_client_is_read_and_answered(rt: HostRuntime) -> Result<(), Fail> {
     assert!(rt; link.send(b"Hello").is_ok());
     // a single-frame unmasked text message (section 5.7)
     let answer = [0x81, 0x05, 0x48, 0x65, 0x6c, 0x6c, 0x6f];
-    assert!(rt; link.stream().output.as_slice() == answer);
+    assert!(rt; link.stream().output.as_slice() == answer.as_slice());
     match link.next() {
         Ok(WsIn::Closed) => {}
         _ => panic!(rt; "not closed"),
@@ -167,6 +167,6 @@ fn a_frame_that_is_not_masked_is_refused(rt: HostRuntime) -> Result<(), Fail> {
         _ => panic!(rt; "taken"),
     }
     // a close with the code 1002
-    assert!(rt; link.stream().output.as_slice() == [0x88, 0x02, 0x03, 0xea]);
+    assert!(rt; link.stream().output.as_slice() == [0x88, 0x02, 0x03, 0xea].as_slice());
     Ok(())
 }
