@@ -1,4 +1,4 @@
-//! The command `kept` over a database in a file.
+//! The commands `kept` and `slot` over a database in a file.
 
 use crate::unopened::tell_unopened;
 use command_line::kept::KeptCommand;
@@ -8,6 +8,7 @@ use io_edge::system_files::SystemFiles;
 use jmapd_run::kept_status::KeptStatus;
 use jmapd_run::status::Status;
 use kept_run::run::run_kept;
+use slot_run::run::run_slot;
 use sql_keeper::open::{OpenError, open_file};
 use std::io;
 
@@ -27,6 +28,22 @@ pub fn run_journal(rt: HostRuntime, asked: KeptCommand<'_>) -> KeptStatus {
         &mut keeper,
     );
     done.status
+}
+
+/// Opens the journal, and looks for the slot that standard input asks for. A journal that isn't opened is as in `run_journal`.
+pub fn look_in_journal(rt: HostRuntime, asked: KeptCommand<'_>) -> KeptStatus {
+    let mut keeper = match open_file(&rt, asked.journal) {
+        Ok(keeper) => keeper,
+        Err(error) => return KeptStatus::Plain(unopened(&rt, error, asked.journal)),
+    };
+    run_slot(
+        rt.alloc(),
+        asked,
+        &mut SystemFiles::new(rt.alloc(), rt),
+        &mut ReaderSource::new(rt.reader()),
+        &mut WriterSink::new(io::writer(&rt)),
+        &mut keeper,
+    )
 }
 
 // Tells why the journal of a name isn't opened, and gives the status that it is.

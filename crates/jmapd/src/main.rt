@@ -12,11 +12,12 @@ mod words;
 
 use crate::ending::{finish, finish_kept};
 use crate::folder::JournalFolder;
-use crate::journal::run_journal;
+use crate::journal::{look_in_journal, run_journal};
 use crate::sockets::run_sockets;
 use crate::words::{listen_without_journals, program_words};
 use command_line::kept::KeptCommand;
 use command_line::listen_kept::ListenKept;
+use command_line::slot::read_slot;
 use command_line::websocket::Websocket;
 use io_edge::streams::{ReaderSource, WriterSink};
 use io_edge::system_clock::SystemClock;
@@ -42,6 +43,11 @@ fn main(rt: HostRuntime) -> ExitCode {
     }
     match Websocket::read(rt.alloc(), &words) {
         Ok(Some(asked)) => return finish(&rt, run_sockets(rt, asked)),
+        Ok(None) => {}
+        Err(_) => return finish(&rt, Status::NoMemory),
+    }
+    match read_slot(rt.alloc(), &words) {
+        Ok(Some(asked)) => return finish_kept(&rt, look_in_journal(rt, asked)),
         Ok(None) => {}
         Err(_) => return finish(&rt, Status::NoMemory),
     }

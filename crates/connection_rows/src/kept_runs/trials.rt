@@ -1,8 +1,9 @@
-//! The runs of a row, over a keeper in memory.
+//! The runs of a row, of `kept` or of `slot`, over a keeper in memory.
 use crate::CLOCK;
 use crate::connections::runs::{copied, status_name};
 use crate::kept_runs::case::{ACCOUNT, KeptCase, KeptRun};
 use command_line::kept::KeptCommand;
+use command_line::slot::read_slot;
 use io_edge::memory_opener::MemOpener;
 use io_edge::memory_sink::MemSink;
 use io_edge::memory_source::MemSource;
@@ -14,6 +15,7 @@ use kept_run::run::run_kept;
 use kept_run::status::KeptDone;
 use row_table::files::Files;
 use row_table::trial::not_read;
+use slot_run::run::run_slot;
 use spec_history::entry::Entry;
 use std::alloc::{AllocError, Global};
 
@@ -85,7 +87,7 @@ fn other_than_run(
     Ok(Some(format!(in alloc; "{status}, kept {kept}, written {written}, {text:?}")?))
 }
 
-/// What comes of a run over a keeper, where these are the words of `kept`.
+/// What comes of a run over a keeper, where these are the words of `kept` or of `slot`.
 fn outcome_of(
     alloc: Global,
     words: &[String],
@@ -93,23 +95,31 @@ fn outcome_of(
     files: &Files,
     keeper: &mut MemKeeper,
 ) -> Result<Option<Outcome>, AllocError> {
-    let Some(asked) = KeptCommand::read(alloc, words)? else {
-        return Ok(None);
-    };
     let mut opener = MemOpener::new(alloc, copied(alloc, files)?, Vec::new(alloc));
     let input = run.input.as_slice().to_vec(alloc)?;
     let mut input = MemSource::new(input, usize::MAX, Vec::new(alloc));
     let mut output = MemSink::new(alloc, run.failing_gives.as_slice().to_vec(alloc)?);
-    let mut clock = CLOCK;
-    let done = run_kept(
-        alloc,
-        asked,
-        &mut opener,
-        &mut input,
-        &mut output,
-        &mut clock,
-        keeper,
-    );
+    if let Some(asked) = KeptCommand::read(alloc, words)? {
+        let mut clock = CLOCK;
+        let done = run_kept(
+            alloc,
+            asked,
+            &mut opener,
+            &mut input,
+            &mut output,
+            &mut clock,
+            keeper,
+        );
+        return Ok(Some(Outcome { done, output }));
+    }
+    let Some(asked) = read_slot(alloc, words)? else {
+        return Ok(None);
+    };
+    let done = KeptDone {
+        status: run_slot(alloc, asked, &mut opener, &mut input, &mut output, keeper),
+        kept: 0,
+        written: 0,
+    };
     Ok(Some(Outcome { done, output }))
 }
 
