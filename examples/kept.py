@@ -1,5 +1,5 @@
 #!/usr/bin/env python3
-"""Runs `jmapd kept` over files as they may be, and compares exit status, responses and standard error with what the documents say.
+"""Runs `jmapd kept`, and `jmapd slot` beside it, over files as they may be, and compares exit status, responses and standard error with what the documents say.
 
 Journals are damaged by Python's sqlite3, which reads what the program wrote. Then the program is killed at random moments, and what was answered is compared with what the next run finds.
 
@@ -34,6 +34,10 @@ SITE = {
     "users": [{"name": "ann", "token": "t-ann", "accounts": ["A1", "A2"]}, {"name": "bob", "token": "t-bob", "accounts": ["A2"]}],
     "zones": [],
 }
+
+
+WEEKLY = {"start": "2026-03-02T09:00:00", "duration": "PT1H", "timeZone": "Etc/UTC", "recurrenceRules": [{"frequency": "weekly"}]}
+WISH = {"accountId": "A1", "calendarId": "C1", "duration": "PT1H", "after": "2026-03-02T09:30:00", "before": "2026-03-02T10:15:00", "recurrenceRules": [{"frequency": "weekly"}]}
 
 
 def request(*calls):
@@ -79,6 +83,18 @@ class Room:
         )
         written = (ended.stdout or b"").decode().split("\n")
         return ended.returncode, [json.loads(line) for line in written[:-1]], ended.stderr.decode()
+
+    def look(self, journal="a.db", **asked):
+        """Exit status, what is written, and standard error of a look for a slot in a room that is taken for an hour each Monday from nine o'clock on."""
+        ended = subprocess.run(
+            [self.program, "slot", *words(journal)[1:]],
+            input=json.dumps(WISH | asked).encode(),
+            stdout=subprocess.PIPE,
+            stderr=subprocess.PIPE,
+            cwd=self.folder,
+            timeout=SECONDS,
+        )
+        return ended.returncode, json.loads(ended.stdout or "null"), ended.stderr.decode()
 
     def change(self, script, *values, journal="a.db"):
         with sqlite3.connect(self.path(journal)) as base:
@@ -174,6 +190,35 @@ def accounts_that_are_gone_stay_in_the_file(room):
         json.dump(SITE | {"accounts": SITE["accounts"][:1], "users": [SITE["users"][0] | {"accounts": ["A1"]}]}, file)
     expect(names(room.run(get())[1][0]), ["Work"])
     expect(len(room.entries("A2")), 1)
+
+
+# ---- slots
+
+
+def book(room):
+    room.run(
+        request(("Calendar/set", {"accountId": "A1", "create": {"r": {"name": "Room", "resourceZone": "Etc/UTC"}}})),
+        request(("CalendarEvent/set", {"accountId": "A1", "create": {"b": WEEKLY | {"calendarIds": {"C1": True}}}})),
+    )
+
+
+def slots_are_found(room):
+    book(room)
+    before = room.entries()
+    tried = [{"day": 20514, "second": second, "start": start, "with": "E1"} for second, start in ((34200, "2026-03-02T09:30:00"), (35100, "2026-03-02T09:45:00"))]
+    expect(room.look(), (0, {"slot": "2026-03-02T10:00:00", "tried": tried}, ""))
+    expect(room.look(before="2026-03-02T10:00:00"), (0, {"slot": None, "tried": tried}, ""))
+    expect(room.look(accountId="A2"), (1, {"type": "calendarNotFound"}, "jmapd: request refused\n"))
+    expect(room.entries(), before)
+
+
+def slots_need_a_sound_journal(room):
+    book(room)
+    room.change("DELETE FROM entry WHERE place = 0")
+    room.change("UPDATE entry SET place = 0")
+    expect(room.look(), (11, None, "jmapd: bad journal: A1 0\n"))
+    room.change("UPDATE entry SET text = SUBSTR(text, 1, 40)")
+    expect(room.look(), (10, None, "jmapd: damaged entry: A1 0\n"))
 
 
 # ---- words
@@ -412,6 +457,8 @@ CASES = {
     "lines of 10,000,000 bytes are answered": long_lines_are_answered,
     "accounts are found by their ids": accounts_are_found_by_id,
     "accounts that are gone stay in the file": accounts_that_are_gone_stay_in_the_file,
+    "slots are found": slots_are_found,
+    "slots need a sound journal": slots_need_a_sound_journal,
     "words are tested": words_are_tested,
     "users are named": users_are_named,
     "configurations are tested": configurations_are_tested,
