@@ -1,5 +1,5 @@
 -- Looks for a slot in which nothing fails.
-use Rattle.std.proofs.Common.{◌≡◌, ◌⊎◌, ℕ, List, Option, Some, None, Ok, Err, inl, inr, refl, sym, ap, subst, arith}
+use Rattle.std.proofs.Common.{◌≡◌, ◌⊎◌, ℕ, List, Some, None, Ok, Err, inl, inr, refl, sym, subst}
 use Rattle.command_line.specs.KeptWords.{KeptCommand}
 use Rattle.io_edge.specs.Outside.{OpenerShown, Rose, SinkShown, SourceShown}
 use Rattle.jmapd_run.specs.Completes.{IsAccepted}

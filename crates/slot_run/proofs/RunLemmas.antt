@@ -1,5 +1,5 @@
 -- From the words on.
-use Rattle.std.proofs.Common.{◌≡◌, ◌<◌, ℕ, List, Option, Some, None, Ok, Err, All, inl, inr, length, refl, sym, ap, ◌∙◌, subst}
+use Rattle.std.proofs.Common.{◌≡◌, ◌<◌, ℕ, List, Some, None, Ok, Err, All, inl, inr, length, refl, sym, subst}
 use Rattle.command_line.specs.KeptWords.{KeptCommand}
 use Rattle.io_edge.specs.Outside.{OpenerShown, SinkShown, SourceShown}
 use Rattle.jmapd_run.specs.Shown.{LoadHow}
@@ -10,7 +10,7 @@ use Rattle.jmapd_run.specs.declared.status.Status.{Status}
 use Rattle.jmapd_run.specs.declared.status.Status.TheVariants.{Usage}
 use Rattle.journal_keeper.specs.Journals.{KeeperShown}
 use Rattle.kept_run.proofs.RunLemmas.{with_keeper, without_accounts, without_site}
-use Rattle.kept_run.proofs.StartLemmas.{count_opened, loads_none}
+use Rattle.kept_run.proofs.StartLemmas.{loads_none}
 use Rattle.kept_run.specs.Opened.{AreOpened}
 use Rattle.kept_run.specs.Runs.{KeptSetting, NotBegun}
 use Rattle.kept_run.specs.Steps.{IsLoad, NotOpened}

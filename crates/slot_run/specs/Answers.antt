@@ -1,5 +1,5 @@
 -- What a look for a slot comes to.
-use Rattle.std.specs.Prelude.{ℕ, ◌&&◌, List, Option, Some, None, Result, Ok, Err, codes, length, nat_le, ok_or, if◌then◌else◌}
+use Rattle.std.specs.Prelude.{ℕ, ◌&&◌, List, Option, Some, None, Result, Err, codes, length, nat_le, ok_or, if◌then◌else◌}
 use Rattle.account_desk.specs.SoleDesk.{account_at}
 use Rattle.slot_run.specs.declared.refusal.Refusal.{Refusal}
 use Rattle.slot_run.specs.declared.refusal.Refusal.TheVariants.{AccountNotFound, CalendarNotFound, InvalidArguments, NotJson}
