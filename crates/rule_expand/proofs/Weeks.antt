@@ -14,7 +14,7 @@ count_small p first (suc k) = by_bool (p (first +ℤ pos k))
     (λ e. rw e (omega (arith, count_small p first k)))
 
 module _ (p : ℤ → Bool) (h : (n : ℤ) → p (week_later n) ≡ p n) (first : ℤ) where
-  weeks : (w r : ℕ) → count_days p first (w * 7 + r) ≡ w * count_days p first 7 + count_days p first r
+  pub weeks : (w r : ℕ) → count_days p first (w * 7 + r) ≡ w * count_days p first 7 + count_days p first r
   weeks zero r = let e : 0 * 7 + r ≡ r = omega arith in rw e (omega arith)
   weeks (suc w) r =
       let e : suc w * 7 + r ≡ (w * 7 + r) + 7 = omega arith in

@@ -15,6 +15,7 @@ mod occurs;
 mod series;
 mod set;
 mod skip;
+mod unasked;
 mod walk;
 
 pub use bound::Bound;

@@ -15,6 +15,7 @@ use crate::matching::{first_plain, matches};
 use crate::moved::first_overflow_in;
 use crate::occurs::{ahead, count_matching, date_at, in_month_days, in_period};
 use crate::series::lower_of;
+use crate::unasked::days_unasked;
 use civil_days::day_of;
 use spec_series::by_part::{Freq, Skip};
 use spec_series::rule::Rule;
@@ -295,7 +296,8 @@ fn first_kept_place(rule: &Rule, first: i64, count: u32, after: i64) -> Option<u
     ensures none { IsNone result → NoneKept rule.now after first count }
     ensures some { IfSome result (IsFirstKept rule.now after first count) }
 {
-    let passed = days_up_to(first, count, after);
+    let early = days_up_to(first, count, after);
+    let passed = early + days_unasked(rule, first, count, early);
     let from = ahead(first, passed);
     let mut place = count_matching(rule, first, passed);
     let total = place + count_matching(rule, from, count - passed);
