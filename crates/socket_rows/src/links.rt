@@ -35,14 +35,22 @@ pub fn told(alloc: Global, asked: &Tree) -> Result<Option<String>, AllocError> {
     Ok(Some(told))
 }
 
-/// The link that a row describes: its `messages`, of which one that is no text is binary, an object being its compact text, and the numbers of the calls that fail. Takes memory for it.
+/// The link that a row describes: its `messages`, of which one that is no text is binary, an object being its compact text, and a number so many times in which none comes; and the
+/// numbers of the calls that fail. Takes memory for it.
 pub fn link_in(alloc: Global, asked: &Tree) -> Result<Option<MemLink>, AllocError> {
     let Some(items) = asked.list_at("messages") else {
         return Ok(None);
     };
     let mut messages = Vec::new(alloc);
     for item in items {
-        messages.push(message_of(alloc, item)?)?;
+        match item {
+            Tree::Whole(times) => {
+                for _ in 0..times.get() {
+                    messages.push(None)?;
+                }
+            }
+            item => messages.push(Some(message_of(alloc, item)?))?,
+        }
     }
     let next = numbers_at(alloc, asked, "failing_next")?;
     let send = numbers_at(alloc, asked, "failing_send")?;

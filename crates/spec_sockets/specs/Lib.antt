@@ -1,4 +1,6 @@
 pub mod Texts
+pub mod Switches
 pub mod Links
 pub mod Exchanges
+pub mod Turns
 pub mod Serving

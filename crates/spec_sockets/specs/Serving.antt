@@ -1,14 +1,15 @@
 -- What serving a socket does, whatever texts come and whatever others do meanwhile.
-use Rattle.std.specs.Prelude.{◌≡◌, ◌⊎◌, ℕ, ℤ, ◌+◌, ◌≤◌, List, [], ◌∷◌, ◌++◌, Option, length, ⊤}
+use Rattle.std.specs.Prelude.{◌≡◌, ◌⊎◌, ℕ, ℤ, ◌+◌, ◌<◌, ◌≤◌, List, [], ◌∷◌, ◌++◌, Option, length, sum_by, ⊤}
 use Rattle.io_edge.specs.Outside.{Rose}
 use Rattle.spec_batch.specs.Chain.{Shown}
 use Rattle.spec_batch.specs.declared.desk.DeskError.{DeskError}
 use Rattle.spec_batch.specs.declared.desk.DeskError.TheVariants as reason
 use Rattle.spec_core.specs.declared.user.User.{User}
-use Rattle.spec_sockets.specs.Exchanges.{AllTextsFit, TextBegun, TextExchange, TextFits, TextsTold, replies_of, asked_texts}
 use Rattle.spec_sockets.specs.Links.{HasNoMoreMessages, LinkShown, SendsTexts, TakesMessages}
+use Rattle.spec_sockets.specs.Turns.{AllTurnsFit, Turn, TurnBegun, TurnFits, TurnsTold, look_size, made_in_looks, replies_in, sent_in, taken_in, watched_behind_all}
 use Rattle.spec_sockets.specs.declared.message.WsMessage.{WsMessage}
 use Rattle.spec_sockets.specs.declared.message.WsMessage.TheVariants.{Binary}
+use Rattle.spec_sockets.specs.declared.served.TheConstants.{MAX_LOOK_CALLS, MAX_TURNS}
 use Rattle.spec_sockets.specs.declared.served.WsEnd.{WsEnd}
 use Rattle.spec_sockets.specs.declared.served.WsEnd.TheVariants as end
 use Rattle.spec_sockets.specs.declared.served.WsServed.{WsServed}
@@ -19,38 +20,42 @@ pub record SocketSetting : Type 0 where
   pub clock : Option (ℕ → ℤ)
   pub desk : Shown
 
--- why a socket ends where the desk didn't answer all calls of a text
+-- why a socket ends where the desk didn't answer all calls of a turn
 abbrev pub end_of_desk : DeskError → WsEnd
 end_of_desk reason.PassSpent = end.PassSpent
 end_of_desk reason.NoMemory = end.NoMemory
 
--- `exchanges` are the texts whose replies were sent. `unanswered` is empty, or the one text behind them whose calls were made, maybe not all, and whose reply wasn't sent.
-module _ (user : User) (most : ℕ) (taken : List WsMessage) (exchanges unanswered : List TextExchange) where
-  -- all texts that were taken were answered, and this was taken behind them
-  abbrev pub AreAllAnswered : List WsMessage → Type 0
-  AreAllAnswered behind = (unanswered ≡ []) × (taken ≡ asked_texts exchanges ++ behind)
+-- so many texts were replied to, a look at all that is watched would be too many calls, or there were as many turns as may be
+abbrev pub IsSpent : User → ℕ → List Turn → Type 0
+IsSpent user most turns = (length (replies_in turns) ≡ most) ⊎ (MAX_LOOK_CALLS < length (made_in_looks turns) + length (watched_behind_all user turns)) ⊎ (length turns ≡ MAX_TURNS)
 
-  -- all texts that were taken but at most the last were answered, and nothing else was taken
+-- `turns` are those that were had whole: what they send was sent. `unfinished` is empty, or the one turn behind them whose calls were made, maybe not all, and of which nothing was sent.
+module _ (user : User) (most : ℕ) (taken : List WsMessage) (turns unfinished : List Turn) where
+  -- all turns were had whole, and this was taken behind them
+  abbrev pub AreAllHad : List WsMessage → Type 0
+  AreAllHad behind = (unfinished ≡ []) × (taken ≡ taken_in turns ++ behind)
+
+  -- all turns but at most the last were had whole, and nothing else was taken
   abbrev pub AllButLast : Type 0
-  AllButLast = taken ≡ asked_texts (exchanges ++ unanswered)
+  AllButLast = taken ≡ taken_in (turns ++ unfinished)
 
-  -- all calls of the last text were made, and its reply wasn't sent
+  -- all calls of the last turn were made, and what it sends wasn't sent
   abbrev pub IsUnsent : Type 0
-  IsUnsent = (t : TextExchange) × (unanswered ≡ t ∷ []) × TextFits user t
+  IsUnsent = (t : Turn) × (unfinished ≡ t ∷ []) × TurnFits user (watched_behind_all user turns) t
 
-  -- the calls of the last text were made, maybe not all
-  abbrev pub IsTextUnanswered : DeskError → Shown → Shown → Type 0
-  IsTextUnanswered e u v = (t : TextExchange) × (unanswered ≡ t ∷ []) × TextBegun user e u v t
+  -- the calls of the last turn were made, maybe not all
+  abbrev pub IsCutShort : DeskError → Shown → Shown → Type 0
+  IsCutShort e u v = (t : Turn) × (unfinished ≡ t ∷ []) × TurnBegun user (watched_behind_all user turns) e u v t
 
   module _ (x x' : SocketSetting) (u : Shown) where
     -- when each end comes, where the desk was in the state u behind the calls that it answered
     abbrev pub SocketEndHow : WsEnd → Type 0
-    SocketEndHow end.Closed = AreAllAnswered [] × HasNoMoreMessages x'.link.left
-    SocketEndHow end.Binary = AreAllAnswered (Binary ∷ [])
-    SocketEndHow end.Quota = AreAllAnswered [] × (length exchanges ≡ most)
-    SocketEndHow end.LinkFault = ((unanswered ≡ []) ⊎ IsUnsent) × AllButLast × Rose x.link.faults x'.link.faults
-    SocketEndHow end.PassSpent = IsTextUnanswered reason.PassSpent u x'.desk × AllButLast
-    SocketEndHow end.NoMemory = (((unanswered ≡ []) × (x'.desk ≡ u)) ⊎ IsTextUnanswered reason.NoMemory u x'.desk) × AllButLast
+    SocketEndHow end.Closed = AreAllHad [] × HasNoMoreMessages x'.link.left
+    SocketEndHow end.Binary = AreAllHad (Binary ∷ [])
+    SocketEndHow end.Quota = AreAllHad [] × IsSpent user most turns
+    SocketEndHow end.LinkFault = ((unfinished ≡ []) ⊎ IsUnsent) × AllButLast × Rose x.link.faults x'.link.faults
+    SocketEndHow end.PassSpent = IsCutShort reason.PassSpent u x'.desk × AllButLast
+    SocketEndHow end.NoMemory = (((unfinished ≡ []) × (x'.desk ≡ u)) ⊎ IsCutShort reason.NoMemory u x'.desk) × AllButLast
 
 -- what the end leaves of the desk behind the calls that it answered: nothing else, but where the desk answered no more
 abbrev pub SocketRests : WsEnd → Shown → Shown → Type 0
@@ -58,19 +63,20 @@ SocketRests end.PassSpent u v = ⊤
 SocketRests end.NoMemory u v = ⊤
 SocketRests _ u v = v ≡ u
 
--- A socket of at most `most` texts was served so, from the one setting to the other: the replies to its texts were sent, in order, and nothing else.
+-- A socket of at most `most` texts was served so, from the one setting to the other: what its turns send was sent, in order, and nothing else.
 pub record ServesSocket (user : User) (most : ℕ) (x x' : SocketSetting) (served : WsServed) : Type 0 where
   pub taken : List WsMessage
-  pub exchanges : List TextExchange
-  pub unanswered : List TextExchange
+  pub turns : List Turn
+  pub unfinished : List Turn
   pub took : TakesMessages x.link.left x'.link.left taken
   pub later : x.link.faults ≤ x'.link.faults
-  pub count : length exchanges ≡ served.replies
-  pub room : served.replies + length unanswered ≤ most
-  pub fit : AllTextsFit user exchanges
+  pub count : length (replies_in turns) ≡ served.replies
+  pub room : served.replies + length (replies_in unfinished) ≤ most
+  pub looks : length (made_in_looks turns) + sum_by look_size unfinished ≤ MAX_LOOK_CALLS
+  pub fit : AllTurnsFit user [] turns
   -- the desk behind all calls that it answered
   pub desk : Shown
-  pub told : TextsTold x.clock x'.clock [] served.fronts.items x.desk desk (exchanges ++ unanswered)
+  pub told : TurnsTold x.clock x'.clock [] served.fronts.items x.desk desk (turns ++ unfinished)
   pub rests : SocketRests served.end desk x'.desk
-  pub sent : SendsTexts x.link.sent x'.link.sent (replies_of exchanges)
-  pub how : SocketEndHow user most taken exchanges unanswered x x' desk served.end
+  pub sent : SendsTexts x.link.sent x'.link.sent (sent_in turns)
+  pub how : SocketEndHow user most taken turns unfinished x x' desk served.end

@@ -16,15 +16,15 @@ abbrev pub says_text : List ℕ → Option (List ℕ) → Bool
 says_text wanted None = false
 says_text wanted (Some s) = bytes_eq s wanted
 
--- an `id` is absent, or a text
-abbrev pub is_good_id : Option Data → Bool
-is_good_id None = true
-is_good_id (Some (text s)) = true
-is_good_id _ = false
+-- absent, or a text
+abbrev pub is_text_if_any : Option Data → Bool
+is_text_if_any None = true
+is_text_if_any (Some (text s)) = true
+is_text_if_any _ = false
 
 -- an object whose `@type` is `Request`, and whose `id` is a text where it has one
 abbrev pub is_marked : Data → Bool
-is_marked d = says_text (codes "Request") (text_at (codes "@type") d) && is_good_id (field (codes "id") d)
+is_marked d = says_text (codes "Request") (text_at (codes "@type") d) && is_text_if_any (field (codes "id") d)
 
 abbrev pub asked_by_marked : Data → Asked
 asked_by_marked d = if is_marked d then asked_by d else refused NotRequest

@@ -1,5 +1,6 @@
-//! What a WebSocket comes to: its messages, their replies, and its end (RFC 8887).
+//! What a WebSocket comes to: its messages, their replies, the changes that are told on it, and its end (RFC 8887).
 #![tactic(auto)]
 
 pub mod message;
 pub mod served;
+pub mod switch;

@@ -7,6 +7,12 @@ use spec_batch::desk::{DeskError, Front};
 /// The most texts of a socket that are answered.
 pub const MAX_TEXTS: u64 = 10_000;
 
+/// The most calls that are made on a socket to look at states: some five days of two calls a second.
+pub const MAX_LOOK_CALLS: u64 = 800_000;
+
+/// The most turns of a socket, of which an idle one has two a second.
+pub const MAX_TURNS: u64 = 1_000_000_000;
+
 /// How a socket ended.
 #[derive(Clone, Copy, Debug, PartialEq, Eq, Drop)]
 pub enum WsEnd {
@@ -14,7 +20,7 @@ pub enum WsEnd {
     Closed,
     /// The client sent a message that is no text (RFC 8887 section 4.3.1).
     Binary,
-    /// As many texts were answered as a socket may have.
+    /// As many texts were answered as a socket may have, or it may make no more calls to look at states, or it had as many turns as it may.
     Quota,
     /// The link failed.
     LinkFault,
@@ -37,7 +43,7 @@ pub fn end_of_desk(error: DeskError) -> WsEnd
 /// How a socket was served.
 #[derive(Drop)]
 pub struct WsServed {
-    /// At which entries each call was answered, in order.
+    /// At which entries each call for a text was answered, in order; those of looks at states aren't kept.
     pub fronts: Vec<Front>,
     /// The number of replies that were sent.
     pub replies: u64,

@@ -1,8 +1,14 @@
 -- What the forms in memory tell.
-use Rattle.std.specs.Prelude.{◌≤◌, ℕ, List, [], ◌∷◌, length, map}
+use Rattle.std.specs.Prelude.{◌≤◌, ℕ, List, [], ◌∷◌, Option, flat_map, length, map}
 use native.Mathlib.Omega.{arith}
+use Rattle.spec_json.specs.Parts.{some_of}
+use Rattle.spec_sockets.specs.declared.message.WsMessage.{WsMessage}
 use Rattle.ws_edge.specs.declared.memory_accept.MemAccept.{MemAccept}
 use Rattle.ws_edge.specs.declared.memory_link.MemLink.{MemLink}
+
+-- the messages, without the times in which none comes
+abbrev pub messages_among : List (Option WsMessage) → List WsMessage
+messages_among waiting = flat_map some_of waiting
 
 -- the numbers of the calls that are to fail, from 0
 abbrev pub failing_nexts : MemLink → List ℕ

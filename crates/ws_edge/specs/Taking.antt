@@ -9,4 +9,5 @@ use Rattle.ws_edge.specs.declared.link.WsIn.TheVariants as given
 abbrev pub taken_by : WsIn → List WsMessage
 taken_by (given.Text text) = message.Text text ∷ []
 taken_by given.Binary = message.Binary ∷ []
+taken_by given.Quiet = []
 taken_by given.Closed = []

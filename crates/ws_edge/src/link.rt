@@ -13,6 +13,8 @@ pub enum WsIn {
     Text(Text),
     /// A message that is no text.
     Binary,
+    /// No message came for as long as the link waits for one; there may be more.
+    Quiet,
     /// No message is left.
     Closed,
 }
@@ -31,7 +33,7 @@ pub trait WsLink {
     /// What contracts see of the link.
     ghost shown: { Self → LinkShown };
 
-    /// The next message, for which it may wait. Takes memory for it.
+    /// The next message, for which it may wait for as long as its patience lasts. Takes memory for it.
     fn next(&mut self) -> Result<WsIn, LinkError>
         ensures ok { IfOk result (λ given. TakesMessages (shown self.old).left (shown self.new).left (taken_by given)) }
         ensures closed { result ≡ Ok WsIn.Closed → HasNoMoreMessages (shown self.new).left }

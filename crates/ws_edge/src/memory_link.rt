@@ -8,27 +8,27 @@ use io_edge::failing_calls::FailingCalls;
 use spec_sockets::message::WsMessage;
 use std::alloc::Global;
 
-/// Gives its messages in order, and holds what was sent. It fails at the calls that it lists.
+/// Gives its messages in order, and holds what was sent. `None` among them is a time in which no message comes. It fails at the calls that it lists.
 #[derive(Drop)]
 pub struct MemLink {
     alloc: Global,
-    waiting: Vec<WsMessage>,
+    waiting: Vec<Option<WsMessage>>,
     sent: Vec<Bytes>,
     failing_next: FailingCalls,
     failing_send: FailingCalls,
 }
 
 impl MemLink {
-    ghost use Rattle.ws_edge.specs.MemoryForms.{failing_nexts, failing_sends};
+    ghost use Rattle.ws_edge.specs.MemoryForms.{failing_nexts, failing_sends, messages_among};
 
-    /// Makes a link of these messages. The calls of `next` and of `send` whose numbers, from 0, are listed fail. Takes no memory.
+    /// Makes a link of these messages, and of the times between them in which none comes. The calls of `next` and of `send` whose numbers, from 0, are listed fail. Takes no memory.
     pub fn new(
         alloc: Global,
-        messages: Vec<WsMessage>,
+        messages: Vec<Option<WsMessage>>,
         failing_next: Vec<u64>,
         failing_send: Vec<u64>,
     ) -> MemLink
-        ensures shown { ⟦<MemLink as WsLink>⟧.shown result ≡ record { left = Some messages.items; sent = Some []; faults = 0 } }
+        ensures shown { ⟦<MemLink as WsLink>⟧.shown result ≡ record { left = Some (messages_among messages.items); sent = Some []; faults = 0 } }
         ensures nexts { failing_nexts result ≡ failing_next.items }
         ensures sends { failing_sends result ≡ failing_send.items }
     {
@@ -50,7 +50,9 @@ impl MemLink {
 }
 
 impl WsLink for MemLink {
-    ghost shown = { λ l. record { left = Some l.waiting.items; sent = Some l.sent.items; faults = faults_of l.failing_next + faults_of l.failing_send } };
+    ghost use Rattle.ws_edge.specs.MemoryForms.{messages_among};
+
+    ghost shown = { λ l. record { left = Some (messages_among l.waiting.items); sent = Some l.sent.items; faults = faults_of l.failing_next + faults_of l.failing_send } };
 
     fn next(&mut self) -> Result<WsIn, LinkError> {
         if self.failing_next.next_fails() {
@@ -60,8 +62,9 @@ impl WsLink for MemLink {
             return Ok(WsIn::Closed);
         }
         match self.waiting.remove(0) {
-            WsMessage::Text(text) => Ok(WsIn::Text(text)),
-            WsMessage::Binary => Ok(WsIn::Binary),
+            Some(WsMessage::Text(text)) => Ok(WsIn::Text(text)),
+            Some(WsMessage::Binary) => Ok(WsIn::Binary),
+            None => Ok(WsIn::Quiet),
         }
     }
 

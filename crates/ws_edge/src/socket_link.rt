@@ -1,5 +1,5 @@
 //! Links over a stream.
-ghost use Rattle.std.specs.Prelude.{◌≡◌, ◌≤◌, None, Some};
+ghost use Rattle.std.specs.Prelude.{◌≡◌, ◌≤◌, Err, IfOk, None};
 ghost use Rattle.io_edge.specs.Outside.{Rose};
 
 use crate::link::{LinkError, WsIn, WsLink};
@@ -14,13 +14,19 @@ use tungstenite::{
 /// The longest message that is taken whole, in bytes. A longer one ends the link with the close code 1009.
 pub const MAX_MESSAGE: usize = 16_777_216;
 
+/// After how many reads that gave nothing a peer is asked for a sign of life.
+const SILENT_READS: u32 = 50;
+
 /// A link over a stream on which a server's handshake was done.
 ///
-/// It answers pings and the closing handshake, joins fragments, and asks a silent peer for a sign of life. It tells no content.
+/// It answers pings and the closing handshake, joins fragments, and asks a peer for a sign of life where 50 reads gave nothing. It is quiet behind each read for which the stream waited
+/// in vain, and behind each frame that is no message. It tells no content.
 #[derive(Drop)]
 pub struct SocketLink<S> {
     alloc: Global,
     socket: WebSocket<S, NoMask>,
+    // how many reads have given nothing since the last frame, or the last ping that was sent
+    silent: u32,
     faults: u64,
 }
 
@@ -35,6 +41,7 @@ impl<S: Read + Write + Drop> SocketLink<S> {
         SocketLink {
             alloc,
             socket: WebSocket::from_raw_socket(alloc, stream, NoMask, Role::Server, Some(limits)),
+            silent: 0,
             faults: 0,
         }
     }
@@ -68,24 +75,20 @@ impl<S: Read + Write + Drop> SocketLink<S> {
         LinkError::Failed
     }
 
-    // What follows of a read that gave nothing. A silent peer is asked for a sign of life, once, and there is no error yet.
-    fn note(&mut self, error: Error, asked: bool) -> Option<LinkError>
+    // What follows of a read that gave nothing. A peer that has been silent for long is asked for a sign of life.
+    fn note_silence(&mut self) -> Result<WsIn, LinkError>
+        ensures quiet { IfOk result (λ given. given ≡ WsIn.Quiet) }
         ensures later { self.old.faults ≤ self.new.faults }
-        ensures failed { result ≡ Some LinkError.Failed → Rose self.old.faults self.new.faults }
+        ensures failed { result ≡ Err LinkError.Failed → Rose self.old.faults self.new.faults }
     {
-        if !asked && is_silence(&error) && self.ask() {
-            return None;
+        self.silent = self.silent.saturating_add(1);
+        if self.silent >= SILENT_READS {
+            self.silent = 0;
+            if let Err(error) = self.socket.send(Message::Ping(Bytes::from_static(b""))) {
+                return Err(self.refuse(error));
+            }
         }
-        Some(self.refuse(error))
-    }
-
-    // Sends a ping. Says whether it went out.
-    fn ask(&mut self) -> bool
-        ensures { self.new.faults ≡ self.old.faults }
-    {
-        self.socket
-            .send(Message::Ping(Bytes::from_static(b"")))
-            .is_ok()
+        Ok(WsIn::Quiet)
     }
 }
 
@@ -101,29 +104,25 @@ impl<S: Read + Write + Drop> WsLink for SocketLink<S> {
     ghost shown = { λ l. record { left = None; sent = None; faults = l.faults } };
 
     fn next(&mut self) -> Result<WsIn, LinkError> {
-        let mut asked = false;
-        for _ in 0..u64::MAX {
-            match self.socket.read() {
-                Ok(Message::Text(text)) => {
-                    return match Text::from_str(self.alloc, text.as_str()) {
-                        Ok(text) => Ok(WsIn::Text(text)),
-                        Err(_) => Err(LinkError::NoMemory),
-                    };
-                }
-                Ok(Message::Binary(_payload)) => return Ok(WsIn::Binary),
-                Ok(Message::Close(_frame)) => {
-                    let _ = self.socket.flush();
-                    return Ok(WsIn::Closed);
-                }
-                Ok(Message::Ping(_payload)) => asked = false,
-                Ok(Message::Pong(_payload)) => asked = false,
-                Err(error) => match self.note(error, asked) {
-                    Some(error) => return Err(error),
-                    None => asked = true,
-                },
+        let message = match self.socket.read() {
+            Ok(message) => message,
+            Err(error) if is_silence(&error) => return self.note_silence(),
+            Err(error) => return Err(self.refuse(error)),
+        };
+        self.silent = 0;
+        match message {
+            Message::Text(text) => match Text::from_str(self.alloc, text.as_str()) {
+                Ok(text) => Ok(WsIn::Text(text)),
+                Err(_) => Err(LinkError::NoMemory),
+            },
+            Message::Binary(_payload) => Ok(WsIn::Binary),
+            Message::Ping(_payload) => Ok(WsIn::Quiet),
+            Message::Pong(_payload) => Ok(WsIn::Quiet),
+            Message::Close(_frame) => {
+                let _ = self.socket.flush();
+                Ok(WsIn::Closed)
             }
         }
-        Ok(WsIn::Closed)
     }
 
     fn send(&mut self, text: &[u8]) -> Result<(), LinkError> {

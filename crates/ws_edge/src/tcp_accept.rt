@@ -18,8 +18,8 @@ use tungstenite::CloseCode;
 /// How long a handshake may take, in seconds.
 const HANDSHAKE_SECONDS: u64 = 10;
 
-/// After how many seconds of silence a peer is asked for a sign of life, and after how many more the link ends.
-const SILENCE_SECONDS: u64 = 30;
+/// How many milliseconds a link waits for a message before it is quiet. Where nothing comes 50 times so long, the peer is asked for a sign of life; at 120 times the link ends.
+const PATIENCE_MILLISECONDS: u64 = 500;
 
 /// How many milliseconds pass before the next try to accept where one failed.
 const PAUSE_MILLISECONDS: u64 = 100;
@@ -95,7 +95,7 @@ impl<R: Net + Clock + Copy + Drop> TcpAccept<R> {
         let Some((user, mut end)) = shake_hands(self.alloc, end, site)? else {
             return Ok(None);
         };
-        match end.wait_at_each_call(Duration::from_secs(SILENCE_SECONDS)) {
+        match end.wait_at_each_call(Duration::from_millis(PATIENCE_MILLISECONDS)) {
             Ok(()) => Ok(Some((user, SocketLink::new(self.alloc, end)))),
             Err(_) => Ok(None),
         }

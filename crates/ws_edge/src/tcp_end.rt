@@ -10,6 +10,9 @@ const PIECE: usize = 16_384;
 /// For how many seconds a write waits at once. Behind them it tells how much the peer has taken, so that who takes more is waited for anew.
 const WRITE_SLICE_SECONDS: u64 = 1;
 
+/// How many reads in a row may wait in vain; the next one that does is told that the connection is aborted.
+const SILENT_READS: u32 = 119;
+
 /// A stream that waits for its peer only so long: all its reads together until a deadline, or each read; and each write.
 #[derive(Drop)]
 pub struct TcpEnd<S, R> {
@@ -17,6 +20,8 @@ pub struct TcpEnd<S, R> {
     runtime: R,
     // until when all reads together may wait
     deadline: Option<Duration>,
+    // how many reads in a row have waited in vain, where each may wait for itself
+    silent: u32,
     // how long a peer may take nothing of a write
     patience: Duration,
 }
@@ -35,11 +40,12 @@ impl<S: Read + OpenStream, R: Clock> TcpEnd<S, R> {
             stream,
             runtime,
             deadline: Some(deadline),
+            silent: 0,
             patience,
         })
     }
 
-    /// Has each read wait for so long from now on. Takes no memory.
+    /// Has each read wait for so long from now on, and the connection aborted where 120 in a row wait in vain. Takes no memory.
     pub fn wait_at_each_call(&mut self, patience: Duration) -> io::Result<()> {
         self.deadline = None;
         self.stream.set_read_timeout(Some(patience))
@@ -63,6 +69,23 @@ impl<S: Read + OpenStream, R: Clock> TcpEnd<S, R> {
         }
     }
 
+    // What a read is told that gave this.
+    fn noted(&mut self, read: io::Result<usize>) -> io::Result<usize> {
+        match read {
+            Err(error) if is_for_later(&error) && self.deadline.is_none() => {
+                if self.silent >= SILENT_READS {
+                    return Err(io::Error::from(ErrorKind::ConnectionAborted));
+                }
+                self.silent = self.silent.saturating_add(1);
+                Err(error)
+            }
+            read => {
+                self.silent = 0;
+                read
+            }
+        }
+    }
+
     // How long a read may still wait.
     fn set_patience(&self, deadline: Duration) -> io::Result<()> {
         let rest = deadline.saturating_sub(self.runtime.monotonic()?);
@@ -82,7 +105,7 @@ impl<S: Read + OpenStream, R: Clock> Read for TcpEnd<S, R> {
             }
             match self.stream.read(buf) {
                 Err(error) if error.kind() == ErrorKind::Interrupted => {}
-                read => return read,
+                read => return self.noted(read),
             }
         }
         Err(io::Error::from(ErrorKind::TimedOut))
@@ -107,7 +130,7 @@ impl<S: Write, R: Clock> Write for TcpEnd<S, R> {
     }
 }
 
-// Whether a write is to be made again.
+// Whether nothing came of a read or a write, of which more may come.
 fn is_for_later(error: &io::Error) -> bool {
     matches!(
         error.kind(),

@@ -28,7 +28,7 @@ pub each_accounts : (site : Site) (t u : SocketTools) (vs : List SocketVisit) �
 each_accounts site t u [] e = ap (λ (y : SocketTools). y.desk.accounts) e
 each_accounts site t u (v ∷ vs) e =
     let stands = sockets_stand (user_at site v.handed.user) MAX_TEXTS (socket_setting t v.handed.link) (socket_setting e.0 v.back.link) v.back.served e.2 in
-    each_accounts site e.0 u vs e.3 ∙ stands.1.accounts
+    each_accounts site e.0 u vs e.3 ∙ stands.0.accounts
 
 -- a user of the site has grants on accounts of the desk
 pub granted : (user : User) (accounts all : ℕ) → accounts ≡ all → All (λ (g : Grant). g.account < all) user.grants → All (λ (g : Grant). g.account < accounts) user.grants

@@ -1,6 +1,8 @@
 pub mod Replying
-pub mod Exchanging
-pub mod Messaging
+pub mod TurnLemmas
+pub mod Turning
+pub mod Unsaid
+pub mod Watching
 pub mod Standing
 pub mod Completeness
 pub mod HistoryLemmas

@@ -1,34 +1,34 @@
 -- Where the loop of a socket stands, and what each of its ends says.
-use Rattle.std.proofs.Common.{◌≡◌, ℕ, ℤ, ◌+◌, ◌<◌, ◌≤◌, List, [], ◌∷◌, ◌++◌, length, length-append, Option, Ok, Err, Vec, inl, inr, refl, sym, ap, ◌∙◌, subst, append-nil, arith}
-use Rattle.std.specs.Prelude.{All}
-use Rattle.std.proofs.lemmas.List.{map-append}
-use Rattle.std.specs.declared.alloc.Global.{Global}
+use Rattle.std.proofs.Common.{◌≡◌, ℕ, ℤ, ◌+◌, ◌<◌, ◌≤◌, List, [], ◌∷◌, ◌++◌, length, length-append, Option, Some, None, Result, Ok, Err, inl, inr, refl, sym, ap, ◌∙◌, subst, append-nil, arith, fold, false, true, false≢true}
+use Rattle.std.specs.Prelude.{◌⊎◌, All, IsOk, flat_map, sum_by}
+use Rattle.std.proofs.lemmas.Grind.{flat_map-append, fold-append}
 use Rattle.io_edge.specs.Outside.{Rose}
 use Rattle.spec_batch.proofs.Chains.{accounts_stay}
-use Rattle.spec_batch.specs.Chain.{Shown}
+use Rattle.spec_batch.specs.Chain.{Made, Shown}
 use Rattle.spec_batch.specs.declared.desk.DeskError.{DeskError}
 use Rattle.spec_batch.specs.declared.desk.DeskError.TheVariants as reason
 use Rattle.spec_batch.specs.declared.desk.Front.{Front}
 use Rattle.spec_core.specs.declared.user.Grant.{Grant}
 use Rattle.spec_core.specs.declared.user.User.{User}
-use Rattle.spec_time.specs.Moments.{clamped}
-use Rattle.ws_serve.proofs.Exchanging.{Sends-nil, Sends-trans, Takes-nil, Takes-trans, fit_more, told_join, told_none}
-use Rattle.ws_serve.proofs.Replying.{unsaid}
-use Rattle.ws_serve.specs.Answering.{AnswersText}
-use Rattle.spec_sockets.specs.Exchanges.{AllTextsFit, TextBegun, TextExchange, TextsTold, replies_of, asked_texts}
-use Rattle.spec_sockets.specs.Serving.{SocketEndHow, SocketRests, ServesSocket, SocketSetting, end_of_desk}
-use Rattle.ws_serve.specs.Ending.{end_of_link}
-use Rattle.spec_sockets.specs.Texts.{asked_in_text, id_in_text}
+use Rattle.spec_push.specs.declared.watched.Watched.{Watched}
+use Rattle.spec_sockets.specs.Links.{LinkShown, HasNoMoreMessages, SendsTexts, TakesMessages}
+use Rattle.spec_sockets.specs.Serving.{IsSpent, SocketEndHow, SocketRests, ServesSocket, SocketSetting, end_of_desk}
+use Rattle.spec_sockets.specs.Turns.{AllTurnsFit, Turn, TurnBegun, TurnFits, TurnsTold, look_size, looked, made_in_look, made_in_looks, replied, replies_in, reply_of, sent_by, sent_in, switched, taken_by_turn, taken_in, watched_after, watched_behind_all}
+use Rattle.spec_sockets.specs.declared.message.WsMessage.{WsMessage}
+use Rattle.spec_sockets.specs.declared.message.WsMessage.TheVariants.{Binary}
+use Rattle.spec_sockets.specs.declared.served.TheConstants.{MAX_LOOK_CALLS, MAX_TURNS}
 use Rattle.spec_sockets.specs.declared.served.WsEnd.{WsEnd}
 use Rattle.spec_sockets.specs.declared.served.WsEnd.TheVariants as end
 use Rattle.spec_sockets.specs.declared.served.WsServed.{WsServed}
-use Rattle.spec_sockets.specs.Links.{LinkShown, HasNoMoreMessages, SendsTexts, TakesMessages}
-use Rattle.ws_edge.specs.Taking.{taken_by}
 use Rattle.ws_edge.specs.declared.link.LinkError.{LinkError}
 use Rattle.ws_edge.specs.declared.link.LinkError.TheVariants as fault
-use Rattle.ws_edge.specs.declared.link.WsIn.{WsIn}
-use Rattle.spec_sockets.specs.declared.message.WsMessage.{WsMessage}
-use Rattle.spec_sockets.specs.declared.message.WsMessage.TheVariants.{Text, Binary}
+use Rattle.ws_serve.proofs.TurnLemmas.{Sends-nil, Sends-trans, Takes-nil, Takes-trans, few_replies, fit_more, looks_few, told_join, told_none}
+use Rattle.ws_serve.proofs.Unsaid.{unsaid_turn}
+use Rattle.ws_serve.proofs.Watching.{watched_within}
+use Rattle.ws_serve.specs.Ending.{IsNextText, end_of_link}
+use Rattle.ws_serve.specs.Turning.{HasTurn, as_messages, replies_said, texts_said}
+use Rattle.ws_serve.specs.declared.push.Push.{Push}
+use Rattle.ws_serve.specs.declared.turn.Said.{Said}
 
 abbrev pub setting : LinkShown → Option (ℕ → ℤ) → Shown → SocketSetting
 setting link clock shown = record { link = link; clock = clock; desk = shown }
@@ -38,169 +38,215 @@ abbrev pub Ends : User → ℕ → SocketSetting → SocketSetting → List Fron
 Ends user most x x' fronts replies e = (served : WsServed) → served.fronts.items ≡ fronts → served.replies ≡ replies → served.end ≡ e → ServesSocket user most x x' served
 
 -- all that was done so far
-pub record Stand (user : User) (taken : List WsMessage) (exchanges : List TextExchange) (i : ℕ) (x x' : SocketSetting) (fronts : List Front) : Type 0 where
+pub record Stand (user : User) (taken : List WsMessage) (turns : List Turn) (x x' : SocketSetting) (fronts : List Front) : Type 0 where
   pub took : TakesMessages x.link.left x'.link.left taken
   pub later : x.link.faults ≤ x'.link.faults
-  pub count : length exchanges ≡ i
-  pub fit : AllTextsFit user exchanges
-  pub told : TextsTold x.clock x'.clock [] fronts x.desk x'.desk exchanges
-  pub sent : SendsTexts x.link.sent x'.link.sent (replies_of exchanges)
+  pub fit : AllTurnsFit user [] turns
+  pub told : TurnsTold x.clock x'.clock [] fronts x.desk x'.desk turns
+  pub sent : SendsTexts x.link.sent x'.link.sent (sent_in turns)
 
--- i texts were answered
-pub record Serving (user : User) (most i : ℕ) (x x' : SocketSetting) (fronts : List Front) : Type 0 where
-  pub exchanges : List TextExchange
-  pub stand : Stand user (asked_texts exchanges) exchanges i x x' fronts
-  pub room : i ≤ most
+-- so many turns were had, with so many replies to texts
+pub record Serving (user : User) (most n replies : ℕ) (push : Push) (x x' : SocketSetting) (fronts : List Front) : Type 0 where
+  pub turns : List Turn
+  pub stand : Stand user (taken_in turns) turns x x' fronts
+  pub count : length turns ≡ n
+  pub replied : length (replies_in turns) ≡ replies
+  pub watch : push.watch ≡ watched_behind_all user turns
+  pub calls : push.calls ≡ length (made_in_looks turns)
+  pub room : replies ≤ most
+  pub looks : push.calls ≤ MAX_LOOK_CALLS
 
-pub serving_start : {user : User} {most : ℕ} (x : SocketSetting) (f : List Front) → f ≡ [] → Serving user most 0 x x f
-serving_start {user} {most} x f none = record {
-  exchanges = [];
+pub serving_start : {user : User} {most : ℕ} {push : Push} (x : SocketSetting) (f : List Front) → f ≡ [] → (push.watch ≡ []) × (push.calls ≡ 0) → Serving user most 0 0 push x x f
+serving_start {user} {most} {push} x f none off = record {
+  turns = [];
   stand = record {
     took = Takes-nil x.link.left;
     later = omega arith;
-    count = refl;
     fit = tt;
-    told = subst (λ (l : List Front). TextsTold x.clock x.clock [] l x.desk x.desk []) (sym none) (told_none x.clock [] x.desk);
+    told = subst (λ (l : List Front). TurnsTold x.clock x.clock [] l x.desk x.desk []) (sym none) (told_none x.clock [] x.desk);
     sent = Sends-nil x.link.sent;
   };
+  count = refl;
+  replied = refl;
+  watch = off.0;
+  calls = off.1;
   room = omega arith;
+  looks = (let none_made = off.1 in omega (arith, none_made));
 }
-
--- what the link gave is known
-pub took_as : (a b : Option (List WsMessage)) (m n : WsIn) → m ≡ n → TakesMessages a b (taken_by m) → TakesMessages a b (taken_by n)
-took_as a b m n is h = subst (λ (k : WsIn). TakesMessages a b (taken_by k)) is h
 
 rose_more : {a b c : ℕ} → a ≤ b → Rose b c → Rose a c
 rose_more {a} {b} {c} h r = omega arith
 
-pushed : (exchanges : List TextExchange) (t : TextExchange) (asking : List ℕ) → t.asking ≡ asking → asked_texts exchanges ++ Text asking ∷ [] ≡ asked_texts (exchanges ++ t ∷ [])
-pushed exchanges t asking is = ap (λ (a : List ℕ). asked_texts exchanges ++ Text a ∷ []) (sym is) ∙ sym (map-append (λ (x : TextExchange). Text x.asking) exchanges (t ∷ []))
+pushed : (turns : List Turn) (t : Turn) (text : Option (List ℕ)) → taken_by_turn t ≡ as_messages text → taken_in turns ++ as_messages text ≡ taken_in (turns ++ t ∷ [])
+pushed turns t text is = ap (λ (ms : List WsMessage). taken_in turns ++ ms) (sym is ∙ sym (append-nil (taken_by_turn t))) ∙ sym (flat_map-append taken_by_turn turns (t ∷ []))
 
-none_behind : (exchanges : List TextExchange) → asked_texts exchanges ≡ asked_texts (exchanges ++ [])
-none_behind exchanges = ap asked_texts (sym (append-nil exchanges))
+none_behind : (turns : List Turn) → taken_in turns ≡ taken_in (turns ++ [])
+none_behind turns = ap taken_in (sym (append-nil turns))
 
 module _ {user : User} where
-  -- the link gave a message
-  taken_more : {taken : List WsMessage} {exchanges : List TextExchange} {i : ℕ} {x y : SocketSetting} {l : LinkShown} {f : List Front} (ms : List WsMessage)
-      → Stand user taken exchanges i x y f → TakesMessages y.link.left l.left ms → l.sent ≡ y.link.sent → y.link.faults ≤ l.faults → Stand user (taken ++ ms) exchanges i x (setting l y.clock y.desk) f
-  taken_more {taken} {exchanges} {i} {x} {y} {l} {f} ms st took same later = record {
+  -- the link gave messages
+  taken_more : {taken : List WsMessage} {turns : List Turn} {x y : SocketSetting} {l : LinkShown} {f : List Front} (ms : List WsMessage)
+      → Stand user taken turns x y f → TakesMessages y.link.left l.left ms → l.sent ≡ y.link.sent → y.link.faults ≤ l.faults → Stand user (taken ++ ms) turns x (setting l y.clock y.desk) f
+  taken_more {taken} {turns} {x} {y} {l} {f} ms st took same later = record {
     took = Takes-trans x.link.left y.link.left l.left taken ms st.took took;
-    later = omega (arith, st.later, later);
-    count = st.count;
+    later = (let before = st.later in omega (arith, before, later));
     fit = st.fit;
     told = st.told;
-    sent = subst (λ (o : Option (List (List ℕ))). SendsTexts x.link.sent o (replies_of exchanges)) (sym same) st.sent;
+    sent = subst (λ (o : Option (List (List ℕ))). SendsTexts x.link.sent o (sent_in turns)) (sym same) st.sent;
   }
 
-  -- the link failed, and is as it was
-  link_kept : {taken : List WsMessage} {exchanges : List TextExchange} {i : ℕ} {x y : SocketSetting} {l : LinkShown} {f : List Front}
-      → Stand user taken exchanges i x y f → l.left ≡ y.link.left → l.sent ≡ y.link.sent → y.link.faults ≤ l.faults → Stand user taken exchanges i x (setting l y.clock y.desk) f
-  link_kept {taken} {exchanges} {i} {x} {y} {l} {f} st left same later =
-      subst (λ (ms : List WsMessage). Stand user ms exchanges i x (setting l y.clock y.desk) f) (append-nil taken)
+  -- the link is as it was
+  link_kept : {taken : List WsMessage} {turns : List Turn} {x y : SocketSetting} {l : LinkShown} {f : List Front}
+      → Stand user taken turns x y f → l.left ≡ y.link.left → l.sent ≡ y.link.sent → y.link.faults ≤ l.faults → Stand user taken turns x (setting l y.clock y.desk) f
+  link_kept {taken} {turns} {x} {y} {l} {f} st left same later =
+      subst (λ (ms : List WsMessage). Stand user ms turns x (setting l y.clock y.desk) f) (append-nil taken)
       (taken_more [] st (subst (λ (o : Option (List WsMessage)). TakesMessages y.link.left o []) (sym left) (Takes-nil y.link.left)) same later)
 
 module _ {user : User} {most : ℕ} where
-  -- the end, with what may be unanswered
-  finish : {taken : List WsMessage} {exchanges : List TextExchange} {i : ℕ} {x y : SocketSetting} {c : Option (ℕ → ℤ)} {u d : Shown} {f f' : List Front} {e : WsEnd} (unanswered : List TextExchange)
-      → Stand user taken exchanges i x y f → TextsTold y.clock c f f' y.desk u unanswered → i + length unanswered ≤ most
-      → SocketEndHow user most taken exchanges unanswered x (setting y.link c d) u e → SocketRests e u d → Ends user most x (setting y.link c d) f' i e
-  finish {taken} {exchanges} {i} {x} {y} {c} {u} {d} {f} {f'} {e} unanswered st told room how rests served fronts replies is = record {
+  -- the end, with what may be unfinished
+  finish : {taken : List WsMessage} {turns : List Turn} {replies : ℕ} {x y : SocketSetting} {c : Option (ℕ → ℤ)} {u d : Shown} {f f' : List Front} {e : WsEnd} (unfinished : List Turn)
+      → Stand user taken turns x y f → length (replies_in turns) ≡ replies → TurnsTold y.clock c f f' y.desk u unfinished → replies + length (replies_in unfinished) ≤ most
+      → length (made_in_looks turns) + sum_by look_size unfinished ≤ MAX_LOOK_CALLS
+      → SocketEndHow user most taken turns unfinished x (setting y.link c d) u e → SocketRests e u d → Ends user most x (setting y.link c d) f' replies e
+  finish {taken} {turns} {replies} {x} {y} {c} {u} {d} {f} {f'} {e} unfinished st count told room looks how rests served fronts same is = record {
     taken = taken;
-    exchanges = exchanges;
-    unanswered = unanswered;
+    turns = turns;
+    unfinished = unfinished;
     took = st.took;
     later = st.later;
-    count = st.count ∙ sym replies;
-    room = omega (arith, room, replies);
+    count = count ∙ sym same;
+    room = omega (arith, room, same);
+    looks = looks;
     fit = st.fit;
     desk = u;
-    told = subst (λ (l : List Front). TextsTold x.clock c [] l x.desk u (exchanges ++ unanswered)) (sym fronts) (told_join x.clock y.clock c [] f f' x.desk y.desk u exchanges unanswered st.told told);
+    told = subst (λ (l : List Front). TurnsTold x.clock c [] l x.desk u (turns ++ unfinished)) (sym fronts) (told_join x.clock y.clock c [] f f' x.desk y.desk u turns unfinished st.told told);
     rests = subst (λ (z : WsEnd). SocketRests z u d) (sym is) rests;
     sent = st.sent;
-    how = subst (SocketEndHow user most taken exchanges unanswered x (setting y.link c d) u) (sym is) how;
+    how = subst (SocketEndHow user most taken turns unfinished x (setting y.link c d) u) (sym is) how;
   }
 
-  -- ---- nothing was taken
+  module _ {n replies : ℕ} {push : Push} {x y : SocketSetting} {f : List Front} (v : Serving user most n replies push x y f) where
+    idle_room : replies + length (replies_in []) ≤ most
+    idle_room = (let room = v.room in omega (arith, room))
 
-  link_how : {i : ℕ} {x y : SocketSetting} {l : LinkShown} {f : List Front} (e : LinkError) → (v : Serving user most i x y f) → l.left ≡ y.link.left → l.sent ≡ y.link.sent → y.link.faults ≤ l.faults
-      → (e ≡ fault.Failed → Rose y.link.faults l.faults) → Ends user most x (setting l y.clock y.desk) f i (end_of_link e)
-  link_how {i} {x} {y} {l} {f} fault.Failed v left same later rose =
-      finish [] (link_kept v.stand left same later) (told_none y.clock f y.desk) (omega (arith, v.room)) (inl refl, none_behind v.exchanges, rose_more v.stand.later (rose refl)) refl
-  link_how {i} {x} {y} {l} {f} fault.NoMemory v left same later rose =
-      finish [] (link_kept v.stand left same later) (told_none y.clock f y.desk) (omega (arith, v.room)) (inl (refl, refl), none_behind v.exchanges) tt
+    idle_looks : length (made_in_looks v.turns) + sum_by look_size [] ≤ MAX_LOOK_CALLS
+    idle_looks = (let calls = v.calls in let looks = v.looks in omega (arith, calls, looks))
 
-  pub link_failed : {i : ℕ} {x y : SocketSetting} {l : LinkShown} {f : List Front} {e : LinkError} → Serving user most i x y f → l.left ≡ y.link.left → l.sent ≡ y.link.sent → y.link.faults ≤ l.faults
-      → (e ≡ fault.Failed → Rose y.link.faults l.faults) → Ends user most x (setting l y.clock y.desk) f i (end_of_link e)
-  link_failed {i} {x} {y} {l} {f} {e} v left same later rose = link_how e v left same later rose
+    -- ---- no turn was had
 
-  pub closed : {i : ℕ} {x y : SocketSetting} {l : LinkShown} {f : List Front} → Serving user most i x y f → TakesMessages y.link.left l.left [] → HasNoMoreMessages l.left → l.sent ≡ y.link.sent → y.link.faults ≤ l.faults
-      → Ends user most x (setting l y.clock y.desk) f i end.Closed
-  closed {i} {x} {y} {l} {f} v took over same later =
-      finish [] (taken_more [] v.stand took same later) (told_none y.clock f y.desk) (omega (arith, v.room)) ((refl, refl), over) refl
+    -- the link gave nothing, or what ends a socket
+    pub given_up : {l : LinkShown} (e : WsEnd) → IsNextText y.link l (Err e) → l.sent ≡ y.link.sent → y.link.faults ≤ l.faults → Ends user most x (setting l y.clock y.desk) f replies e
+    given_up end.Closed how same later = finish [] (taken_more [] v.stand how.0 same later) v.replied (told_none y.clock f y.desk) idle_room idle_looks ((refl, refl), how.1) refl
+    given_up end.Binary how same later = finish [] (taken_more (Binary ∷ []) v.stand how same later) v.replied (told_none y.clock f y.desk) idle_room idle_looks (refl, refl) refl
+    given_up end.LinkFault how same later =
+        finish [] (link_kept v.stand how.0 same later) v.replied (told_none y.clock f y.desk) idle_room idle_looks (inl refl, none_behind v.turns, rose_more v.stand.later how.1) refl
+    given_up end.NoMemory how same later =
+        finish [] (link_kept v.stand how same later) v.replied (told_none y.clock f y.desk) idle_room idle_looks (inl (refl, refl), none_behind v.turns) tt
+    given_up end.Quota how same later = absurd how
+    given_up end.PassSpent how same later = absurd how
 
-  pub binary : {i : ℕ} {x y : SocketSetting} {l : LinkShown} {f : List Front} → Serving user most i x y f → TakesMessages y.link.left l.left (Binary ∷ []) → l.sent ≡ y.link.sent → y.link.faults ≤ l.faults
-      → Ends user most x (setting l y.clock y.desk) f i end.Binary
-  binary {i} {x} {y} {l} {f} v took same later =
-      finish [] (taken_more (Binary ∷ []) v.stand took same later) (told_none y.clock f y.desk) (omega (arith, v.room)) (refl, refl) refl
+    spent_so : IsSpent user most v.turns → Ends user most x (setting y.link y.clock y.desk) f replies end.Quota
+    spent_so spent = finish [] v.stand v.replied (told_none y.clock f y.desk) idle_room idle_looks ((refl, sym (append-nil (taken_in v.turns))), spent) refl
 
-  -- ---- a text was taken
+    pub texts_spent : most ≤ replies → Ends user most x (setting y.link y.clock y.desk) f replies end.Quota
+    texts_spent all = spent_so (inl (let replied = v.replied in let room = v.room in omega (arith, replied, room, all)))
 
-  module _ {i : ℕ} {x y : SocketSetting} {l : LinkShown} {c : Option (ℕ → ℤ)} {u d : Shown} {f f' : List Front} {asking : List ℕ} where
-    stopped_how : (e : DeskError) (v : Serving user most i x y f) → i < most → TakesMessages y.link.left l.left (Text asking ∷ []) → l.sent ≡ y.link.sent → y.link.faults ≤ l.faults
-        → (t : TextExchange) → t.asking ≡ asking → TextsTold y.clock c f f' y.desk u (t ∷ []) → TextBegun user e u d t → Ends user most x (setting l c d) f' i (end_of_desk e)
-    stopped_how reason.PassSpent v h took same later t is told begun =
-        finish (t ∷ []) (taken_more (Text asking ∷ []) v.stand took same later) told (omega (arith, h)) ((t, refl, begun), pushed v.exchanges t asking is) tt
-    stopped_how reason.NoMemory v h took same later t is told begun =
-        finish (t ∷ []) (taken_more (Text asking ∷ []) v.stand took same later) told (omega (arith, h)) (inr (t, refl, begun), pushed v.exchanges t asking is) tt
+    pub looks_spent : MAX_LOOK_CALLS < push.calls + length push.watch → Ends user most x (setting y.link y.clock y.desk) f replies end.Quota
+    looks_spent over = spent_so (inr (inl (let calls = v.calls in let watch = ap length v.watch in omega (arith, calls, watch, over))))
 
-  module _ {i : ℕ} {x y : SocketSetting} {l : LinkShown} {c : Option (ℕ → ℤ)} {d : Shown} {f f' : List Front} {asking said : List ℕ} where
-    -- the text wasn't answered
-    pub stopped_inside : {e : DeskError} → Serving user most i x y f → i < most → TakesMessages y.link.left l.left (Text asking ∷ []) → l.sent ≡ y.link.sent → y.link.faults ≤ l.faults
-        → AnswersText user said y.clock c f f' y.desk d (Err e) → said ≡ asking → Ends user most x (setting l c d) f' i (end_of_desk e)
-    stopped_inside {e} v h took same later a asks = stopped_how e v h took same later a.exchange (a.is ∙ asks) a.told a.how
+    pub turns_spent : MAX_TURNS ≤ n → n ≤ MAX_TURNS → Ends user most x (setting y.link y.clock y.desk) f replies end.Quota
+    turns_spent all within = spent_so (inr (inr (let count = v.count in omega (arith, count, all, within))))
 
-    module _ {bytes : Vec ℕ Global} where
-      -- the reply wasn't sent
-      unsent_how : {k : LinkShown} (e : LinkError) (v : Serving user most i x y f) → i < most → TakesMessages y.link.left l.left (Text asking ∷ []) → l.sent ≡ y.link.sent → y.link.faults ≤ l.faults
-          → AnswersText user said y.clock c f f' y.desk d (Ok bytes) → said ≡ asking → k.left ≡ l.left → k.sent ≡ l.sent → l.faults ≤ k.faults → (e ≡ fault.Failed → Rose l.faults k.faults)
-          → Ends user most x (setting k c d) f' i (end_of_link e)
-      unsent_how {k} fault.Failed v h took same later a asks left kept after rose =
-          finish (a.exchange ∷ []) (link_kept (taken_more (Text asking ∷ []) v.stand took same later) left kept after) a.told (omega (arith, h))
-          (inr (a.exchange, refl, a.how.0), pushed v.exchanges a.exchange asking (a.is ∙ asks), rose_more (let s = v.stand.later in omega (arith, s, later)) (rose refl)) a.how.2
-      unsent_how {k} fault.NoMemory v h took same later a asks left kept after rose =
-          finish (a.exchange ∷ []) (link_kept (taken_more (Text asking ∷ []) v.stand took same later) left kept after) a.told (omega (arith, h))
-          (inr (a.exchange, refl, unsaid user (clamped a.exchange.moment) (asked_in_text a.exchange.asking) (id_in_text a.exchange.asking) a.exchange.made a.desk d a.exchange.reply a.how.0 a.how.2), pushed v.exchanges a.exchange asking (a.is ∙ asks)) tt
+    accounts_same : y.desk.accounts ≡ x.desk.accounts
+    accounts_same = accounts_stay _ _ _ v.stand.told.chain
 
-      pub unsent : {k : LinkShown} {e : LinkError} → Serving user most i x y f → i < most → TakesMessages y.link.left l.left (Text asking ∷ []) → l.sent ≡ y.link.sent → y.link.faults ≤ l.faults
-          → AnswersText user said y.clock c f f' y.desk d (Ok bytes) → said ≡ asking → k.left ≡ l.left → k.sent ≡ l.sent → l.faults ≤ k.faults → (e ≡ fault.Failed → Rose l.faults k.faults)
-          → Ends user most x (setting k c d) f' i (end_of_link e)
-      unsent {k} {e} v h took same later a asks left kept after rose = unsent_how e v h took same later a asks left kept after rose
+    pub still_granted : All (λ (g : Grant). g.account < x.desk.accounts) user.grants → All (λ (g : Grant). g.account < y.desk.accounts) user.grants
+    still_granted h = subst (λ (k : ℕ). All (λ (g : Grant). g.account < k) user.grants) (sym accounts_same) h
 
-      pub goes_on : {k : LinkShown} {piece : List ℕ} → Serving user most i x y f → i < most → TakesMessages y.link.left l.left (Text asking ∷ []) → l.sent ≡ y.link.sent → y.link.faults ≤ l.faults
-          → AnswersText user said y.clock c f f' y.desk d (Ok bytes) → said ≡ asking → piece ≡ bytes.items → k.left ≡ l.left → SendsTexts l.sent k.sent (piece ∷ []) → l.faults ≤ k.faults
-          → Serving user most (i + 1) x (setting k c d) f'
-      goes_on {k} {piece} v h took same later a asks given left more after =
-          let st = taken_more (Text asking ∷ []) v.stand took same later in
-          let es = v.exchanges ++ a.exchange ∷ [] in
+    pub still_watched : All (λ (g : Grant). g.account < x.desk.accounts) user.grants → All (λ (w : Watched). w.account < y.desk.accounts) push.watch
+    still_watched h = subst (λ (ws : List Watched). All (λ (w : Watched). w.account < y.desk.accounts) ws) (sym v.watch) (watched_within user y.desk.accounts (still_granted h) v.turns v.stand.fit)
+
+    -- ---- a turn was had, of what the link gave
+
+    module _ {l : LinkShown} {c : Option (ℕ → ℤ)} {d : Shown} {f' : List Front} {push' : Push} {text : Option (List ℕ)} {r : Result Said DeskError}
+        (less : replies < most) (few : push.calls + length push.watch ≤ MAX_LOOK_CALLS)
+        (took : TakesMessages y.link.left l.left (as_messages text)) (same : l.sent ≡ y.link.sent) (later : y.link.faults ≤ l.faults)
+        (h : HasTurn user text push push' y.clock c f f' y.desk d r) where
+      after_taking : Stand user (taken_in v.turns ++ as_messages text) v.turns x (setting l y.clock y.desk) f
+      after_taking = taken_more (as_messages text) v.stand took same later
+
+      taken_is : taken_in v.turns ++ as_messages text ≡ taken_in (v.turns ++ h.turn ∷ [])
+      taken_is = pushed v.turns h.turn text h.takes
+
+      one_room : replies + length (replies_in (h.turn ∷ [])) ≤ most
+      one_room = (let one = few_replies h.turn in let all = ap length (append-nil (reply_of h.turn)) in omega (arith, less, one, all))
+
+      one_look : length (made_in_looks v.turns) + sum_by look_size (h.turn ∷ []) ≤ MAX_LOOK_CALLS
+      one_look = (let calls = v.calls in let size = h.size in omega (arith, few, calls, size))
+
+      -- the desk answered no more
+      stopped_how : (e : DeskError) → TurnBegun user push.watch e h.desk d h.turn → Ends user most x (setting l c d) f' replies (end_of_desk e)
+      stopped_how reason.PassSpent begun =
+          finish (h.turn ∷ []) after_taking v.replied h.told one_room one_look ((h.turn, refl, subst (λ (ws : List Watched). TurnBegun user ws reason.PassSpent h.desk d h.turn) v.watch begun), taken_is) tt
+      stopped_how reason.NoMemory begun =
+          finish (h.turn ∷ []) after_taking v.replied h.told one_room one_look (inr (h.turn, refl, subst (λ (ws : List Watched). TurnBegun user ws reason.NoMemory h.desk d h.turn) v.watch begun), taken_is) tt
+
+    pub stopped : {l : LinkShown} {c : Option (ℕ → ℤ)} {d : Shown} {f' : List Front} {push' : Push} {text : Option (List ℕ)} {e : DeskError} → replies < most → push.calls + length push.watch ≤ MAX_LOOK_CALLS
+        → TakesMessages y.link.left l.left (as_messages text) → l.sent ≡ y.link.sent → y.link.faults ≤ l.faults → HasTurn user text push push' y.clock c f f' y.desk d (Err e)
+        → Ends user most x (setting l c d) f' replies (end_of_desk e)
+    stopped {l} {c} {d} {f'} {push'} {text} {e} less few took same later h = stopped_how less few took same later h e h.how
+
+    module _ {l : LinkShown} {c : Option (ℕ → ℤ)} {d : Shown} {f' : List Front} {push' : Push} {text : Option (List ℕ)} {said : Said}
+        (less : replies < most) (few : push.calls + length push.watch ≤ MAX_LOOK_CALLS)
+        (took : TakesMessages y.link.left l.left (as_messages text)) (same : l.sent ≡ y.link.sent) (later : y.link.faults ≤ l.faults)
+        (h : HasTurn user text push push' y.clock c f f' y.desk d (Ok said)) where
+      fits : TurnFits user (watched_behind_all user v.turns) h.turn
+      fits = subst (λ (ws : List Watched). TurnFits user ws h.turn) v.watch h.how.0.fit
+
+      -- what the turn sends wasn't sent
+      pub unsent : {k : LinkShown} (e : LinkError) → k.left ≡ l.left → k.sent ≡ l.sent → l.faults ≤ k.faults → (e ≡ fault.Failed → Rose l.faults k.faults) → (texts_said said ≡ [] → ⊥)
+          → Ends user most x (setting k c d) f' replies (end_of_link e)
+      unsent {k} fault.Failed left kept after rose speaks =
+          finish (h.turn ∷ []) (link_kept (after_taking less few took same later h) left kept after) v.replied h.told (one_room less few took same later h) (one_look less few took same later h)
+          (inr (h.turn, refl, fits), taken_is less few took same later h, rose_more (let before = v.stand.later in omega (arith, before, later)) (rose refl)) h.how.1
+      unsent {k} fault.NoMemory left kept after rose speaks =
+          finish (h.turn ∷ []) (link_kept (after_taking less few took same later h) left kept after) v.replied h.told (one_room less few took same later h) (one_look less few took same later h)
+          (inr (h.turn, refl, unsaid_turn user (watched_behind_all user v.turns) h.desk d h.turn fits h.how.1 (λ none. speaks (h.how.0.says ∙ none))), taken_is less few took same later h) tt
+
+      -- it was sent
+      pub goes_on : {k : LinkShown} {replies' : ℕ} → k.left ≡ l.left → SendsTexts l.sent k.sent (texts_said said) → l.faults ≤ k.faults → replies' ≡ length (replies_said said)
+          → Serving user most (n + 1) (replies + replies') push' x (setting k c d) f'
+      goes_on {k} {replies'} left more after so_many =
+          let st = after_taking less few took same later h in
+          let had = h.how.0 in
+          let ts = v.turns ++ h.turn ∷ [] in
+          let one = few_replies h.turn in
           record {
-            exchanges = es;
+            turns = ts;
             stand = record {
-              took = subst (TakesMessages x.link.left k.left) (pushed v.exchanges a.exchange asking (a.is ∙ asks)) (subst (λ (o : Option (List WsMessage)). TakesMessages x.link.left o (asked_texts v.exchanges ++ Text asking ∷ [])) (sym left) st.took);
-              later = (let s = st.later in omega (arith, s, after));
-              count = (let e = v.stand.count in length-append v.exchanges (a.exchange ∷ []) ∙ omega arith);
-              fit = fit_more user v.exchanges a.exchange v.stand.fit a.how.0;
-              told = subst (λ (z : Shown). TextsTold x.clock c [] f' x.desk z es) (sym a.how.2) (told_join x.clock y.clock c [] f f' x.desk y.desk a.desk v.exchanges (a.exchange ∷ []) v.stand.told a.told);
-              sent = subst (SendsTexts x.link.sent k.sent) (ap (λ (r : List ℕ). replies_of v.exchanges ++ r ∷ []) (given ∙ a.how.1) ∙ sym (map-append (λ (t : TextExchange). t.reply) v.exchanges (a.exchange ∷ [])))
-                  (Sends-trans x.link.sent l.sent k.sent (replies_of v.exchanges) (piece ∷ []) st.sent more);
+              took = subst (TakesMessages x.link.left k.left) (taken_is less few took same later h) (subst (λ (o : Option (List WsMessage)). TakesMessages x.link.left o (taken_in v.turns ++ as_messages text)) (sym left) st.took);
+              later = (let before = st.later in omega (arith, before, after));
+              fit = fit_more user [] v.turns h.turn v.stand.fit fits;
+              told = subst (λ (z : Shown). TurnsTold x.clock c [] f' x.desk z ts) (sym h.how.1) (told_join x.clock y.clock c [] f f' x.desk y.desk h.desk v.turns (h.turn ∷ []) v.stand.told h.told);
+              sent = subst (SendsTexts x.link.sent k.sent) (ap (λ (s : List (List ℕ)). sent_in v.turns ++ s) (had.says ∙ sym (append-nil (sent_by h.turn))) ∙ sym (flat_map-append sent_by v.turns (h.turn ∷ [])))
+                  (Sends-trans x.link.sent l.sent k.sent (sent_in v.turns) (texts_said said) st.sent more);
             };
-            room = omega (arith, h);
+            count = (let count = v.count in length-append v.turns (h.turn ∷ []) ∙ omega (arith, count));
+            replied = (
+                let all = ap length (flat_map-append reply_of v.turns (h.turn ∷ [])) ∙ length-append (replies_in v.turns) (replies_in (h.turn ∷ [])) in
+                let last = ap length (append-nil (reply_of h.turn)) in
+                let said_so = ap length had.replies in
+                let before = v.replied in
+                omega (arith, all, last, said_so, before, so_many)
+                );
+            watch = had.watch ∙ (ap (λ (ws : List Watched). watched_after user ws h.turn) v.watch ∙ sym (fold-append (watched_after user) [] v.turns (h.turn ∷ [])));
+            calls = (
+                let all = ap length (flat_map-append made_in_look v.turns (h.turn ∷ [])) ∙ length-append (made_in_looks v.turns) (made_in_looks (h.turn ∷ [])) in
+                let last = ap length (append-nil (made_in_look h.turn)) in
+                let now = had.calls in
+                let before = v.calls in
+                omega (arith, all, last, now, before)
+                );
+            room = (let said_so = ap length had.replies in omega (arith, less, one, said_so, so_many));
+            looks = (let now = had.calls in let made = looks_few h.turn in let size = h.size in omega (arith, few, now, made, size));
           }
-
-  pub quota_reached : {i : ℕ} {x y : SocketSetting} {f : List Front} → Serving user most i x y f → most ≤ i → Ends user most x (setting y.link y.clock y.desk) f most end.Quota
-  quota_reached {i} {x} {y} {f} v h =
-      let all : i ≡ most = omega (arith, v.room, h) in
-      let st : Stand user (asked_texts v.exchanges) v.exchanges most x y f = subst (λ (n : ℕ). Stand user (asked_texts v.exchanges) v.exchanges n x y f) all v.stand in
-      finish [] st (told_none y.clock f y.desk) (omega arith) ((refl, sym (append-nil (asked_texts v.exchanges))), st.count) refl
-
-  pub still_granted : {i : ℕ} {x y : SocketSetting} {f : List Front} → Serving user most i x y f → All (λ (g : Grant). g.account < x.desk.accounts) user.grants → All (λ (g : Grant). g.account < y.desk.accounts) user.grants
-  still_granted {i} {x} {y} {f} v h = subst (λ (n : ℕ). All (λ (g : Grant). g.account < n) user.grants) (sym (accounts_stay _ _ _ v.stand.told.chain)) h

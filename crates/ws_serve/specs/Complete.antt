@@ -3,8 +3,8 @@ use Rattle.std.specs.Prelude.{◌≡◌, ℕ, ◌<◌, List, [], ◌∷◌, ◌+
 use Rattle.io_edge.specs.Outside.{Rose}
 use Rattle.spec_history.specs.MostTurns.{most_turns}
 use Rattle.spec_core.specs.declared.user.User.{User}
-use Rattle.spec_sockets.specs.Exchanges.{AllTextsFit, TextExchange, TextsTold, replies_of, asked_texts}
-use Rattle.spec_sockets.specs.Serving.{ServesSocket, SocketSetting}
+use Rattle.spec_sockets.specs.Serving.{IsSpent, ServesSocket, SocketSetting}
+use Rattle.spec_sockets.specs.Turns.{AllTurnsFit, Turn, TurnsTold, replies_in, sent_in, taken_in}
 use Rattle.spec_sockets.specs.declared.served.WsEnd.{WsEnd}
 use Rattle.spec_sockets.specs.declared.served.WsEnd.TheVariants as end
 use Rattle.spec_sockets.specs.declared.served.WsServed.{WsServed}
@@ -17,19 +17,19 @@ pub record IsSocketUnharmed (x x' : SocketSetting) : Type 0 where
   pub may_call : x'.desk.turns < most_turns
 
 module _ (user : User) (most : ℕ) (x x' : SocketSetting) (served : WsServed) where
-  -- the texts that were taken were all answered, this was taken behind them, and nothing else was sent
-  pub record AllTextsAnswered (behind : List WsMessage) : Type 0 where
-    pub exchanges : List TextExchange
-    pub count : length exchanges ≡ served.replies
-    pub took : TakesMessages x.link.left x'.link.left (asked_texts exchanges ++ behind)
-    pub fit : AllTextsFit user exchanges
-    pub told : TextsTold x.clock x'.clock [] served.fronts.items x.desk x'.desk exchanges
-    pub sent : SendsTexts x.link.sent x'.link.sent (replies_of exchanges)
+  -- all turns were had whole, this was taken behind them, and nothing else was sent
+  pub record AllTurnsHad (behind : List WsMessage) : Type 0 where
+    pub turns : List Turn
+    pub count : length (replies_in turns) ≡ served.replies
+    pub took : TakesMessages x.link.left x'.link.left (taken_in turns ++ behind)
+    pub fit : AllTurnsFit user [] turns
+    pub told : TurnsTold x.clock x'.clock [] served.fronts.items x.desk x'.desk turns
+    pub sent : SendsTexts x.link.sent x'.link.sent (sent_in turns)
 
   abbrev pub EndsWithTexts : WsEnd → Type 0
-  EndsWithTexts end.Closed = AllTextsAnswered [] × HasNoMoreMessages x'.link.left
-  EndsWithTexts end.Binary = AllTextsAnswered (Binary ∷ [])
-  EndsWithTexts end.Quota = AllTextsAnswered [] × (served.replies ≡ most)
+  EndsWithTexts end.Closed = AllTurnsHad [] × HasNoMoreMessages x'.link.left
+  EndsWithTexts end.Binary = AllTurnsHad (Binary ∷ [])
+  EndsWithTexts end.Quota = (h : AllTurnsHad []) × IsSpent user most h.turns
   EndsWithTexts end.LinkFault = ⊥
   EndsWithTexts end.PassSpent = ⊥
   EndsWithTexts end.NoMemory = ⊤

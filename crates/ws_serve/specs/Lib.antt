@@ -1,5 +1,6 @@
 pub mod Valued
 pub mod Answering
+pub mod Turning
 pub mod Ending
 pub mod Complete
 pub mod Histories

@@ -3,19 +3,19 @@ ghost use Rattle.ws_serve.specs.Chained.{HostsStandInHistories, SocketsAreNeverS
 ghost use Rattle.ws_serve.specs.Complete.{FaultlessSocketsAreAnswered};
 ghost use Rattle.ws_serve.specs.Histories.{SocketsStandInHistories};
 
-/// Where the link's count of faults did not rise and the desk may make more calls, a socket ran out of memory, or all texts that were taken were answered and nothing else was sent.
+/// Where the link's count of faults did not rise and the desk may make more calls, a socket ran out of memory, or all its turns were had whole, texts and looks, and nothing else was sent.
 pub fn faultless_sockets_are_answered()
     ensures { FaultlessSocketsAreAnswered }
 {}
 
-/// However a socket ended, the calls that were answered on it stand in the histories of the desk's accounts, each with its front, and
-/// no other entry there is the desk's. It made at most 16 calls for each of the texts.
+/// However a socket ended, the calls of its turns stand in the histories of the desk's accounts, one behind the other, those for texts each with its front, and
+/// no other entry there is the desk's. It made at most 16 calls for each of the texts, and 800,000 to look at states.
 pub fn sockets_stand_in_histories()
     ensures { SocketsStandInHistories }
 {}
 
-/// However its sockets ended, the calls that were answered on them stand in the histories of the desk's accounts, with the fronts of the sockets, joined in order,
-/// and no other entry there is the desk's. It made at most 160,000 calls for each socket.
+/// However its sockets ended, the calls of their turns stand in the histories of the desk's accounts, those for texts with the fronts of the sockets, joined in order,
+/// and no other entry there is the desk's. It made at most 960,000 calls for each socket.
 pub fn hosts_stand_in_histories()
     ensures { HostsStandInHistories }
 {}

@@ -3,10 +3,11 @@ ghost use Rattle.std.specs.Prelude.{◌≡◌, ◌<◌, All, IfOk, OnOk, codes, 
 ghost use Rattle.spec_json.specs.Json.{text_of};
 ghost use Rattle.spec_json.specs.Parts.{text_at};
 ghost use Rattle.spec_json.specs.TreeData.{data_of};
-ghost use Rattle.spec_sockets.specs.Texts.{asked_by_marked, is_good_id, is_marked, says_text, marked, request_id, type_name, with_request_id};
-ghost use Rattle.ws_serve.specs.Answering.{IsTextAnswered};
+ghost use Rattle.spec_sockets.specs.Texts.{asked_by_marked, is_marked, marked, request_id, type_name, with_request_id};
+ghost use Rattle.ws_serve.specs.Answering.{IsTextAnswered, IsTreeAnswered, replied_as};
 ghost use Rattle.ws_serve.specs.Valued.{IsAnsweredAs, IsRefusalText};
 
+use crate::switch::{is_text_if_any, says_text, switch_of};
 use json_edge::read::{ReadError, read_tree};
 use json_edge::write::tree_text;
 use request_reply::reply::{RequestOutcome, refusal, reply_to_tree};
@@ -16,10 +17,20 @@ use spec_core::limits::MAX_SIZE_REQUEST;
 use spec_core::user::User;
 use spec_json::text::Text;
 use spec_json::tree::{Tree, TreeObject};
+use spec_sockets::switch::Switch;
 use spec_time::moment::Moment;
 use std::alloc::{AllocError, Global};
 
-/// Answers a text as a request of a user, on the accounts of a desk, at a moment: the text of a `Response` or of a `RequestError` (RFC 8887 sections 4.3.3 and 4.3.4).
+/// What a text comes to.
+#[derive(Drop)]
+pub enum TextAnswer {
+    /// The text of a `Response` or of a `RequestError` (RFC 8887 sections 4.3.3 and 4.3.4).
+    Reply(Vec<u8>),
+    /// The text is a switch, which has no reply (section 4.3.5).
+    Switch(Switch),
+}
+
+/// Answers a text of a user, on the accounts of a desk, at a moment: as a request, where it is no switch.
 ///
 /// A front is added for each call that the desk answered, in order. `PassSpent` comes only where the desk made as many calls as it
 /// may. At both errors the calls that were answered stay in the accounts' histories, and their fronts are in the list. Takes memory for the reply.
@@ -30,18 +41,46 @@ pub fn ws_reply<D: Desk>(
     desk: &mut D,
     moment: Moment,
     fronts: &mut Vec<Front>,
-) -> Result<Vec<u8>, DeskError>
+) -> Result<TextAnswer, DeskError>
     requires { All (λ g. g.account < (D.shown desk.old).accounts) user.now.grants }
     ensures { IsTextAnswered user.now moment text.now fronts.old.items fronts.new.items (D.shown desk.old) (D.shown desk.new) result }
 {
     if text.len() > MAX_SIZE_REQUEST {
-        return refuse(alloc, RequestError::Limit(Limit::SizeRequest), None);
+        let limit = RequestError::Limit(Limit::SizeRequest);
+        return replied(refuse(alloc, limit, None));
     }
     match read_tree(alloc, text) {
-        Ok(tree) => reply_to_marked(alloc, tree, user, desk, moment, fronts),
-        Err(ReadError::NotJson) => refuse(alloc, RequestError::NotJson, None),
-        Err(ReadError::NotWhole) => refuse(alloc, RequestError::NotRequest, None),
+        Ok(tree) => answer_tree(alloc, tree, user, desk, moment, fronts),
+        Err(ReadError::NotJson) => replied(refuse(alloc, RequestError::NotJson, None)),
+        Err(ReadError::NotWhole) => replied(refuse(alloc, RequestError::NotRequest, None)),
         Err(ReadError::NoMemory) => Err(DeskError::NoMemory),
+    }
+}
+
+// What a text that is read comes to.
+fn answer_tree<D: Desk>(
+    alloc: Global,
+    tree: Tree,
+    user: &User,
+    desk: &mut D,
+    moment: Moment,
+    fronts: &mut Vec<Front>,
+) -> Result<TextAnswer, DeskError>
+    requires { All (λ g. g.account < (D.shown desk.old).accounts) user.now.grants }
+    ensures { IsTreeAnswered user.now moment (data_of tree) fronts.old.items fronts.new.items (D.shown desk.old) (D.shown desk.new) result }
+{
+    match switch_of(&tree) {
+        Some(switch) => Ok(TextAnswer::Switch(switch)),
+        None => replied(reply_to_marked(alloc, tree, user, desk, moment, fronts)),
+    }
+}
+
+fn replied(reply: Result<Vec<u8>, DeskError>) -> Result<TextAnswer, DeskError>
+    ensures { result ≡ replied_as reply }
+{
+    match reply {
+        Ok(bytes) => Ok(TextAnswer::Reply(bytes)),
+        Err(error) => Err(error),
     }
 }
 
@@ -86,26 +125,7 @@ fn id_of(tree: &Tree) -> Result<Option<Text>, AllocError>
 fn is_marked(tree: &Tree) -> bool
     ensures { result ≡ is_marked (data_of tree.now) }
 {
-    says_text(tree.text_at("@type"), "Request") && is_good_id(tree.get("id"))
-}
-
-fn says_text(text: Option<&Text>, wanted: &str) -> bool
-    ensures { result ≡ says_text wanted.now (option_map (λ t. t.now) text.entry) }
-{
-    match text {
-        Some(text) => text.as_str() == wanted,
-        None => false,
-    }
-}
-
-fn is_good_id(id: Option<&Tree>) -> bool
-    ensures { result ≡ is_good_id (option_map (λ t. data_of t.now) id.entry) }
-{
-    match id {
-        None => true,
-        Some(Tree::Text(_)) => true,
-        Some(_) => false,
-    }
+    says_text(tree.text_at("@type"), "Request") && is_text_if_any(tree.get("id"))
 }
 
 // The text that tells why a request with this id was refused.

@@ -1,0 +1,3 @@
+pub mod Watching
+pub mod StateChanges
+pub mod Looks

@@ -1,0 +1,169 @@
+//! States that are watched, and looks at them.
+ghost use Rattle.std.specs.Prelude.{◌≡◌, ◌<◌, ◌++◌, [], All, IfOk, OnOk, length};
+ghost use Rattle.spec_push.specs.Watching.{untold, untold_if, watched_in, watched_for};
+ghost use Rattle.state_watch.specs.Looking.{IsSeen, LooksSo};
+
+use crate::change::change_text;
+use crate::glance::glance;
+use spec_batch::desk::{Desk, DeskError};
+use spec_core::user::{Grant, User};
+use spec_history::entry::Kind;
+use spec_json::tree::TreeObject;
+use spec_push::data_types::DataTypes;
+use spec_push::watched::Watched;
+use spec_time::moment::Moment;
+use std::alloc::{AllocError, Global};
+use std::marker::Model;
+
+/// States that are watched for a client. Contracts see each of them, with the state that the client was told last.
+#[derive(Drop)]
+pub struct Watch {
+    states: Vec<Watched>,
+    // the place of the first state of the account whose turn it is; none where all are to be looked at
+    next: Option<usize>,
+}
+
+impl Model for Watch {
+    ghost use Rattle.std.specs.Prelude.{List};
+    ghost use Rattle.spec_push.specs.declared.watched.Watched.{Watched};
+
+    ghost Value = { List Watched };
+
+    ghost view = { λ a. a.states.items };
+}
+
+/// What a look came to.
+#[derive(Drop)]
+pub struct Looked {
+    /// The text of the `StateChange` that is to be sent, where something is news.
+    pub told: Option<Vec<u8>>,
+    /// The number of calls that were made.
+    pub calls: usize,
+}
+
+impl Watch {
+    /// A watch of nothing. Takes no memory.
+    pub fn of_nothing(alloc: Global) -> Watch
+        ensures { result ≡ [] }
+    {
+        Watch {
+            states: Vec::new(alloc),
+            next: None,
+        }
+    }
+
+    /// A watch of these types in all accounts of a user, of which nothing was told yet. Takes memory for them.
+    pub fn of(alloc: Global, user: &User, types: DataTypes) -> Result<Watch, AllocError>
+        ensures { IfOk result (λ watch. watch ≡ watched_for user.now types) }
+    {
+        let mut states = Vec::new(alloc);
+        for grant in user.grants.items() {
+            watch_account(&mut states, grant, types)?;
+        }
+        Ok(Watch { states, next: None })
+    }
+
+    /// The number of states that are watched, which is the most calls that a look makes. Takes no memory.
+    pub fn len(&self) -> usize
+        ensures { result ≡ length self.now }
+    {
+        self.states.len()
+    }
+
+    /// Looks at states, and tells what is news: at all of them the first time; and then at those of the next account, where its history has grown since it was last looked at, of
+    /// which the first state's call tells.
+    ///
+    /// At each error the calls that were answered stand. Takes memory for a reply at a time, and for what is told.
+    pub fn look<D: Desk>(
+        &mut self,
+        alloc: Global,
+        desk: &mut D,
+        moment: Moment,
+    ) -> Result<Looked, DeskError>
+        requires { All (λ w. w.account < (D.shown desk.old).accounts) self.old }
+        ensures { LooksSo moment self.old self.new (D.shown desk.old) (D.shown desk.new) result }
+    {
+        let mut changed = TreeObject::new(Vec::new(alloc));
+        let mut calls = 0;
+        let mut has_grown = false;
+        for i in 0..self.states.len() {
+            if !is_due(&self.states, self.next, i, has_grown) {
+                continue;
+            }
+            match glance(alloc, &mut self.states[i], desk, moment, &mut changed) {
+                Ok(is_longer) => has_grown = is_longer,
+                Err(error) => return Err(error),
+            }
+            calls += 1;
+        }
+        self.next = Some(behind(&self.states, self.next));
+        match change_text(alloc, changed) {
+            Ok(told) => Ok(Looked { told, calls }),
+            Err(_) => Err(DeskError::NoMemory),
+        }
+    }
+}
+
+// Has states of an account watched. Takes memory for them.
+fn watch_account(
+    states: &mut Vec<Watched>,
+    grant: &Grant,
+    types: DataTypes,
+) -> Result<(), AllocError>
+    ensures { OnOk result (states.new.items ≡ states.old.items ++ watched_in types grant.now) }
+{
+    watch_if(states, types.calendars, grant, Kind::Calendar)?;
+    watch_if(states, types.events, grant, Kind::Event)
+}
+
+fn watch_if(
+    states: &mut Vec<Watched>,
+    wanted: bool,
+    grant: &Grant,
+    kind: Kind,
+) -> Result<(), AllocError>
+    ensures { OnOk result (states.new.items ≡ states.old.items ++ untold_if wanted grant.now kind) }
+{
+    if wanted {
+        states.push(untold(grant, kind)?)?;
+    }
+    Ok(())
+}
+
+fn untold(grant: &Grant, kind: Kind) -> Result<Watched, AllocError>
+    ensures { IfOk result (λ watched. watched ≡ untold grant.now kind) }
+{
+    Ok(Watched {
+        account: grant.account,
+        id: grant.id.copy()?,
+        kind,
+        told: None,
+        place: None,
+    })
+}
+
+// Whether a state is looked at, where `next` is the first one of the account whose turn it is, and that account's history is known to have grown or not.
+fn is_due(states: &[Watched], next: Option<usize>, i: usize, has_grown: bool) -> bool {
+    let Some(first) = next else {
+        return true;
+    };
+    i == first || (has_grown && account_at(states, i) == account_at(states, first))
+}
+
+fn account_at(states: &[Watched], i: usize) -> Option<u32> {
+    Some(states.get(i)?.account)
+}
+
+// The place of the first state of the account behind the one whose turn it was, or of the first of all.
+fn behind(states: &[Watched], next: Option<usize>) -> usize {
+    let Some(first) = next else {
+        return 0;
+    };
+    let account = account_at(states, first);
+    for i in first..states.len() {
+        if account_at(states, i) != account {
+            return i;
+        }
+    }
+    0
+}
