@@ -1,5 +1,5 @@
 #!/usr/bin/env python3
-"""Times `jmapd websocket` beside `jmapd listen`: echoes one after the other, and a text of 9 MB; README.md tells what it prints."""
+"""Times `jmapd websocket` beside `jmapd listen`: echoes one after the other, and a text of 9 MB; and what idle sockets take that are told of changes, and how soon. README.md tells what it prints."""
 
 import argparse
 import base64
@@ -76,16 +76,20 @@ class SocketPeer(Peer):
     words = ("websocket",)
     marks = {"@type": "Request", "id": "r"}
 
-    def __init__(self, port):
+    def __init__(self, port, token="t-ann"):
         super().__init__(port)
         key = base64.b64encode(os.urandom(16)).decode()
         head = f"GET /jmap/ws HTTP/1.1\r\nHost: localhost\r\nUpgrade: websocket\r\nConnection: Upgrade\r\nSec-WebSocket-Key: {key}\r\nSec-WebSocket-Version: 13\r\n"
-        self.socket.sendall((head + "Sec-WebSocket-Protocol: jmap\r\nAuthorization: Bearer t-ann\r\n\r\n").encode())
+        self.socket.sendall((head + f"Sec-WebSocket-Protocol: jmap\r\nAuthorization: Bearer {token}\r\n\r\n").encode())
         status, _ = self.fields()
         if " 101 " not in status:
             sys.exit(f"answered {status!r}")
 
     def exchange(self, text):
+        self.send(text)
+        return self.take()
+
+    def send(self, text):
         count = len(text)
         if count < 126:
             front = struct.pack("!BB", 0x81, 0x80 | count)
@@ -95,6 +99,8 @@ class SocketPeer(Peer):
             front = struct.pack("!BBQ", 0x81, 0xFF, count)
         # a mask of zeros leaves the text as it is
         self.socket.sendall(front + bytes(4) + text)
+
+    def take(self):
         front = self.stream.read(2)
         count = front[1]
         if count == 126:
@@ -178,11 +184,65 @@ def memory_beside_the_tree(program, kind):
         return (peak(served.server) - before) / len(text)
 
 
+def used(server):
+    """The seconds of processor that a process has used."""
+    with open(f"/proc/{server.pid}/stat", encoding="ascii") as line:
+        fields = line.read().rpartition(")")[2].split()
+    return (int(fields[11]) + int(fields[12])) / os.sysconf("SC_CLK_TCK")
+
+
+def resident(server):
+    """The memory that a process has now, in bytes."""
+    with open(f"/proc/{server.pid}/status", encoding="ascii") as lines:
+        return next(int(line.split()[1]) * 1024 for line in lines if line.startswith("VmRSS"))
+
+
+def watching(port):
+    """A socket of a user of one account that is told of changes, and was told the states at the switch."""
+    peer = SocketPeer(port, "t-bob")
+    peer.send(b'{"@type":"WebSocketPushEnable","dataTypes":null}')
+    peer.take()
+    return peer
+
+
+def until_told(writer, peers, count):
+    """The seconds until a change came to all of so many sockets."""
+    change = {"accountId": "A2", "create": {"k": {"name": "Work"}}}
+    using = [CORE, "urn:ietf:params:jmap:calendars"]
+    begun = time.perf_counter()
+    writer.exchange(json.dumps({"@type": "Request", "using": using, "methodCalls": [["Calendar/set", change, "s"]]}).encode())
+    for peer in peers[:count]:
+        peer.take()
+    return time.perf_counter() - begun
+
+
+def idle(program, count, seconds=20):
+    """What so many idle sockets take that are told of changes: memory and the part of a processor; and how soon 100 of them are told of one. None where the program serves one socket at a time."""
+    port = free_port()
+    words = [program, "listen", "--config", CONFIGURATION, "--port", str(free_port()), "--sockets-port", str(port), "--socket-workers", str(count + 1)]
+    with subprocess.Popen(words, stderr=subprocess.DEVNULL, stdout=subprocess.DEVNULL, env=service_environment()) as server:
+        try:
+            server.wait(timeout=1)
+            return None
+        except subprocess.TimeoutExpired:
+            pass
+        try:
+            peers = [watching(port) for _ in range(count)]
+            writer = SocketPeer(port)
+            before, memory = used(server), resident(server)
+            time.sleep(seconds)
+            part = (used(server) - before) / seconds
+            return memory, part, until_told(writer, peers, 100)
+        finally:
+            server.kill()
+
+
 def main():
     words = argparse.ArgumentParser(description=__doc__)
     words.add_argument("program", nargs="?", default="crates/jmapd/out/jmapd")
     words.add_argument("--rounds", type=int, default=5)
     words.add_argument("--echoes", type=int, default=3000)
+    words.add_argument("--sockets", type=int, default=200)
     asked = words.parse_args()
     kinds = {"HTTP": HttpPeer, "WebSocket": SocketPeer}
     short = {name: min(echoes(asked.program, kind, asked.echoes) for _ in range(asked.rounds)) for name, kind in kinds.items()}
@@ -192,6 +252,11 @@ def main():
     for name in kinds:
         print(f"{name:12}{short[name]:12.1f}{long[name][0]:12.3f}{long[name][1]:12,}{memory[name]:32.1f}")
     print(f"ratios: an echo {short['WebSocket'] / short['HTTP']:.2f} (goal 1.2), a text of 9 MB {long['WebSocket'][0] / long['HTTP'][0]:.2f} (goal 1.5); memory {memory['WebSocket']:.1f} (goal 5)")
+    found = idle(asked.program, asked.sockets)
+    if found is None:
+        print("idle sockets: not measured, since the program serves one at a time")
+    else:
+        print(f"{asked.sockets} idle sockets: {found[0] / 1e6:.0f} MB (goal 100), {found[1]:.2%} of a processor (goal 2 %); a change at 100 sockets in {found[2]:.2f} s (goal 1)")
 
 
 if __name__ == "__main__":

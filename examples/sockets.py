@@ -4,7 +4,11 @@
 Peers that misbehave do so frame by frame, beside an ordinary one who is to be answered each time. Each frame that breaks the protocol closes the socket with the code of RFC 6455 section 7.4.1
 for it: 1002 where it isn't masked, has a bit that nobody asked for, is a ping of 126 bytes, or is a text between fragments; 1007 for a text that isn't UTF-8; 1009 for more than 16 MiB; 1003
 for bytes that are no text. A ping between fragments is answered. A handshake that doesn't come is given up after 10 s, 1,000 peers that go before it hold nobody up,
-and with `--silence` a peer that says nothing is asked after 30 s, and let go after 30 more.
+and with `--silence` a peer that says nothing is asked after 25 s and again after 50, and let go after 60.
+
+Peers are told of changes: all states behind the switch, then their own changes, and nothing where nothing changes; and one that comes later is told what it missed, and syncs by `/changes`.
+Where the program has `listen --sockets-port`, two peers are there at once: one changes, 100 times, the other is told within a second and syncs to the same calendars; and a peer that never reads
+what it is told harms no other. Else that is skipped with a line.
 
 Then comes a client that isn't ours: the Python module `websocket`, Debian's package `python3-websocket`. It shakes hands with the subprotocol `jmap`, sends requests, a batch with references,
 texts that are refused, and a text of 9 MB, and closes. Handshakes without a token, with an unknown one, or without the subprotocol come to nothing. Skipped with a line where the module
@@ -312,12 +316,127 @@ def silence(port):
     peer = FramePeer(port)
     peer.socket.settimeout(70)
     begun = time.monotonic()
-    frame = peer.next()
-    asked = frame is not None and frame[0] == PING and 29 < time.monotonic() - begun < 35
-    let_go = peer.next() is None and 58 < time.monotonic() - begun < 70
+    asked = []
+    while (frame := peer.next()) is not None:
+        asked.append(frame[0] == PING and time.monotonic() - begun)
+    let_go = time.monotonic() - begun
     peer.end()
-    yield "a ping behind 30 s", asked
-    yield "the end behind 30 s more", let_go
+    yield "a ping behind 25 s and behind 50", len(asked) == 2 and 24 < asked[0] < 30 and 49 < asked[1] < 57
+    yield "the end behind 60 s", 58 < let_go < 70
+
+
+# ---- changes that are told (RFC 8887 section 4.3.5)
+
+
+def enable(types, **more):
+    return json.dumps({"@type": "WebSocketPushEnable", "dataTypes": types, **more}).encode()
+
+
+class Watcher(FramePeer):
+    """A peer that asks and is told of changes, in any order."""
+
+    def __init__(self, port, types):
+        super().__init__(port)
+        self.told = {}
+        self.changes = 0
+        self.send(TEXT, enable(types))
+
+    def take(self):
+        """The next reply, or None behind a StateChange, whose states are noted."""
+        frame = self.next()
+        message = json.loads(frame[1]) if frame is not None and frame[0] == TEXT else {}
+        if message.get("@type") != "StateChange":
+            return message
+        self.changes += 1
+        for account, states in message["changed"].items():
+            self.told.setdefault(account, {}).update(states)
+        return None
+
+    def ask(self, *calls):
+        """The responses to a request."""
+        self.send(TEXT, request(list(calls), id="r").encode())
+        while (reply := self.take()) is None:
+            pass
+        return [response[1] for response in reply["methodResponses"]]
+
+    def wait_for(self, account, kind, state, seconds):
+        """Whether this state is told in time."""
+        until = time.monotonic() + seconds
+        try:
+            while self.told.get(account, {}).get(kind) != state:
+                self.socket.settimeout(max(0.01, until - time.monotonic()))
+                if self.take() is not None:
+                    return False
+            return True
+        except TimeoutError:
+            return False
+        finally:
+            self.socket.settimeout(20)
+
+    def is_told_nothing(self, seconds):
+        """Whether nothing comes for so long. Nothing can be read behind it."""
+        self.socket.settimeout(seconds)
+        try:
+            self.next()
+            return False
+        except TimeoutError:
+            return True
+
+
+def new_calendar(name):
+    return ["Calendar/set", {"accountId": "A1", "create": {"k": {"name": name}}}, "s"]
+
+
+def names_of(peer, ids=None):
+    (found,) = peer.ask(["Calendar/get", {"accountId": "A1", "ids": ids, "properties": ["name"]}, "g"])
+    return {it["id"]: it["name"] for it in found["list"]}, found["state"]
+
+
+def synced(peer, known, since):
+    """What is known, brought on by changes, and its state."""
+    more = True
+    while more:
+        (changes,) = peer.ask(["Calendar/changes", {"accountId": "A1", "sinceState": since}, "c"])
+        found, _ = names_of(peer, changes["created"] + changes["updated"])
+        known = {key: name for key, name in (known | found).items() if key not in changes["destroyed"]}
+        since, more = changes["newState"], changes["hasMoreChanges"]
+    return known, since
+
+
+def one_after_the_other(port):
+    first = Watcher(port, None)
+    yield "all states behind the switch", first.take() is None and {account: set(states) for account, states in first.told.items()} == {"A1": {"Calendar", "CalendarEvent"}, "A2": {"Calendar", "CalendarEvent"}}
+    before = first.told["A1"]["Calendar"]
+    (made,) = first.ask(new_calendar("Work"))
+    yield "a change of its own", first.wait_for("A1", "Calendar", made["newState"], 2) and first.changes == 2
+    yield "nothing where nothing changes", first.is_told_nothing(2)
+    first.end()
+    later = Watcher(port, ["Email", "Calendar"])
+    yield "what was missed", later.wait_for("A1", "Calendar", made["newState"], 2) and set(later.told["A1"]) == {"Calendar"}
+    yield "a sync by changes", synced(later, {}, before) == ({made["created"]["k"]["id"]: "Work"}, made["newState"])
+    later.send(TEXT, b'{"@type":"WebSocketPushDisable"}')
+    (made,) = later.ask(new_calendar("Home"))
+    yield "nothing behind the other switch", later.is_told_nothing(2)
+    later.end()
+    none = Watcher(port, ["Email"])
+    yield "nothing of types that aren't known", none.is_told_nothing(2)
+    none.end()
+
+
+def both_at_once(port, times=100):
+    writer, reader = FramePeer(port), Watcher(port, ["Calendar"])
+    deaf = Watcher(port, None)
+    known, since = names_of(reader)
+    late = 0
+    for count in range(times):
+        writer.send(TEXT, request([new_calendar(f"Calendar {count}")], id="r").encode())
+        made = json.loads(writer.next()[1])["methodResponses"][0][1]
+        late += not reader.wait_for("A1", "Calendar", made["newState"], 2)
+        known, since = synced(reader, known, since)
+    yield f"{times} changes of another peer, each told", late == 0
+    yield "the same calendars by changes", (known, since) == names_of(reader) and len(known) >= times
+    for peer in (writer, reader, deaf):
+        peer.end()
 
 
 def misbehaviour(port, with_silence):
@@ -345,9 +464,23 @@ def by_frames(program, with_silence):
     port = free_port()
     with serving(program, port):
         yield from misbehaviour(port, with_silence)
+        yield from one_after_the_other(port)
         with serving(program, port) as second:
             second.wait(timeout=20)
             yield "a port that is taken", second.returncode == 6 and second.stderr.read() == b"jmapd: nothing is kept\njmapd: open fault\n"
+
+
+def by_two_peers(program):
+    http, port = free_port(), free_port()
+    command = [program, "listen", "--config", CONFIGURATION, "--port", str(http), "--sockets-port", str(port)]
+    with subprocess.Popen(command, stderr=subprocess.DEVNULL, stdout=subprocess.DEVNULL) as server:
+        try:
+            server.wait(timeout=1)
+            print("examples/sockets.py: two peers at once are skipped, since the program has no `--sockets-port`")
+        except subprocess.TimeoutExpired:
+            yield from both_at_once(port)
+        finally:
+            server.kill()
 
 
 def by_the_other_client(program):
@@ -365,7 +498,7 @@ def main():
     words = [word for word in sys.argv[1:] if word != "--silence"]
     program = words[0] if words else "crates/jmapd/out/jmapd"
     tried, bad = 0, 0
-    for name, good in (*by_frames(program, "--silence" in sys.argv), *by_the_other_client(program)):
+    for name, good in (*by_frames(program, "--silence" in sys.argv), *by_two_peers(program), *by_the_other_client(program)):
         tried += 1
         if not good:
             bad += 1

@@ -1,5 +1,6 @@
 -- A look at the states that are watched: calls of a desk, as all others are (RFC 8620 section 7.1).
-use Rattle.std.specs.Prelude.{◌≡◌, ℕ, ℤ, List, [], ◌∷◌, ◌++◌, All, IfSome, Option, flat_map, fold, map, option_map_or}
+use Rattle.std.specs.Prelude.{◌≡◌, ℕ, ℤ, List, [], ◌∷◌, ◌++◌, All, IfSome, Option, flat_map, fold, map}
+use Rattle.std.specs.Option.{option_map_or}
 use Rattle.spec_batch.specs.Chain.{Made, Shown, Stops}
 use Rattle.spec_batch.specs.declared.desk.DeskError.{DeskError}
 use Rattle.spec_calls.specs.declared.call.Call.{Call}

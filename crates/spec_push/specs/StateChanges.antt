@@ -1,6 +1,6 @@
 -- What the reply to a look shows of a state, and what a client is sent of it: a `StateChange` (RFC 8620 section 7.1).
-use Rattle.std.specs.Prelude.{ℕ, List, [], ◌∷◌, Bool, false, Option, Some, None, codes, option_and_then, option_map_or, unwrap_or, if◌then◌else◌}
-use Rattle.std.specs.Option.{option_or}
+use Rattle.std.specs.Prelude.{ℕ, List, [], ◌∷◌, Bool, false, Option, Some, None, codes, option_and_then, unwrap_or, if◌then◌else◌}
+use Rattle.std.specs.Option.{option_map_or, option_or}
 use Rattle.std.specs.Str.{bytes_eq}
 use Rattle.spec_calls.specs.declared.call.Asks.TheVariants.{Get}
 use Rattle.spec_calls.specs.declared.call.Call.{Call}

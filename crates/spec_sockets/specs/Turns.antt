@@ -1,5 +1,6 @@
 -- The turns of a socket, one after the other: a text that is replied to, a text that is a switch, or a look at the states that are watched.
-use Rattle.std.specs.Prelude.{◌≡◌, ℕ, ℤ, ◌+◌, List, [], ◌∷◌, ◌++◌, Option, Some, None, flat_map, fold, length, map, option_map_or, ⊤}
+use Rattle.std.specs.Prelude.{◌≡◌, ℕ, ℤ, ◌+◌, List, [], ◌∷◌, ◌++◌, Option, Some, None, flat_map, fold, length, map, ⊤}
+use Rattle.std.specs.Option.{option_map_or}
 use Rattle.spec_batch.specs.Chain.{Chain, Made, Shown, front_of}
 use Rattle.spec_batch.specs.declared.desk.DeskError.{DeskError}
 use Rattle.spec_batch.specs.declared.desk.Front.{Front}

@@ -1,5 +1,5 @@
 //! The object that tells of changes (RFC 8620 section 7.1).
-ghost use Rattle.std.specs.Prelude.{◌≡◌, ◌∷◌, [], IfOk, OnOk, option_map_or};
+ghost use Rattle.std.specs.Prelude.{◌≡◌, ◌∷◌, [], IfOk, OnOk};
 ghost use Rattle.spec_push.specs.StateChanges.{states_of, told_of, with_state};
 ghost use Rattle.spec_push.specs.Watching.{type_name};
 ghost use Rattle.state_watch.specs.Looking.{texts_in};

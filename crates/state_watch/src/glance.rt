@@ -1,5 +1,5 @@
 //! A call that asks for a state, and what is noted of its reply.
-ghost use Rattle.std.specs.Prelude.{◌≡◌, ◌<◌, IfOk, OnOk, option_map, option_map_or};
+ghost use Rattle.std.specs.Prelude.{◌≡◌, ◌<◌, IfOk, OnOk, option_map};
 ghost use Rattle.spec_json.specs.TreeData.{data_of};
 ghost use Rattle.spec_push.specs.StateChanges.{is_told, news_in, noted, state_call, with_news};
 ghost use Rattle.state_watch.specs.Looking.{IsSeen};

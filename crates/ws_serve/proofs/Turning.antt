@@ -2,7 +2,8 @@
 use Rattle.std.proofs.Common.{◌≡◌, ℕ, ℤ, ◌+◌, ◌≤◌, List, [], ◌∷◌, ◌++◌, Option, Some, None, Result, Ok, Err, Vec, refl, sym, ap, ◌∙◌, subst, length, length-append, map, append-nil, arith}
 use Rattle.std.specs.declared.alloc.Global.{Global}
 use Rattle.std.proofs.lemmas.List.{length-map}
-use Rattle.std.specs.Prelude.{option_map_or}
+use Rattle.std.specs.Prelude.{}
+use Rattle.std.specs.Option.{option_map_or}
 use Rattle.io_edge.specs.Outside.{Ticks}
 use Rattle.spec_batch.proofs.Chains.{still}
 use Rattle.spec_batch.specs.Chain.{Chain, Made, Shown, front_of}

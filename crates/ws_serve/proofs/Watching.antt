@@ -1,6 +1,7 @@
 -- What is watched are states of accounts that the user may use.
 use Rattle.std.proofs.Common.{◌≡◌, ℕ, ◌<◌, List, [], ◌∷◌, ◌++◌, Bool, true, false, Option, Some, None, refl, sym, ap, ◌∙◌, subst, append-nil, fold}
-use Rattle.std.specs.Prelude.{All, flat_map, option_map_or}
+use Rattle.std.specs.Prelude.{All, flat_map}
+use Rattle.std.specs.Option.{option_map_or}
 use Rattle.spec_batch.specs.Chain.{Made}
 use Rattle.spec_core.specs.declared.user.Grant.{Grant}
 use Rattle.spec_core.specs.declared.user.User.{User}
