@@ -1,6 +1,9 @@
 //! The object that tells of changes (RFC 8620 section 7.1).
 ghost use Rattle.std.specs.Prelude.{◌≡◌, ◌∷◌, [], IfOk, OnOk};
-ghost use Rattle.spec_push.specs.StateChanges.{states_of, told_of, with_state};
+ghost use Rattle.spec_json.specs.Data.{text};
+ghost use Rattle.spec_json.specs.Edit.{with_pair};
+ghost use Rattle.spec_json.specs.Json.{text_of};
+ghost use Rattle.spec_push.specs.StateChanges.{state_change, states_of, told_of, with_state};
 ghost use Rattle.spec_push.specs.Watching.{type_name};
 ghost use Rattle.state_watch.specs.Looking.{texts_in};
 
@@ -67,7 +70,14 @@ pub(crate) fn change_text(
     if changed.members().is_empty() {
         return Ok(None);
     }
+    Ok(Some(object_text(alloc, changed)?))
+}
+
+// The text of the `StateChange` of these states.
+fn object_text(alloc: Global, changed: TreeObject) -> Result<Vec<u8>, AllocError>
+    ensures { IfOk result (λ bytes. bytes.items ≡ text_of (state_change changed)) }
+{
     let name = Tree::Text(Text::from_str(alloc, "StateChange")?);
     let members = vec![in alloc; ("@type", name), ("changed", Tree::Object(changed))]?;
-    Ok(Some(tree_text(alloc, &Tree::object(alloc, members)?)?))
+    tree_text(alloc, &Tree::object(alloc, members)?)
 }

@@ -1,5 +1,6 @@
 //! A call that asks for a state, and what is noted of its reply.
 ghost use Rattle.std.specs.Prelude.{◌≡◌, ◌<◌, IfOk, OnOk, option_map};
+ghost use Rattle.spec_batch.specs.Chain.{Called};
 ghost use Rattle.spec_json.specs.TreeData.{data_of};
 ghost use Rattle.spec_push.specs.StateChanges.{is_told, news_in, noted, state_call, with_news};
 ghost use Rattle.state_watch.specs.Looking.{IsSeen};
@@ -28,7 +29,7 @@ pub(crate) fn glance<D: Desk>(
     requires { watched.old.account < (D.shown desk.old).accounts }
     ensures { IsSeen moment watched.old watched.new changed.old changed.new (D.shown desk.old) (D.shown desk.new) result }
 {
-    let reply = match desk.call(watched.account, &state_call(alloc, watched.kind), moment) {
+    let reply = match ask(alloc, watched.account, watched.kind, desk, moment) {
         Ok(reply) => reply,
         Err(error) => return Err(error),
     };
@@ -36,6 +37,20 @@ pub(crate) fn glance<D: Desk>(
         Ok(has_grown) => Ok(has_grown),
         Err(_) => Err(DeskError::NoMemory),
     }
+}
+
+// Asks for the state of a type in an account.
+fn ask<D: Desk>(
+    alloc: Global,
+    account: u32,
+    kind: Kind,
+    desk: &mut D,
+    moment: Moment,
+) -> Result<Reply, DeskError>
+    requires { account < (D.shown desk.old).accounts }
+    ensures { Called (D.shown desk.old) (D.shown desk.new) account (state_call kind) moment result }
+{
+    desk.call(account, &state_call(alloc, kind), moment)
 }
 
 // The call that asks for the state of a type.

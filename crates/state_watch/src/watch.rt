@@ -1,7 +1,7 @@
 //! States that are watched, and looks at them.
 ghost use Rattle.std.specs.Prelude.{◌≡◌, ◌<◌, ◌++◌, [], All, IfOk, OnOk, length};
 ghost use Rattle.spec_push.specs.Watching.{untold, untold_if, watched_in, watched_for};
-ghost use Rattle.state_watch.specs.Looking.{IsSeen, LooksSo};
+ghost use Rattle.state_watch.specs.Looking.{IsTold, LooksSo, SeesSo};
 
 use crate::change::change_text;
 use crate::glance::glance;
@@ -83,24 +83,59 @@ impl Watch {
         requires { All (λ w. w.account < (D.shown desk.old).accounts) self.old }
         ensures { LooksSo moment self.old self.new (D.shown desk.old) (D.shown desk.new) result }
     {
-        let mut changed = TreeObject::new(Vec::new(alloc));
-        let mut calls = 0;
-        let mut has_grown = false;
-        for i in 0..self.states.len() {
-            if !is_due(&self.states, self.next, i, has_grown) {
-                continue;
-            }
-            match glance(alloc, &mut self.states[i], desk, moment, &mut changed) {
-                Ok(is_longer) => has_grown = is_longer,
-                Err(error) => return Err(error),
-            }
-            calls += 1;
-        }
+        let seen = match see_all(alloc, &mut self.states, self.next, desk, moment) {
+            Ok(seen) => seen,
+            Err(error) => return Err(error),
+        };
         self.next = Some(behind(&self.states, self.next));
-        match change_text(alloc, changed) {
-            Ok(told) => Ok(Looked { told, calls }),
-            Err(_) => Err(DeskError::NoMemory),
+        tell(alloc, seen)
+    }
+}
+
+/// What calls for states showed.
+#[derive(Drop)]
+struct Seen {
+    /// The states that are news, by account and type.
+    changed: TreeObject,
+    /// The number of calls.
+    calls: usize,
+}
+
+// Looks at the states whose turn it is.
+fn see_all<D: Desk>(
+    alloc: Global,
+    states: &mut Vec<Watched>,
+    next: Option<usize>,
+    desk: &mut D,
+    moment: Moment,
+) -> Result<Seen, DeskError>
+    requires { All (λ w. w.account < (D.shown desk.old).accounts) states.old.items }
+    ensures { SeesSo moment states.old.items states.new.items (D.shown desk.old) (D.shown desk.new) result }
+{
+    let mut changed = TreeObject::new(Vec::new(alloc));
+    let mut calls = 0;
+    let mut has_grown = false;
+    for i in 0..states.len() {
+        if !is_due(states, next, i, has_grown) {
+            continue;
         }
+        has_grown = match glance(alloc, &mut states[i], desk, moment, &mut changed) {
+            Ok(is_longer) => is_longer,
+            Err(error) => return Err(error),
+        };
+        calls += 1;
+    }
+    Ok(Seen { changed, calls })
+}
+
+// What is to be told of what was seen.
+fn tell(alloc: Global, seen: Seen) -> Result<Looked, DeskError>
+    ensures { IsTold seen result }
+{
+    let Seen { changed, calls } = seen;
+    match change_text(alloc, changed) {
+        Ok(told) => Ok(Looked { told, calls }),
+        Err(_) => Err(DeskError::NoMemory),
     }
 }
 

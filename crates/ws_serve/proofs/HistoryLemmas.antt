@@ -28,7 +28,8 @@ use Rattle.spec_sockets.specs.declared.served.WsEnd.TheVariants as end
 use Rattle.spec_sockets.specs.declared.served.WsServed.{WsServed}
 use Rattle.spec_time.specs.Moments.{clamped}
 use Rattle.ws_serve.proofs.Completeness.{How}
-use Rattle.ws_serve.proofs.TurnLemmas.{looks_few, made_for_few}
+use Rattle.state_watch.proofs.Seeing.{made_for_few}
+use Rattle.ws_serve.proofs.TurnLemmas.{looks_few}
 use Rattle.ws_serve.specs.Histories.{SocketsStandInHistories}
 
 -- ---- a text has few calls

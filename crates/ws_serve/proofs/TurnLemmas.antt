@@ -10,8 +10,7 @@ use Rattle.spec_batch.specs.declared.desk.Front.{Front}
 use Rattle.spec_connection.proofs.InOrder.{ticked_join, ticked_none, ticked_one}
 use Rattle.spec_connection.specs.Answered.{Ticked}
 use Rattle.spec_core.specs.declared.user.User.{User}
-use Rattle.spec_json.specs.Parts.{some_of}
-use Rattle.spec_push.specs.Looks.{Sight, made_for}
+use Rattle.state_watch.proofs.Seeing.{made_for_few}
 use Rattle.spec_push.specs.declared.watched.Watched.{Watched}
 use Rattle.spec_sockets.specs.Links.{SendsTexts, TakesMessages}
 use Rattle.spec_sockets.specs.Turns.{AllTurnsFit, Turn, TurnFits, TurnsTold, look_size, looked, made_by, made_for_text, made_for_texts, made_in, made_in_look, moment_of, moments_in, replied, reply_of, switched, watched_after}
@@ -46,14 +45,6 @@ pub few_replies : (t : Turn) → length (reply_of t) ≤ 1
 few_replies (replied t) = omega arith
 few_replies (switched asking moment) = omega arith
 few_replies (looked l moment) = omega arith
-
-some_few : (o : Option Made) → length (some_of o) ≤ 1
-some_few None = omega arith
-some_few (Some m) = omega arith
-
-pub made_for_few : (sights : List Sight) → length (made_for sights) ≤ length sights
-made_for_few [] = omega arith
-made_for_few (s ∷ ss) = (let all = length-append (some_of s.made) (made_for ss) in let one = some_few s.made in let rest = made_for_few ss in omega (arith, all, one, rest))
 
 -- a look makes no more calls than its size
 pub looks_few : (t : Turn) → length (made_in_look t) ≤ look_size t

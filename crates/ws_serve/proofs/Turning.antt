@@ -11,7 +11,7 @@ use Rattle.spec_batch.specs.declared.desk.DeskError.{DeskError}
 use Rattle.spec_batch.specs.declared.desk.DeskError.TheVariants.{NoMemory}
 use Rattle.spec_batch.specs.declared.desk.Front.{Front}
 use Rattle.spec_core.specs.declared.user.User.{User}
-use Rattle.spec_push.specs.Looks.{IsLook, Look, made_for, watched_of}
+use Rattle.spec_push.specs.Looks.{IsLook, Look, Sight, made_for, watched_of}
 use Rattle.spec_push.specs.declared.watched.Watched.{Watched}
 use Rattle.spec_sockets.specs.Exchanges.{TextExchange}
 use Rattle.spec_sockets.specs.Switches.{switch_in_text}
@@ -78,7 +78,7 @@ module _ {user : User} {asking : List ℕ} {p p' : Push} {c0 c1 : Option (ℕ �
   text_had told w r ticks clamps h = text_at_moment told r ticks (subst (λ (y : ℤ). IsTextHad y p p' user asking f0 f1 d0 d1 r) clamps h)
 
 look_within : (watch : List Watched) (moment : ℤ) (l : Look) → IsLook watch moment l → length l.sights + length l.rest ≤ length watch
-look_within watch moment l h = (let all = ap length h.over ∙ length-append (watched_of l.sights) l.rest in let as_many = length-map (λ s. s.watched) l.sights in omega (arith, all, as_many))
+look_within watch moment l h = (let all = ap length h.over ∙ length-append (watched_of l.sights) l.rest in let as_many = length-map l.sights (λ (s : Sight). s.watched) in omega (arith, all, as_many))
 
 module _ {user : User} {p p' : Push} {c0 c1 : Option (ℕ → ℤ)} {f : List Front} {d0 d1 : Shown} where
   look_at_moment : (told : ℤ) (r : Result Said DeskError) → Ticks c0 c1 told → IsLookHad (clamped told) p p' d0 d1 r → HasTurn user None p p' c0 c1 f f d0 d1 r

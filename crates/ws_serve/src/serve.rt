@@ -1,5 +1,5 @@
 //! A socket.
-ghost use Rattle.std.specs.Prelude.{◌≡◌, ◌<◌, ◌≤◌, All, Err, OnErr, OnOk, length};
+ghost use Rattle.std.specs.Prelude.{◌≡◌, ◌<◌, ◌≤◌, [], All, Err, IsOk, OnErr, OnOk, length};
 ghost use Rattle.io_edge.specs.Outside.{Rose};
 ghost use Rattle.spec_sockets.specs.Links.{SendsTexts};
 ghost use Rattle.spec_sockets.specs.Serving.{ServesSocket};
@@ -51,7 +51,7 @@ fn serve_at_most<L: WsLink, D: Desk, C: Clock>(
     let mut fronts = Vec::new(alloc);
     let mut push = Push::off(alloc);
     let mut replies = 0;
-    for _ in 0..MAX_TURNS {
+    for _turn in 0..MAX_TURNS {
         if replies >= most || push.is_spent() {
             return served(fronts, replies, WsEnd::Quota);
         }
@@ -94,6 +94,7 @@ fn next_text<L: WsLink>(link: &mut L, is_look_due: bool) -> Result<Option<Text>,
 fn send<L: WsLink>(link: &mut L, said: &Said) -> Result<(), LinkError>
     ensures ok { OnOk result (SendsTexts (L.shown link.old).sent (L.shown link.new).sent (texts_said said.now)) }
     ensures err { OnErr result ((L.shown link.new).sent ≡ (L.shown link.old).sent) }
+    ensures silent { texts_said said.now ≡ [] → IsOk result }
     ensures left { (L.shown link.new).left ≡ (L.shown link.old).left }
     ensures later { (L.shown link.old).faults ≤ (L.shown link.new).faults }
     ensures failed { result ≡ Err LinkError.Failed → Rose (L.shown link.old).faults (L.shown link.new).faults }
