@@ -69,21 +69,16 @@ impl<S: Read + OpenStream, R: Clock> TcpEnd<S, R> {
         }
     }
 
-    // What a read is told that gave this.
-    fn noted(&mut self, read: io::Result<usize>) -> io::Result<usize> {
-        match read {
-            Err(error) if is_for_later(&error) && self.deadline.is_none() => {
-                if self.silent >= SILENT_READS {
-                    return Err(io::Error::from(ErrorKind::ConnectionAborted));
-                }
-                self.silent = self.silent.saturating_add(1);
-                Err(error)
-            }
-            read => {
-                self.silent = 0;
-                read
-            }
+    // What a read is told that failed so.
+    fn noted(&mut self, error: io::Error) -> io::Error {
+        if self.deadline.is_some() || !is_for_later(&error) {
+            return error;
         }
+        if self.silent >= SILENT_READS {
+            return io::Error::from(ErrorKind::ConnectionAborted);
+        }
+        self.silent = self.silent.saturating_add(1);
+        error
     }
 
     // How long a read may still wait.
@@ -105,7 +100,11 @@ impl<S: Read + OpenStream, R: Clock> Read for TcpEnd<S, R> {
             }
             match self.stream.read(buf) {
                 Err(error) if error.kind() == ErrorKind::Interrupted => {}
-                read => return self.noted(read),
+                Err(error) => return Err(self.noted(error)),
+                Ok(count) => {
+                    self.silent = 0;
+                    return Ok(count);
+                }
             }
         }
         Err(io::Error::from(ErrorKind::TimedOut))

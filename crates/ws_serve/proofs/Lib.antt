@@ -1,3 +1,4 @@
+pub mod Switching
 pub mod Replying
 pub mod TurnLemmas
 pub mod Turning

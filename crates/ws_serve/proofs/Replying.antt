@@ -22,7 +22,11 @@ use Rattle.spec_json.specs.TreeData.{data_of}
 use Rattle.request_reply.specs.Outcomes.{IsOutcome}
 use Rattle.request_reply.specs.declared.reply.RequestOutcome.{RequestOutcome}
 use Rattle.spec_sockets.specs.Texts.{asked_by_marked, marked_by_reading, asked_in_text, id_in_text, id_by_reading, is_marked, marked}
+use Rattle.spec_sockets.specs.Switches.{switch_by_reading, switch_in_text}
+use Rattle.spec_sockets.specs.declared.switch.Switch.{Switch}
+use Rattle.ws_serve.specs.Answering.{IsAnswerTo, replied_as}
 use Rattle.ws_serve.specs.Valued.{IsAnsweredAs, IsRefusalText}
+use Rattle.ws_serve.specs.declared.reply.TextAnswer.{TextAnswer}
 use Rattle.spec_sockets.specs.Exchanges.{IsCutOff, IsReplyText}
 
 begins_whole : (user : User) (moment : ℤ) (what : Asked) (made : List Made) (d : Data) (u v : Shown) → Replies user moment what made d → v ≡ u → ((NoMemory ≡ NoMemory) × (made ≡ []) × (v ≡ u)) ⊎ BeginsReply user moment what made NoMemory u v
@@ -83,12 +87,32 @@ is_unmarked d h = rw h refl
 pub as_marked : (d : Data) → is_marked d ≡ true → asked_by_marked d ≡ asked_by d
 as_marked d h = rw h refl
 
-pub over_limit : (bytes : List ℕ) → MAX_SIZE_REQUEST < length bytes → (asked_in_text bytes ≡ refused (Limit SizeRequest)) × (id_in_text bytes ≡ None)
+pub over_limit : (bytes : List ℕ) → MAX_SIZE_REQUEST < length bytes → (asked_in_text bytes ≡ refused (Limit SizeRequest)) × (id_in_text bytes ≡ None) × (switch_in_text bytes ≡ None)
 over_limit bytes h =
     let over : nat_lt MAX_SIZE_REQUEST (length bytes) ≡ true = search (arith, nat_tests, h) in
-    (rw over refl, rw over refl)
+    (rw over refl, rw over refl, rw over refl)
 
-pub as_read : (bytes : List ℕ) (r : Reading) → length bytes ≤ MAX_SIZE_REQUEST → reading bytes ≡ r → (asked_in_text bytes ≡ marked_by_reading r) × (id_in_text bytes ≡ id_by_reading r)
+pub as_read : (bytes : List ℕ) (r : Reading) → length bytes ≤ MAX_SIZE_REQUEST → reading bytes ≡ r
+    → (asked_in_text bytes ≡ marked_by_reading r) × (id_in_text bytes ≡ id_by_reading r) × (switch_in_text bytes ≡ switch_by_reading r)
 as_read bytes r h is =
     let within : nat_lt MAX_SIZE_REQUEST (length bytes) ≡ false = search (arith, nat_tests, h) in
-    (rw within (ap marked_by_reading is), rw within (ap id_by_reading is))
+    (rw within (ap marked_by_reading is), rw within (ap id_by_reading is), rw within (ap switch_by_reading is))
+
+-- ---- texts that may be switches
+
+module _ {user : User} {moment : ℤ} {f0 f1 : List Front} {d0 d1 : Shown} where
+  as_replied : (r : Result (Vec ℕ Global) DeskError) (switch : Option Switch) (what : Asked) (id : Option (List ℕ)) → switch ≡ None → IsAnsweredAs user moment what id f0 f1 d0 d1 r
+      → IsAnswerTo user moment switch what id f0 f1 d0 d1 (replied_as r)
+  as_replied (Ok bytes) switch what id none h = (none, h)
+  as_replied (Err e) switch what id none h = h
+
+  -- a text that is no switch has a reply
+  pub replied_answer : (r : Result (Vec ℕ Global) DeskError) (answer : Result TextAnswer DeskError) (switch : Option Switch) (what : Asked) (id : Option (List ℕ)) → answer ≡ replied_as r → switch ≡ None
+      → IsAnsweredAs user moment what id f0 f1 d0 d1 r → IsAnswerTo user moment switch what id f0 f1 d0 d1 answer
+  replied_answer r answer switch what id is none h = subst (IsAnswerTo user moment switch what id f0 f1 d0 d1) (sym is) (as_replied r switch what id none h)
+
+  -- what a text is, asks for, and by which id
+  pub answer_as : (answer : Result TextAnswer DeskError) (switch switch' : Option Switch) (what what' : Asked) (id id' : Option (List ℕ)) → switch' ≡ switch → what' ≡ what → id' ≡ id
+      → IsAnswerTo user moment switch what id f0 f1 d0 d1 answer → IsAnswerTo user moment switch' what' id' f0 f1 d0 d1 answer
+  answer_as answer switch switch' what what' id id' a b c h =
+      subst (λ (y : (Option Switch × Asked) × Option (List ℕ)). IsAnswerTo user moment y.0.0 y.0.1 y.1 f0 f1 d0 d1 answer) (λ i. ((sym a i, sym b i), sym c i)) h
