@@ -47,6 +47,7 @@ module _ {user : User} {most : ℕ} {x x' : SocketSetting} {served : WsServed} (
   How e = SocketEndHow user most s.taken s.turns s.unfinished x x' s.desk e
 
   ends : IsSocketUnharmed x x' → (e : WsEnd) → How e → SocketRests e s.desk x'.desk → EndsWithTexts user most x x' served e
+  unfolding all_had
   ends unharmed end.Closed how rests = (all_had [] how.0 rests, how.1)
   ends unharmed end.Binary how rests = all_had _ how rests
   ends unharmed end.Quota how rests = (all_had [] how.0 rests, how.1)

@@ -138,20 +138,20 @@ module _ (user : User) where
           omega (arith, few, more, calls)
           )
 
-  leaves_look : {e : DeskError} {u v : Shown} {unfinished : List Turn} {watch : List Watched} (l : Look) (moment : ℤ) → unfinished ≡ looked l moment ∷ [] → LooksInPart watch (clamped moment) l e u v → Leaves u v unfinished
-  leaves_look {e} {u} {v} l moment one (h, inl idle) = leaves_idle (looked l moment) idle.1 one (omega arith)
-  leaves_look {e} {u} {v} l moment one (h, inr asked) =
-      leaves_turn (looked l moment) one (stop_adds_nothing (AsksForNext l.rest) (clamped moment) e u v (inr asked)) (
-          let once = called_once e u v asked.0 asked.1 (clamped moment) asked.3 in
-          let left = some_left l.rest asked.0 asked.1 asked.2 in
+  leaves_look : (e : DeskError) {u v : Shown} {unfinished : List Turn} (watch : List Watched) (l : Look) (moment : ℤ) → unfinished ≡ looked l moment ∷ [] → LooksInPart watch (clamped moment) l e u v → Leaves u v unfinished
+  leaves_look e {u} {v} watch l moment one (h, inl idle) = leaves_idle (looked l moment) idle.1 one (omega arith)
+  leaves_look e {u} {v} watch l moment one (h, inr next) =
+      leaves_turn (looked l moment) one (stop_adds_nothing (AsksForNext l.rest) (clamped moment) e u v (inr next)) (
+          let once = called_once e u v next.0 next.1 (clamped moment) next.3 in
+          let left = some_left l.rest next.0 next.1 next.2 in
           let made = made_for_few l.sights in
           omega (arith, once, left, made)
           )
 
-  leaves_begun : {e : DeskError} {u v : Shown} {unfinished : List Turn} {watch : List Watched} (t : Turn) → unfinished ≡ t ∷ [] → TurnBegun user watch e u v t → Leaves u v unfinished
-  leaves_begun (replied t) one begun = leaves_text t one begun
-  leaves_begun (switched asking moment) one begun = absurd begun
-  leaves_begun (looked l moment) one begun = leaves_look l moment one begun
+  leaves_begun : (e : DeskError) {u v : Shown} {unfinished : List Turn} (watch : List Watched) (t : Turn) → unfinished ≡ t ∷ [] → TurnBegun user watch e u v t → Leaves u v unfinished
+  leaves_begun e watch (replied t) one begun = leaves_text t one begun
+  leaves_begun e watch (switched asking moment) one begun = absurd begun
+  leaves_begun e watch (looked l moment) one begun = leaves_look e watch l moment one begun
 
   module _ {most : ℕ} {x x' : SocketSetting} {served : WsServed} (s : ServesSocket user most x x' served) where
     leaves_at : (e : WsEnd) → SocketRests e s.desk x'.desk → How s e → Leaves s.desk x'.desk s.unfinished
@@ -160,9 +160,9 @@ module _ (user : User) where
     leaves_at end.Quota r how = leaves_none r how.0.0
     leaves_at end.LinkFault r (inl none, cut, rose) = leaves_none r none
     leaves_at end.LinkFault r (inr unsent, cut, rose) = leaves_idle unsent.0 r unsent.1 (turn_few user (watched_behind_all user s.turns) unsent.0 unsent.2)
-    leaves_at end.PassSpent r how = leaves_begun how.0.0 how.0.1 how.0.2
+    leaves_at end.PassSpent r how = leaves_begun reason.PassSpent (watched_behind_all user s.turns) how.0.0 how.0.1 how.0.2
     leaves_at end.NoMemory r (inl idle, rest) = leaves_none idle.1 idle.0
-    leaves_at end.NoMemory r (inr begun, rest) = leaves_begun begun.0 begun.1 begun.2
+    leaves_at end.NoMemory r (inr begun, rest) = leaves_begun reason.NoMemory (watched_behind_all user s.turns) begun.0 begun.1 begun.2
 
 pub sockets_stand : SocketsStandInHistories
 sockets_stand user most x x' served s =

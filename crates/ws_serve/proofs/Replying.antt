@@ -111,8 +111,8 @@ module _ {user : User} {moment : ℤ} {f0 f1 : List Front} {d0 d1 : Shown} where
       → IsAnsweredAs user moment what id f0 f1 d0 d1 r → IsAnswerTo user moment switch what id f0 f1 d0 d1 answer
   replied_answer r answer switch what id is none h = subst (IsAnswerTo user moment switch what id f0 f1 d0 d1) (sym is) (as_replied r switch what id none h)
 
-  -- what a text is, asks for, and by which id
-  pub answer_as : (answer : Result TextAnswer DeskError) (switch switch' : Option Switch) (what what' : Asked) (id id' : Option (List ℕ)) → switch' ≡ switch → what' ≡ what → id' ≡ id
-      → IsAnswerTo user moment switch what id f0 f1 d0 d1 answer → IsAnswerTo user moment switch' what' id' f0 f1 d0 d1 answer
-  answer_as answer switch switch' what what' id id' a b c h =
-      subst (λ (y : (Option Switch × Asked) × Option (List ℕ)). IsAnswerTo user moment y.0.0 y.0.1 y.1 f0 f1 d0 d1 answer) (λ i. ((sym a i, sym b i), sym c i)) h
+-- what a text is, asks for, and by which id
+pub answer_as : (user : User) (moment : ℤ) (f0 f1 : List Front) (d0 d1 : Shown) (answer : Result TextAnswer DeskError) (switch switch' : Option Switch) (what what' : Asked) (id id' : Option (List ℕ)) → switch' ≡ switch → what' ≡ what → id' ≡ id
+    → IsAnswerTo user moment switch what id f0 f1 d0 d1 answer → IsAnswerTo user moment switch' what' id' f0 f1 d0 d1 answer
+answer_as user moment f0 f1 d0 d1 answer switch switch' what what' id id' a b c h =
+    subst (λ (y : (Option Switch × Asked) × Option (List ℕ)). IsAnswerTo user moment y.0.0 y.0.1 y.1 f0 f1 d0 d1 answer) (λ i. ((sym a i, sym b i), sym c i)) h

@@ -1,6 +1,6 @@
 -- Where the loop of a socket stands, and what each of its ends says.
-use Rattle.std.proofs.Common.{◌≡◌, ℕ, ℤ, ◌+◌, ◌<◌, ◌≤◌, List, [], ◌∷◌, ◌++◌, length, length-append, Option, Some, None, Result, Ok, Err, inl, inr, refl, sym, ap, ◌∙◌, subst, append-nil, arith, fold, false, true, false≢true}
-use Rattle.std.specs.Prelude.{◌⊎◌, All, IsOk, flat_map, sum_by}
+use Rattle.std.proofs.Common.{◌≡◌, ℕ, ℤ, ◌+◌, ◌<◌, ◌≤◌, List, [], ◌∷◌, ◌++◌, length, length-append, Option, Some, None, Result, Ok, Err, inl, inr, refl, sym, ap, ◌∙◌, subst, append-nil, arith}
+use Rattle.std.specs.Prelude.{All, sum_by}
 use Rattle.std.proofs.lemmas.Grind.{flat_map-append, fold-append}
 use Rattle.io_edge.specs.Outside.{Rose}
 use Rattle.spec_batch.proofs.Chains.{accounts_stay}
@@ -168,85 +168,79 @@ module _ {user : User} {most : ℕ} where
 
     -- ---- a turn was had, of what the link gave
 
-    module _ {l : LinkShown} {c : Option (ℕ → ℤ)} {d : Shown} {f' : List Front} {push' : Push} {text : Option (List ℕ)} {r : Result Said DeskError}
+    after_taking : {l : LinkShown} (text : Option (List ℕ)) → TakesMessages y.link.left l.left (as_messages text) → l.sent ≡ y.link.sent → y.link.faults ≤ l.faults
+        → Stand user (taken_in v.turns ++ as_messages text) v.turns x (setting l y.clock y.desk) f
+    after_taking text took same later = taken_more (as_messages text) v.stand took same later
+
+    one_room : (t : Turn) → replies < most → replies + length (replies_in (t ∷ [])) ≤ most
+    one_room t less = (let one = few_replies t in let all = ap length (append-nil (reply_of t)) in omega (arith, less, one, all))
+
+    one_look : (t : Turn) → push.calls + length push.watch ≤ MAX_LOOK_CALLS → look_size t ≤ length push.watch → length (made_in_looks v.turns) + sum_by look_size (t ∷ []) ≤ MAX_LOOK_CALLS
+    one_look t few size = (let calls = v.calls in omega (arith, few, calls, size))
+
+    begun_here : (e : DeskError) (t : Turn) (u d : Shown) → TurnBegun user push.watch e u d t → TurnBegun user (watched_behind_all user v.turns) e u d t
+    begun_here e t u d begun = subst (λ (ws : List Watched). TurnBegun user ws e u d t) v.watch begun
+
+    fits_here : (t : Turn) → TurnFits user push.watch t → TurnFits user (watched_behind_all user v.turns) t
+    fits_here t fit = subst (λ (ws : List Watched). TurnFits user ws t) v.watch fit
+
+    module _ {l : LinkShown} {c : Option (ℕ → ℤ)} {d : Shown} {f' : List Front} {push' : Push} (text : Option (List ℕ))
         (less : replies < most) (few : push.calls + length push.watch ≤ MAX_LOOK_CALLS)
-        (took : TakesMessages y.link.left l.left (as_messages text)) (same : l.sent ≡ y.link.sent) (later : y.link.faults ≤ l.faults)
-        (h : HasTurn user text push push' y.clock c f f' y.desk d r) where
-      after_taking : Stand user (taken_in v.turns ++ as_messages text) v.turns x (setting l y.clock y.desk) f
-      after_taking = taken_more (as_messages text) v.stand took same later
-
-      taken_is : taken_in v.turns ++ as_messages text ≡ taken_in (v.turns ++ h.turn ∷ [])
-      taken_is = pushed v.turns h.turn text h.takes
-
-      one_room : replies + length (replies_in (h.turn ∷ [])) ≤ most
-      one_room = (let one = few_replies h.turn in let all = ap length (append-nil (reply_of h.turn)) in omega (arith, less, one, all))
-
-      one_look : length (made_in_looks v.turns) + sum_by look_size (h.turn ∷ []) ≤ MAX_LOOK_CALLS
-      one_look = (let calls = v.calls in let size = h.size in omega (arith, few, calls, size))
-
+        (took : TakesMessages y.link.left l.left (as_messages text)) (same : l.sent ≡ y.link.sent) (later : y.link.faults ≤ l.faults) where
       -- the desk answered no more
-      stopped_how : (e : DeskError) → TurnBegun user push.watch e h.desk d h.turn → Ends user most x (setting l c d) f' replies (end_of_desk e)
-      stopped_how reason.PassSpent begun =
-          finish (h.turn ∷ []) after_taking v.replied h.told one_room one_look ((h.turn, refl, subst (λ (ws : List Watched). TurnBegun user ws reason.PassSpent h.desk d h.turn) v.watch begun), taken_is) tt
-      stopped_how reason.NoMemory begun =
-          finish (h.turn ∷ []) after_taking v.replied h.told one_room one_look (inr (h.turn, refl, subst (λ (ws : List Watched). TurnBegun user ws reason.NoMemory h.desk d h.turn) v.watch begun), taken_is) tt
+      pub stopped : (e : DeskError) → HasTurn user text push push' y.clock c f f' y.desk d (Err e) → Ends user most x (setting l c d) f' replies (end_of_desk e)
+      stopped reason.PassSpent h =
+          finish (h.turn ∷ []) (after_taking text took same later) v.replied h.told (one_room h.turn less) (one_look h.turn few h.size)
+          ((h.turn, refl, begun_here reason.PassSpent h.turn h.desk d h.how), pushed v.turns h.turn text h.takes) tt
+      stopped reason.NoMemory h =
+          finish (h.turn ∷ []) (after_taking text took same later) v.replied h.told (one_room h.turn less) (one_look h.turn few h.size)
+          (inr (h.turn, refl, begun_here reason.NoMemory h.turn h.desk d h.how), pushed v.turns h.turn text h.takes) tt
 
-    pub stopped : {l : LinkShown} {c : Option (ℕ → ℤ)} {d : Shown} {f' : List Front} {push' : Push} {text : Option (List ℕ)} {e : DeskError} → replies < most → push.calls + length push.watch ≤ MAX_LOOK_CALLS
-        → TakesMessages y.link.left l.left (as_messages text) → l.sent ≡ y.link.sent → y.link.faults ≤ l.faults → HasTurn user text push push' y.clock c f f' y.desk d (Err e)
-        → Ends user most x (setting l c d) f' replies (end_of_desk e)
-    stopped {l} {c} {d} {f'} {push'} {text} {e} less few took same later h = stopped_how less few took same later h e h.how
+      module _ (said : Said) (h : HasTurn user text push push' y.clock c f f' y.desk d (Ok said)) where
+        -- what the turn sends wasn't sent
+        pub unsent : {k : LinkShown} (e : LinkError) → k.left ≡ l.left → k.sent ≡ l.sent → l.faults ≤ k.faults → (e ≡ fault.Failed → Rose l.faults k.faults) → (texts_said said ≡ [] → ⊥)
+            → Ends user most x (setting k c d) f' replies (end_of_link e)
+        unsent {k} fault.Failed left kept after rose speaks =
+            finish (h.turn ∷ []) (link_kept (after_taking text took same later) left kept after) v.replied h.told (one_room h.turn less) (one_look h.turn few h.size)
+            (inr (h.turn, refl, fits_here h.turn h.how.0.fit), pushed v.turns h.turn text h.takes, rose_more (let before = v.stand.later in omega (arith, before, later)) (rose refl)) h.how.1
+        unsent {k} fault.NoMemory left kept after rose speaks =
+            finish (h.turn ∷ []) (link_kept (after_taking text took same later) left kept after) v.replied h.told (one_room h.turn less) (one_look h.turn few h.size)
+            (inr (h.turn, refl, unsaid_turn user (watched_behind_all user v.turns) h.desk d h.turn (fits_here h.turn h.how.0.fit) h.how.1 (λ none. speaks (h.how.0.says ∙ none))), pushed v.turns h.turn text h.takes) tt
 
-    module _ {l : LinkShown} {c : Option (ℕ → ℤ)} {d : Shown} {f' : List Front} {push' : Push} {text : Option (List ℕ)} {said : Said}
-        (less : replies < most) (few : push.calls + length push.watch ≤ MAX_LOOK_CALLS)
-        (took : TakesMessages y.link.left l.left (as_messages text)) (same : l.sent ≡ y.link.sent) (later : y.link.faults ≤ l.faults)
-        (h : HasTurn user text push push' y.clock c f f' y.desk d (Ok said)) where
-      fits : TurnFits user (watched_behind_all user v.turns) h.turn
-      fits = subst (λ (ws : List Watched). TurnFits user ws h.turn) v.watch h.how.0.fit
-
-      -- what the turn sends wasn't sent
-      pub unsent : {k : LinkShown} (e : LinkError) → k.left ≡ l.left → k.sent ≡ l.sent → l.faults ≤ k.faults → (e ≡ fault.Failed → Rose l.faults k.faults) → (texts_said said ≡ [] → ⊥)
-          → Ends user most x (setting k c d) f' replies (end_of_link e)
-      unsent {k} fault.Failed left kept after rose speaks =
-          finish (h.turn ∷ []) (link_kept (after_taking less few took same later h) left kept after) v.replied h.told (one_room less few took same later h) (one_look less few took same later h)
-          (inr (h.turn, refl, fits), taken_is less few took same later h, rose_more (let before = v.stand.later in omega (arith, before, later)) (rose refl)) h.how.1
-      unsent {k} fault.NoMemory left kept after rose speaks =
-          finish (h.turn ∷ []) (link_kept (after_taking less few took same later h) left kept after) v.replied h.told (one_room less few took same later h) (one_look less few took same later h)
-          (inr (h.turn, refl, unsaid_turn user (watched_behind_all user v.turns) h.desk d h.turn fits h.how.1 (λ none. speaks (h.how.0.says ∙ none))), taken_is less few took same later h) tt
-
-      -- it was sent
-      pub goes_on : {k : LinkShown} {replies' : ℕ} → k.left ≡ l.left → SendsTexts l.sent k.sent (texts_said said) → l.faults ≤ k.faults → replies' ≡ length (replies_said said)
-          → Serving user most (n + 1) (replies + replies') push' x (setting k c d) f'
-      goes_on {k} {replies'} left more after so_many =
-          let st = after_taking less few took same later h in
-          let had = h.how.0 in
-          let ts = v.turns ++ h.turn ∷ [] in
-          let one = few_replies h.turn in
-          record {
-            turns = ts;
-            stand = record {
-              took = subst (TakesMessages x.link.left k.left) (taken_is less few took same later h) (subst (λ (o : Option (List WsMessage)). TakesMessages x.link.left o (taken_in v.turns ++ as_messages text)) (sym left) st.took);
-              later = (let before = st.later in omega (arith, before, after));
-              fit = fit_more user [] v.turns h.turn v.stand.fit fits;
-              told = subst (λ (z : Shown). TurnsTold x.clock c [] f' x.desk z ts) (sym h.how.1) (told_join x.clock y.clock c [] f f' x.desk y.desk h.desk v.turns (h.turn ∷ []) v.stand.told h.told);
-              sent = subst (SendsTexts x.link.sent k.sent) (ap (λ (s : List (List ℕ)). sent_in v.turns ++ s) (had.says ∙ sym (append-nil (sent_by h.turn))) ∙ sym (flat_map-append sent_by v.turns (h.turn ∷ [])))
-                  (Sends-trans x.link.sent l.sent k.sent (sent_in v.turns) (texts_said said) st.sent more);
-            };
-            count = (let count = v.count in length-append v.turns (h.turn ∷ []) ∙ omega (arith, count));
-            replied = (
-                let all = ap length (flat_map-append reply_of v.turns (h.turn ∷ [])) ∙ length-append (replies_in v.turns) (replies_in (h.turn ∷ [])) in
-                let last = ap length (append-nil (reply_of h.turn)) in
-                let said_so = ap length had.replies in
-                let before = v.replied in
-                omega (arith, all, last, said_so, before, so_many)
-                );
-            watch = had.watch ∙ (ap (λ (ws : List Watched). watched_after user ws h.turn) v.watch ∙ sym (fold-append (watched_after user) [] v.turns (h.turn ∷ [])));
-            calls = (
-                let all = ap length (flat_map-append made_in_look v.turns (h.turn ∷ [])) ∙ length-append (made_in_looks v.turns) (made_in_looks (h.turn ∷ [])) in
-                let last = ap length (append-nil (made_in_look h.turn)) in
-                let now = had.calls in
-                let before = v.calls in
-                omega (arith, all, last, now, before)
-                );
-            room = (let said_so = ap length had.replies in omega (arith, less, one, said_so, so_many));
-            looks = (let now = had.calls in let made = looks_few h.turn in let size = h.size in omega (arith, few, now, made, size));
-          }
+        -- it was sent
+        pub goes_on : {k : LinkShown} (replies' : ℕ) → k.left ≡ l.left → SendsTexts l.sent k.sent (texts_said said) → l.faults ≤ k.faults → replies' ≡ length (replies_said said)
+            → Serving user most (n + 1) (replies + replies') push' x (setting k c d) f'
+        goes_on {k} replies' left more after so_many =
+            let st = after_taking text took same later in
+            let had = h.how.0 in
+            let ts = v.turns ++ h.turn ∷ [] in
+            let one = few_replies h.turn in
+            record {
+              turns = ts;
+              stand = record {
+                took = subst (TakesMessages x.link.left k.left) (pushed v.turns h.turn text h.takes) (subst (λ (o : Option (List WsMessage)). TakesMessages x.link.left o (taken_in v.turns ++ as_messages text)) (sym left) st.took);
+                later = (let before = st.later in omega (arith, before, after));
+                fit = fit_more user [] v.turns h.turn v.stand.fit (fits_here h.turn had.fit);
+                told = subst (λ (z : Shown). TurnsTold x.clock c [] f' x.desk z ts) (sym h.how.1) (told_join x.clock y.clock c [] f f' x.desk y.desk h.desk v.turns (h.turn ∷ []) v.stand.told h.told);
+                sent = subst (SendsTexts x.link.sent k.sent) (ap (λ (s : List (List ℕ)). sent_in v.turns ++ s) (had.says ∙ sym (append-nil (sent_by h.turn))) ∙ sym (flat_map-append sent_by v.turns (h.turn ∷ [])))
+                    (Sends-trans x.link.sent l.sent k.sent (sent_in v.turns) (texts_said said) st.sent more);
+              };
+              count = (let count = v.count in length-append v.turns (h.turn ∷ []) ∙ omega (arith, count));
+              replied = (
+                  let all = ap length (flat_map-append reply_of v.turns (h.turn ∷ [])) ∙ length-append (replies_in v.turns) (replies_in (h.turn ∷ [])) in
+                  let last = ap length (append-nil (reply_of h.turn)) in
+                  let said_so = ap length had.replies in
+                  let before = v.replied in
+                  omega (arith, all, last, said_so, before, so_many)
+                  );
+              watch = had.watch ∙ (ap (λ (ws : List Watched). watched_after user ws h.turn) v.watch ∙ sym (fold-append (watched_after user) [] v.turns (h.turn ∷ [])));
+              calls = (
+                  let all = ap length (flat_map-append made_in_look v.turns (h.turn ∷ [])) ∙ length-append (made_in_looks v.turns) (made_in_looks (h.turn ∷ [])) in
+                  let last = ap length (append-nil (made_in_look h.turn)) in
+                  let now = had.calls in
+                  let before = v.calls in
+                  omega (arith, all, last, now, before)
+                  );
+              room = (let said_so = ap length had.replies in omega (arith, less, one, said_so, so_many));
+              looks = (let now = had.calls in let made = looks_few h.turn in let size = h.size in omega (arith, few, now, made, size));
+            }

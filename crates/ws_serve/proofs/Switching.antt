@@ -1,10 +1,13 @@
 -- The types that a list names.
 use Rattle.std.proofs.Common.{◌≡◌, ℕ, ◌||◌, Bool, true, false, List, [], ◌∷◌, Option, Some, None, codes, option_and_then, option_map, refl, ap, ◌∙◌, sym}
 use Rattle.std.specs.Str.{bytes_eq}
-use Rattle.spec_json.specs.Data.{Data}
+use Rattle.spec_json.specs.Data.{Data, items_back}
 use Rattle.spec_json.specs.Parts.{all_some, as_text}
+use Rattle.spec_json.specs.TreeData.{data_of}
+use Rattle.spec_json.specs.declared.tree.Tree.{Tree}
+use Rattle.spec_json.specs.declared.tree.Tree.TheVariants.{List as Listed}
 use Rattle.spec_push.specs.declared.data_types.DataTypes.{DataTypes}
-use Rattle.spec_sockets.specs.Switches.{is_among, types_named}
+use Rattle.spec_sockets.specs.Switches.{is_among, types_in, types_named}
 
 -- the types of these names, where some were named before
 abbrev pub with_more : Bool → Bool → List (List ℕ) → DataTypes
@@ -40,3 +43,7 @@ not_named c e d ds is = ap (λ (o : Option (List ℕ)). option_map (with_more c 
 
 pub none_named : (c e : Bool) → named_from c e [] ≡ Some (record { calendars = c; events = e })
 none_named c e = ap Some (λ i. record { calendars = or_false c i; events = or_false e i })
+
+-- the types of a list
+pub listed_types : (t : Tree) (ds : List Data) (x : Option DataTypes) → t ≡ Listed ds → x ≡ option_map types_named (all_some as_text ds) → x ≡ types_in (data_of t)
+listed_types t ds x is h = h ∙ (ap (λ (l : List Data). option_map types_named (all_some as_text l)) (sym (items_back ds)) ∙ ap (λ (y : Tree). types_in (data_of y)) (sym is))

@@ -19,6 +19,9 @@ use Rattle.spec_sockets.specs.Texts.{asked_in_text, id_in_text}
 use Rattle.spec_sockets.specs.Turns.{Turn, looked, replied, switched, watched_by}
 use Rattle.spec_sockets.specs.declared.switch.Switch.{Switch}
 use Rattle.spec_time.specs.Moments.{clamped}
+use Rattle.state_watch.proofs.Seeing.{made_for_few}
+use Rattle.state_watch.specs.Looking.{LooksSo, texts_in}
+use Rattle.state_watch.specs.declared.watch.Looked.{Looked}
 use Rattle.ws_serve.proofs.Replying.{no_answer}
 use Rattle.ws_serve.proofs.TurnLemmas.{told_one}
 use Rattle.ws_serve.specs.Answering.{IsTextAnswered}
@@ -28,14 +31,11 @@ use Rattle.ws_serve.specs.declared.push.Push.{Push}
 use Rattle.ws_serve.specs.declared.turn.Said.{Said}
 use Rattle.ws_serve.specs.declared.turn.Said.TheVariants.{Change, Nothing, Reply}
 
-module _ {user : User} {asking : List ℕ} {p p' : Push} {c0 c1 : Option (ℕ → ℤ)} {f0 f1 : List Front} {d0 d1 : Shown} where
-  abbrev Answered : ℤ → Result (Vec ℕ Global) DeskError → Type 0
-  Answered w r = IsAnsweredAs user w (asked_in_text asking) (id_in_text asking) f0 f1 d0 d1 r
-
+module _ (user : User) (asking : List ℕ) (p p' : Push) (c0 c1 : Option (ℕ → ℤ)) (f0 f1 : List Front) (d0 d1 : Shown) where
   -- a text was taken, at the moment that the clock told
   text_at_moment : (told : ℤ) (r : Result Said DeskError) → Ticks c0 c1 told → IsTextHad (clamped told) p p' user asking f0 f1 d0 d1 r → HasTurn user (Some asking) p p' c0 c1 f0 f1 d0 d1 r
   text_at_moment told (Ok (Reply bytes)) ticks h =
-      let a : Answered (clamped told) (Ok bytes) = h.1 in
+      let a : IsAnsweredAs user (clamped told) (asked_in_text asking) (id_in_text asking) f0 f1 d0 d1 (Ok bytes) = h.1 in
       let t : TextExchange = record { asking = asking; moment = told; made = a.made; reply = bytes.items } in
       record {
         turn = replied t;
@@ -80,7 +80,7 @@ module _ {user : User} {asking : List ℕ} {p p' : Push} {c0 c1 : Option (ℕ �
 look_within : (watch : List Watched) (moment : ℤ) (l : Look) → IsLook watch moment l → length l.sights + length l.rest ≤ length watch
 look_within watch moment l h = (let all = ap length h.over ∙ length-append (watched_of l.sights) l.rest in let as_many = length-map l.sights (λ (s : Sight). s.watched) in omega (arith, all, as_many))
 
-module _ {user : User} {p p' : Push} {c0 c1 : Option (ℕ → ℤ)} {f : List Front} {d0 d1 : Shown} where
+module _ (user : User) (p p' : Push) (c0 c1 : Option (ℕ → ℤ)) (f : List Front) (d0 d1 : Shown) where
   look_at_moment : (told : ℤ) (r : Result Said DeskError) → Ticks c0 c1 told → IsLookHad (clamped told) p p' d0 d1 r → HasTurn user None p p' c0 c1 f f d0 d1 r
   look_at_moment told (Ok said) ticks h = record {
     turn = looked h.look told;
@@ -103,6 +103,26 @@ module _ {user : User} {p p' : Push} {c0 c1 : Option (ℕ → ℤ)} {f : List Fr
   look_had told w r ticks clamps h = look_at_moment told r ticks (subst (λ (y : ℤ). IsLookHad y p p' d0 d1 r) clamps h)
 
 -- what is watched couldn't be noted, and nothing was asked
-pub unswitched : {user : User} {moment : ℤ} {asking : List ℕ} {p p' : Push} {f f' : List Front} {d d' : Shown} → f' ≡ f → d' ≡ d → IsTextHad moment p p' user asking f f' d d' (Err NoMemory)
-unswitched {user} {moment} {asking} {p} {p'} {f} {f'} {d} {d'} fronts same =
+pub unswitched : {user : User} {moment : ℤ} (asking : List ℕ) {f f' : List Front} {d d' : Shown} → f' ≡ f → d' ≡ d → IsAnsweredAs user moment (asked_in_text asking) (id_in_text asking) f f' d d' (Err NoMemory)
+unswitched {user} {moment} asking {f} {f'} {d} {d'} fronts same =
     subst (λ (y : List Front × Shown). IsAnsweredAs user moment (asked_in_text asking) (id_in_text asking) f y.0 d y.1 (Err NoMemory)) (λ i. (sym fronts i, sym same i)) no_answer
+
+-- ---- a look
+
+-- it makes no more calls than there are states
+pub look_calls : {moment : ℤ} {watch watch' : List Watched} {d d' : Shown} (looked : Looked) → LooksSo moment watch watch' d d' (Ok looked) → looked.calls ≤ length watch
+look_calls {moment} {watch} looked s = (
+    let within = look_within watch moment s.look s.how.0.whole.0 in
+    let made = made_for_few s.look.sights in
+    let calls = s.how.2 in
+    omega (arith, within, made, calls)
+    )
+
+pub look_told : (moment : ℤ) (p p' : Push) (d d' : Shown) (looked : Looked) (said : Said) → LooksSo moment p.watch p'.watch d d' (Ok looked) → p'.calls ≡ p.calls + looked.calls
+    → texts_said said ≡ texts_in looked.told → replies_said said ≡ [] → IsLookHad moment p p' d d' (Ok said)
+look_told moment p p' d d' looked said s calls says none = record {
+  look = s.look;
+  desk = s.desk;
+  chain = s.chain;
+  how = (s.how.0.whole, s.how.0.same, s.how.0.noted, says ∙ s.how.1, none, calls ∙ ap (λ (k : ℕ). p.calls + k) s.how.2);
+}

@@ -36,7 +36,7 @@ impl Push {
     pub(crate) fn is_spent(&self) -> bool
         ensures { result ≡ nat_lt MAX_LOOK_CALLS (self.now.calls + length self.now.watch) }
     {
-        self.watch.len() as u64 > MAX_LOOK_CALLS.saturating_sub(self.calls)
+        self.calls.saturating_add(self.watch.len() as u64) > MAX_LOOK_CALLS
     }
 
     /// Has the states watched that a switch asks for, all of them anew. Takes memory for them.

@@ -13,7 +13,8 @@ returns-then-text-gt-MAX_SIZE_REQUEST g c =
 pub returns-in-Ok : goal.returns-in-Ok
 returns-in-Ok g c =
     let h = as_read c.args.text.now _ (search rules) c.in-Ok.ensures.ok in
-    answer_as c.answer_tree.result _ _ _ _ _ _ h.2 h.0 h.1 c.answer_tree.ensures
+    answer_as c.args.user.now c.args.moment c.args.fronts.now.items c.answer_tree.new.fronts.items (g.D.Desk.shown c.args.desk.now) (g.D.Desk.shown c.answer_tree.new.desk) c.answer_tree.result
+    _ _ _ _ _ _ h.2 h.0 h.1 c.answer_tree.ensures
 
 pub returns-in-Err-NotJson : goal.returns-in-Err-NotJson
 returns-in-Err-NotJson g c =
