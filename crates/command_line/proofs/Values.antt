@@ -79,18 +79,21 @@ pub listen_is_free : is_simple_and_free listen_app ≡ true
 unfolding listen_app clap_on_literals
 listen_is_free = refl
 
-pub listen_found : (app : App) (words : List (List ℕ)) (m : ArgMatches) (config port workers connections log : Option (List ℕ)) → app ≡ listen_app
+pub listen_found : (app : App) (words : List (List ℕ)) (m : ArgMatches) (config port workers connections log sockets many : Option (List ℕ)) → app ≡ listen_app
     → accepts app words ≡ true → HasMatchesOf app words m
     → config ≡ first_value (found_of m) (codes "config") → port ≡ first_value (found_of m) (codes "port")
     → workers ≡ first_value (found_of m) (codes "workers") → connections ≡ first_value (found_of m) (codes "connections") → log ≡ first_value (found_of m) (codes "log")
-    → listen_with config port workers connections log ≡ listen_of words
-listen_found app words m config port workers connections log is taken h c p w n f =
+    → sockets ≡ first_value (found_of m) (codes "sockets-port") → many ≡ first_value (found_of m) (codes "socket-workers")
+    → listen_with config port workers connections log sockets many ≡ listen_of words
+listen_found app words m config port workers connections log sockets many is taken h c p w n f q v =
     let value = λ (name : List ℕ). value_of listen_app words name in
     let found : (name : List ℕ) (o : Option (List ℕ)) → o ≡ first_value (found_of m) name → o ≡ value_of listen_app words name =
     λ name o e. e ∙ value_found app listen_app words m name is listen_is_simple h in
-    let all = listen_with (value (codes "config")) (value (codes "port")) (value (codes "workers")) (value (codes "connections")) (value (codes "log")) in
-    let same : listen_with config port workers connections log ≡ all =
-    (λ i. listen_with (found (codes "config") config c i) (found (codes "port") port p i) (found (codes "workers") workers w i) (found (codes "connections") connections n i) (found (codes "log") log f i)) in
+    let all = listen_with (value (codes "config")) (value (codes "port")) (value (codes "workers")) (value (codes "connections")) (value (codes "log"))
+    (value (codes "sockets-port")) (value (codes "socket-workers")) in
+    let same : listen_with config port workers connections log sockets many ≡ all =
+    (λ i. listen_with (found (codes "config") config c i) (found (codes "port") port p i) (found (codes "workers") workers w i) (found (codes "connections") connections n i) (found (codes "log") log f i)
+    (found (codes "sockets-port") sockets q i) (found (codes "socket-workers") many v i)) in
     same ∙ sym (ap (λ b. cond b all None) (ap (λ (a : App). accepts a words) (sym is) ∙ taken))
 
 pub kept_is_simple : is_simple kept_app ≡ true
@@ -121,18 +124,21 @@ pub listen_kept_is_free : is_simple_and_free listen_kept_app ≡ true
 unfolding listen_kept_app listen_app clap_on_literals
 listen_kept_is_free = refl
 
-pub listen_kept_found : (app : App) (words : List (List ℕ)) (m : ArgMatches) (listen : Option Listen) (config port workers connections log journals : Option (List ℕ)) → app ≡ listen_kept_app
-    → accepts app words ≡ true → HasMatchesOf app words m → listen ≡ listen_with config port workers connections log
+pub listen_kept_found : (app : App) (words : List (List ℕ)) (m : ArgMatches) (listen : Option Listen) (config port workers connections log sockets many journals : Option (List ℕ)) → app ≡ listen_kept_app
+    → accepts app words ≡ true → HasMatchesOf app words m → listen ≡ listen_with config port workers connections log sockets many
     → config ≡ first_value (found_of m) (codes "config") → port ≡ first_value (found_of m) (codes "port")
-    → workers ≡ first_value (found_of m) (codes "workers") → connections ≡ first_value (found_of m) (codes "connections") → log ≡ first_value (found_of m) (codes "log") → journals ≡ first_value (found_of m) (codes "journals")
+    → workers ≡ first_value (found_of m) (codes "workers") → connections ≡ first_value (found_of m) (codes "connections") → log ≡ first_value (found_of m) (codes "log")
+    → sockets ≡ first_value (found_of m) (codes "sockets-port") → many ≡ first_value (found_of m) (codes "socket-workers") → journals ≡ first_value (found_of m) (codes "journals")
     → listen_kept_with listen journals ≡ listen_kept_options words
-listen_kept_found app words m listen config port workers connections log journals is taken h with c p w n f j =
+listen_kept_found app words m listen config port workers connections log sockets many journals is taken h with c p w n f q v j =
     let value = λ (name : List ℕ). value_of listen_kept_app words name in
     let found : (name : List ℕ) (o : Option (List ℕ)) → o ≡ first_value (found_of m) name → o ≡ value_of listen_kept_app words name =
     λ name o e. e ∙ value_found app listen_kept_app words m name is listen_kept_is_simple h in
-    let all : Option ListenKept = listen_kept_with (listen_with (value (codes "config")) (value (codes "port")) (value (codes "workers")) (value (codes "connections")) (value (codes "log"))) (value (codes "journals")) in
-    let same : listen_kept_with (listen_with config port workers connections log) journals ≡ all =
-    (λ i. listen_kept_with (listen_with (found (codes "config") config c i) (found (codes "port") port p i) (found (codes "workers") workers w i) (found (codes "connections") connections n i) (found (codes "log") log f i))
+    let all : Option ListenKept = listen_kept_with (listen_with (value (codes "config")) (value (codes "port")) (value (codes "workers")) (value (codes "connections")) (value (codes "log"))
+    (value (codes "sockets-port")) (value (codes "socket-workers"))) (value (codes "journals")) in
+    let same : listen_kept_with (listen_with config port workers connections log sockets many) journals ≡ all =
+    (λ i. listen_kept_with (listen_with (found (codes "config") config c i) (found (codes "port") port p i) (found (codes "workers") workers w i) (found (codes "connections") connections n i) (found (codes "log") log f i)
+    (found (codes "sockets-port") sockets q i) (found (codes "socket-workers") many v i))
     (found (codes "journals") journals j i)) in
     ap (λ (l : Option Listen). listen_kept_with l journals) with ∙ same ∙ sym (ap (λ b. cond b all None) (ap (λ (a : App). accepts a words) (sym is) ∙ taken))
 

@@ -1,5 +1,6 @@
 -- What the words of the command line ask for. Of the words behind the first it is what `clap` states.
-use Rattle.std.specs.Prelude.{ℕ, ◌&&◌, List, [], ◌∷◌, Bool, true, false, if◌then◌else◌, Some, None, codes, nat_le, nat_lt, option_and_then, option_map}
+use Rattle.std.specs.Prelude.{ℕ, ◌+◌, ◌==◌, ◌&&◌, List, [], ◌∷◌, Bool, true, false, not, if◌then◌else◌, Some, None, codes, nat_le, nat_lt, option_and_then, option_map}
+use Rattle.std.specs.Option.{option_map_or}
 use Rattle.std.specs.declared.option.Option.{Option}
 use Rattle.std.specs.Str.{bytes_eq}
 use Rattle.clap.specs.Words.{App, Rule, fault_of, first_of, matches_of, new_app, new_rule, with_rule}
@@ -7,16 +8,34 @@ use Rattle.clap.specs.Simple.{on_top}
 use Rattle.clap.specs.Walk.{is_empty}
 use Rattle.clap.specs.declared.builder.action.ArgAction.TheVariants.{Set, SetTrue}
 use Rattle.spec_json.specs.Number.{number_in}
-use Rattle.command_line.specs.declared.listen.TheConstants.{DEFAULT_CONNECTIONS, DEFAULT_WORKERS, MAX_CONNECTIONS, MAX_PORT, MAX_WORKERS}
+use Rattle.command_line.specs.declared.listen.TheConstants.{DEFAULT_CONNECTIONS, DEFAULT_SOCKET_WORKERS, DEFAULT_WORKERS, MAX_ALL_WORKERS, MAX_CONNECTIONS, MAX_PORT, MAX_WORKERS}
 use Rattle.command_line.specs.declared.workload.TheConstants.{MAX_NUMBER, MAX_SIZE}
 
--- what `listen` is to do: with a configuration, a port, and so many workers, each for so many connections; and whether a line tells of each request
+-- so many workers that serve the sockets of a port
+pub record SocketCrew : Type 0 where
+  pub port : ℕ
+  pub workers : ℕ
+
+-- what `listen` is to do: with a configuration, a port, and so many workers, each for so many connections; whether a line tells of each request; and who serves sockets beside
+-- them, if anybody does
 pub record Listen : Type 0 where
   pub config : List ℕ
   pub port : ℕ
   pub workers : ℕ
   pub connections : ℕ
   pub log : Bool
+  pub sockets : Option SocketCrew
+
+-- how many workers serve sockets, and on which port: none, on no port, where nobody does
+abbrev pub socket_workers : Option SocketCrew → ℕ
+socket_workers crew = option_map_or (λ c. c.workers) crew 0
+
+abbrev pub socket_port : Option SocketCrew → ℕ
+socket_port crew = option_map_or (λ c. c.port) crew 0
+
+-- how many workers there are of both kinds
+abbrev pub all_workers : Listen → ℕ
+all_workers l = l.workers + socket_workers l.sockets
 
 -- `batch` with a configuration and a user, each by its name where it is given, `stdio` with a configuration, `workload` with the number that its generator begins with and its
 -- size, or `listen`
@@ -50,11 +69,11 @@ stdio_app = with_rule (without_flags (codes "stdio")) (option_named (codes "conf
 unfoldable pub workload_app : App
 workload_app = with_rule (with_rule (without_flags (codes "workload")) (option_named (codes "number") true)) (option_named (codes "size") true)
 
--- `listen --config NAME --port P [--workers W] [--connections N] [--log]`
+-- `listen --config NAME --port P [--workers W] [--connections N] [--log] [--sockets-port Q] [--socket-workers V]`
 unfoldable pub listen_app : App
 listen_app =
-    with_rule (with_rule (with_rule (with_rule (with_rule (without_flags (codes "listen")) (option_named (codes "config") true)) (option_named (codes "port") true)) (option_named (codes "workers") false))
-    (option_named (codes "connections") false)) (flag_named (codes "log"))
+    with_rule (with_rule (with_rule (with_rule (with_rule (with_rule (with_rule (without_flags (codes "listen")) (option_named (codes "config") true)) (option_named (codes "port") true))
+    (option_named (codes "workers") false)) (option_named (codes "connections") false)) (flag_named (codes "log"))) (option_named (codes "sockets-port") false)) (option_named (codes "socket-workers") false)
 
 -- `clap` finds no fault with the words of a command
 abbrev pub accepts : App → List (List ℕ) → Bool
@@ -113,10 +132,29 @@ abbrev pub is_given : Option (List ℕ) → Bool
 is_given None = false
 is_given (Some text) = bytes_eq text (codes "true")
 
+-- the workers of sockets that the values of a port and of a number ask for
+abbrev pub crew_with : List ℕ → Option (List ℕ) → Option SocketCrew
+crew_with port many =
+    option_and_then (λ q. option_map (λ v. record { port = q; workers = v }) (count_or MAX_WORKERS DEFAULT_SOCKET_WORKERS many)) (count_in MAX_PORT port)
+
+-- they have a port of their own, and are no more than may be beside so many workers
+abbrev pub is_beside : ℕ → ℕ → SocketCrew → Bool
+is_beside port workers c = not (c.port == port) && nat_le (workers + c.workers) MAX_ALL_WORKERS
+
+abbrev pub crew_beside : ℕ → ℕ → SocketCrew → Option SocketCrew
+crew_beside port workers c = if is_beside port workers c then Some c else None
+
+-- who serves sockets beside so many workers of a port: nobody where no port is given for them, and then no number either
+abbrev pub sockets_with : ℕ → ℕ → Option (List ℕ) → Option (List ℕ) → Option (Option SocketCrew)
+sockets_with port workers None None = Some None
+sockets_with port workers None (Some many) = None
+sockets_with port workers (Some text) many = option_map Some (option_and_then (crew_beside port workers) (crew_with text many))
+
 -- what the values of the options of `listen` ask for
-abbrev pub listen_with : Option (List ℕ) → Option (List ℕ) → Option (List ℕ) → Option (List ℕ) → Option (List ℕ) → Option Listen
-listen_with config port workers connections log =
-    option_and_then (λ c. option_and_then (λ p. option_and_then (λ w. option_map (λ n. record { config = c; port = p; workers = w; connections = n; log = is_given log })
+abbrev pub listen_with : Option (List ℕ) → Option (List ℕ) → Option (List ℕ) → Option (List ℕ) → Option (List ℕ) → Option (List ℕ) → Option (List ℕ) → Option Listen
+listen_with config port workers connections log sockets many =
+    option_and_then (λ c. option_and_then (λ p. option_and_then (λ w. option_and_then (λ n.
+    option_map (λ s. record { config = c; port = p; workers = w; connections = n; log = is_given log; sockets = s }) (sockets_with p w sockets many))
     (count_or MAX_CONNECTIONS DEFAULT_CONNECTIONS connections)) (count_or MAX_WORKERS DEFAULT_WORKERS workers)) (option_and_then (count_in MAX_PORT) port)) config
 
 -- what the words behind `listen` ask for
@@ -124,7 +162,7 @@ abbrev pub listen_of : List (List ℕ) → Option Listen
 listen_of words =
     if accepts listen_app words
     then listen_with (value_of listen_app words (codes "config")) (value_of listen_app words (codes "port")) (value_of listen_app words (codes "workers"))
-    (value_of listen_app words (codes "connections")) (value_of listen_app words (codes "log"))
+    (value_of listen_app words (codes "connections")) (value_of listen_app words (codes "log")) (value_of listen_app words (codes "sockets-port")) (value_of listen_app words (codes "socket-workers"))
     else None
 
 -- what the words behind a command's name ask for

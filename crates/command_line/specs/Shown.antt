@@ -5,6 +5,7 @@ use Rattle.command_line.specs.KeptWords as words
 use Rattle.command_line.specs.ListenKeptWords as kept_words
 use Rattle.command_line.specs.WebsocketWords as socket_words
 use Rattle.command_line.specs.declared.command.Command.{Command}
+use Rattle.command_line.specs.declared.crew.SocketCrew.{SocketCrew}
 use Rattle.command_line.specs.declared.kept.KeptCommand.{KeptCommand}
 use Rattle.command_line.specs.declared.listen.Listen.{Listen as Listening}
 use Rattle.command_line.specs.declared.listen_kept.ListenKept.{ListenKept}
@@ -15,8 +16,11 @@ use Rattle.command_line.specs.declared.command.Command.TheVariants.{Batch, Liste
 abbrev pub workload_shown : Work → commands.Command
 workload_shown w = commands.workload w.number w.size
 
+abbrev pub crew_shown : SocketCrew → commands.SocketCrew
+crew_shown c = record { port = c.port; workers = c.workers }
+
 abbrev pub listen_shown : Listening → commands.Listen
-listen_shown l = record { config = l.config.now; port = l.port; workers = l.workers; connections = l.connections; log = l.log }
+listen_shown l = record { config = l.config.now; port = l.port; workers = l.workers; connections = l.connections; log = l.log; sockets = option_map crew_shown l.sockets }
 
 abbrev pub kept_shown : KeptCommand → words.KeptCommand
 kept_shown k = record { config = k.config.now; journal = k.journal.now; user = option_map (λ name. name.now) k.user }

@@ -3,6 +3,7 @@
 
 pub mod command;
 mod counts;
+pub mod crew;
 mod flags;
 pub mod kept;
 pub mod listen;

@@ -31,6 +31,7 @@ impl<'a> ListenKept<'a> {
     }
 
     // What the words behind a command's name ask for.
+    #[tactic(auto, unfolding(crate::specs::ListenKeptWords::listen_kept_named))]
     fn read_named(
         alloc: Global,
         name: &str,
@@ -61,6 +62,8 @@ impl<'a> ListenKept<'a> {
             matches.get_str("workers"),
             matches.get_str("connections"),
             matches.get_str("log"),
+            matches.get_str("sockets-port"),
+            matches.get_str("socket-workers"),
         );
         Ok(ListenKept::with(listen, matches.get_str("journals")))
     }

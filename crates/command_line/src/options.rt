@@ -37,7 +37,7 @@ pub fn workload_command<'a>(alloc: Global) -> Result<Command<'a>, AllocError>
     with_option(alloc, command, "size", true)
 }
 
-/// `listen --config NAME --port P [--workers W] [--connections N] [--log]`. Takes memory for its options.
+/// `listen --config NAME --port P [--workers W] [--connections N] [--log] [--sockets-port Q] [--socket-workers V]`. Takes memory for its options.
 #[tactic(auto, unfolding(crate::specs::Commands::listen_app))]
 pub fn listen_command<'a>(alloc: Global) -> Result<Command<'a>, AllocError>
     ensures { IfOk result (λ command. app_of command ≡ listen_app) }
@@ -46,10 +46,12 @@ pub fn listen_command<'a>(alloc: Global) -> Result<Command<'a>, AllocError>
     let command = with_option(alloc, command, "port", true)?;
     let command = with_option(alloc, command, "workers", false)?;
     let command = with_option(alloc, command, "connections", false)?;
-    with_flag(alloc, command, "log")
+    let command = with_flag(alloc, command, "log")?;
+    let command = with_option(alloc, command, "sockets-port", false)?;
+    with_option(alloc, command, "socket-workers", false)
 }
 
-/// `listen --config NAME --port P [--workers W] [--connections N] [--log] --journals FOLDER`. Takes memory for its options.
+/// The options of `listen`, and `--journals FOLDER`. Takes memory for them.
 pub fn listen_kept_command<'a>(alloc: Global) -> Result<Command<'a>, AllocError>
     ensures { IfOk result (λ command. app_of command ≡ listen_kept_app) }
 {

@@ -30,6 +30,7 @@ use listen_edge::tcp_host::TcpHost;
 use request_log::operator::Operator;
 use std::io;
 use std::process::ExitCode;
+use ws_edge::tcp_socket_host::TcpSocketHost;
 
 fn main(rt: HostRuntime) -> ExitCode {
     let words = match program_words(&rt) {
@@ -61,6 +62,7 @@ fn main(rt: HostRuntime) -> ExitCode {
                 &mut SystemFiles::new(rt.alloc(), rt),
                 &mut JournalFolder::new(rt, rt, asked.journals),
                 &mut TcpHost::new(rt.alloc(), rt, lines),
+                &mut TcpSocketHost::new(rt.alloc(), rt, operator.lines(false)),
                 &mut RealThreads::new(rt),
                 SystemClock::new(rt),
             );
@@ -85,6 +87,7 @@ fn main(rt: HostRuntime) -> ExitCode {
         &mut WriterSink::new(io::writer(&rt)),
         &mut SystemClock::new(rt),
         &mut TcpHost::new(rt.alloc(), rt, lines),
+        &mut TcpSocketHost::new(rt.alloc(), rt, operator.lines(false)),
         &mut RealThreads::new(rt),
     );
     operator.close();

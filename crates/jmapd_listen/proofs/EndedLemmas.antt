@@ -8,37 +8,38 @@ use mathlib.Core.List.{map-map}
 use Rattle.std.specs.List.{AllZip, list_all, sum}
 use Rattle.std.specs.Prelude.{All, sum_by}
 use Rattle.listen_edge.specs.Ending.{counted, faults_in}
-use Rattle.listen_edge.specs.Listening.{ListenerShown}
 use Rattle.listen_edge.specs.declared.job.WorkerDone.{WorkerDone}
 use Rattle.listen_workers.specs.Crew.{Ends, is_all}
-use Rattle.listen_workers.specs.Working.{EndedWorker, Tools, Works}
+use Rattle.listen_workers.specs.Posts.{EndedWorker, PostShown, WorksAt, is_for_sockets}
+use Rattle.listen_workers.specs.Working.{Tools}
 use Rattle.spec_batch.specs.Chain.{Shown}
 use Rattle.spec_site.specs.Configuration.{Site}
 use Rattle.jmapd_listen.specs.Listens.{HaveEnded, SpawnerShown, WorksWhole}
 
 -- ---- the workers of jobs
 
-module _ {J K : Type 0} (site : Site) (connections : ℕ) (site_of : J → Site) (connections_of : J → ℕ) (listener : J → ListenerShown) (tools : J → Tools) (listener' : K → ListenerShown) (tools' : K → Tools) (done : K → WorkerDone) where
+module _ {J K : Type 0} (site : Site) (connections : ℕ) (site_of : J → Site) (connections_of : J → ℕ) (post : J → PostShown) (tools : J → Tools) (post' : K → PostShown) (tools' : K → Tools) (done : K → WorkerDone) where
   abbrev MayAnswer : J → K → Type 0
-  MayAnswer j b = WorksWhole (site_of j) (connections_of j) (listener j) (listener' b) (tools j) (tools' b) (done b)
+  MayAnswer j b = WorksWhole (site_of j) (connections_of j) (post j) (post' b) (tools j) (tools' b) (done b)
 
   record AreOf (jobs : List J) (backs : List K) (workers : List (EndedWorker site connections)) : Type 0 where
     pub began : map (λ w. w.tools.desk) workers ≡ map (λ j. (tools j).desk) jobs
+    pub posted : map (λ w. is_for_sockets w.post) workers ≡ map (λ j. is_for_sockets (post j)) jobs
     pub ends : All (λ w. Ends connections w.done) workers
     pub dones : map (λ w. w.done) workers ≡ map done backs
 
   abbrev worker_of : (j : J) (b : K) → MayAnswer j b → connections_of j ≡ connections → site_of j ≡ site → EndedWorker site connections
   worker_of j b may so_many same = record {
-    listener = listener j;
-    listener' = listener' b;
+    post = post j;
+    post' = post' b;
     tools = tools j;
     tools' = tools' b;
     done = done b;
-    works = coe 0 1 (i. Works (same i) (so_many i) (listener j) (listener' b) (tools j) (tools' b) (done b)) may.0;
+    works = coe 0 1 (i. WorksAt (same i) (so_many i) (post j) (post' b) (tools j) (tools' b) (done b)) may.0;
   }
 
   workers_of_jobs : (jobs : List J) (backs : List K) → AllZip MayAnswer jobs backs → All (λ j. (connections_of j ≡ connections) × (site_of j ≡ site)) jobs → (workers : List (EndedWorker site connections)) × AreOf jobs backs workers
-  workers_of_jobs [] [] may each = ([], record { began = refl; ends = All-nil (λ (w : EndedWorker site connections). Ends connections w.done); dones = refl })
+  workers_of_jobs [] [] may each = ([], record { began = refl; posted = refl; ends = All-nil (λ (w : EndedWorker site connections). Ends connections w.done); dones = refl })
   workers_of_jobs [] (b ∷ bs) may each = absurd may
   workers_of_jobs (j ∷ js) [] may each = absurd may
   workers_of_jobs (j ∷ js) (b ∷ bs) may each =
@@ -48,6 +49,7 @@ module _ {J K : Type 0} (site : Site) (connections : ℕ) (site_of : J → Site)
         w ∷ rest.0,
         record {
           began = ap (λ (ds : List Shown). (tools j).desk ∷ ds) rest.1.began;
+          posted = ap (λ (ks : List Bool). is_for_sockets (post j) ∷ ks) rest.1.posted;
           ends = All-cons (λ (v : EndedWorker site connections). Ends connections v.done) w rest.0 (subst (λ (n : ℕ). Ends n (done b)) here.0 may.0.1) rest.1.ends;
           dones = ap (λ (ds : List WorkerDone). done b ∷ ds) rest.1.dones;
         },
@@ -106,17 +108,18 @@ module _ {X : Type 0} (done : X → WorkerDone) (connections : ℕ) where
 
 -- ---- what came of jobs whose spawner counted just what they gave back
 
-module _ {J K : Type 0} (site : Site) (connections : ℕ) (site_of : J → Site) (connections_of : J → ℕ) (listener : J → ListenerShown) (tools : J → Tools) (listener' : K → ListenerShown) (tools' : K → Tools) (done : K → WorkerDone) where
-  pub have_ended : (desks : List Shown) (s s' : SpawnerShown) (jobs : List J) (backs : List K) → AllZip (MayAnswer site connections site_of connections_of listener tools listener' tools' done) jobs backs
-      → All (λ j. (connections_of j ≡ connections) × (site_of j ≡ site)) jobs → map (λ j. (tools j).desk) jobs ≡ desks
+module _ {J K : Type 0} (site : Site) (connections : ℕ) (site_of : J → Site) (connections_of : J → ℕ) (post : J → PostShown) (tools : J → Tools) (post' : K → PostShown) (tools' : K → Tools) (done : K → WorkerDone) where
+  pub have_ended : (desks : List Shown) (for_sockets : List Bool) (s s' : SpawnerShown) (jobs : List J) (backs : List K) → AllZip (MayAnswer site connections site_of connections_of post tools post' tools' done) jobs backs
+      → All (λ j. (connections_of j ≡ connections) × (site_of j ≡ site)) jobs → map (λ j. (tools j).desk) jobs ≡ desks → map (λ j. is_for_sockets (post j)) jobs ≡ for_sockets
       → s'.faults ≡ counted s.faults (sum_by (λ b. faults_in (done b).end) backs) → s'.served ≡ counted s.served (sum_by (λ b. (done b).served) backs)
-      → (workers : List (EndedWorker site connections)) × HaveEnded desks s s' workers × (list_all (λ w. is_all w.done.end) workers ≡ list_all (λ b. is_all (done b).end) backs)
-  have_ended desks s s' jobs backs may each began faults served =
-      let w = workers_of_jobs site connections site_of connections_of listener tools listener' tools' done jobs backs may each in
+      → (workers : List (EndedWorker site connections)) × HaveEnded desks for_sockets s s' workers × (list_all (λ w. is_all w.done.end) workers ≡ list_all (λ b. is_all (done b).end) backs)
+  have_ended desks for_sockets s s' jobs backs may each began posted faults served =
+      let w = workers_of_jobs site connections site_of connections_of post tools post' tools' done jobs backs may each in
       let dones = w.1.dones in (
         w.0,
         record {
           began = w.1.began ∙ began;
+          posted = w.1.posted ∙ posted;
           ends = w.1.ends;
           faults = faults ∙ ap (counted s.faults) (sum_of (λ d. faults_in d.end) done (λ (v : EndedWorker site connections). v.done) backs w.0 (sym dones));
           served = served ∙ ap (counted s.served) (sum_of (λ d. d.served) done (λ (v : EndedWorker site connections). v.done) backs w.0 (sym dones));

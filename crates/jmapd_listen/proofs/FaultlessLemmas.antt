@@ -10,10 +10,10 @@ use Rattle.jmapd_run.specs.Completes.{IsAccepted}
 use Rattle.jmapd_run.specs.Starts.{IsLoaded, IsNotOpened, IsStart, Start, batch_for, configuration_of, misconfigured, not_opened, stdio_of, usage, workers_for, workload_by}
 use Rattle.jmapd_run.specs.declared.status.Status.{Status}
 use Rattle.jmapd_run.specs.declared.status.Status.TheVariants.{Config, Cut, Done, NoMemory, OpenFault, ReadFault, Refused, Usage, WriteFault}
-use Rattle.listen_edge.specs.Listening.{HostShown}
 use Rattle.spec_batch.specs.Chain.{Shown}
 use Rattle.spec_site.specs.Configuration.{Fault, Site}
 use Rattle.jmapd_listen.specs.Faultless.{FaultlessListensServe, NoneFailed}
+use Rattle.jmapd_listen.specs.Hosts.{HostsShown}
 use Rattle.jmapd_listen.specs.Listens.{ListensFrom, ServesSite, ServesTogether, SpawnerShown}
 
 -- the `listen` that is asked, or else this one
@@ -24,13 +24,14 @@ asked_of d (Some (stdio config)) = d
 asked_of d (Some (workload number size)) = d
 asked_of d None = d
 
-module _ (o o' : OpenerShown) (h h' : HostShown) (s s' : SpawnerShown) (fine : NoneFailed o o' h h' s s') (l : Listen) (site : Site) (accepted : IsAccepted (Some l.config) o site) where
+module _ (o o' : OpenerShown) (h h' : HostsShown) (s s' : SpawnerShown) (fine : NoneFailed o o' h h' s s') (l : Listen) (site : Site) (accepted : IsAccepted (Some l.config) o site) where
   opens : IsNotOpened o o' l.config → ⊥
   opens (inl missing) = is_there o o' l.config site accepted missing
   opens (inr rose) = fine.opened rose
 
   serves : (other : Site) (desks : List Shown) → ServesSite other desks l h h' s s' OpenFault → ⊥
-  serves other desks (inl made) = fine.made made.1
+  serves other desks (inl (inl made, same)) = fine.made made.1
+  serves other desks (inl (inr made, same)) = fine.made_for_sockets made.2
   serves other desks (inr joined) = fine.joined joined.1
 
   of_site : (k : Listen) (other : Site) (status : Status) → k ≡ l → other ≡ site → ServesTogether other k h h' s s' status → (status ≡ NoMemory) ⊎ ((status ≡ Done) × ServesTogether site l h h' s s' Done)

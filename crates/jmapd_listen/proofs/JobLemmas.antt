@@ -11,6 +11,8 @@ use Rattle.account_lock.specs.Passes.{PassState}
 use Rattle.command_line.specs.declared.listen.TheConstants.{MAX_CONNECTIONS}
 use Rattle.listen_workers.proofs.PassLemmas.{passes_count}
 use Rattle.listen_workers.proofs.WorkerLemmas.{each_turns}
+use Rattle.listen_workers.specs.Posts.{PostShown, WorksAt, connections, sockets}
+use Rattle.listen_workers.specs.SocketWork.{SocketWorkHow}
 use Rattle.listen_workers.specs.Working.{MAX_CALLS, Tools, WorkerHow, Works}
 use Rattle.jmapd_listen.specs.Listens.{IsUnused, WorksWhole}
 use Rattle.listen_edge.specs.Listening.{ListenerShown}
@@ -24,19 +26,26 @@ use Rattle.spec_site.specs.Configuration.{Site}
 use Rattle.listen_workers.specs.Passes.{ShareAccounts, fresh_passes}
 use Rattle.listen_workers.specs.Crew.{Ends}
 
-ends_so : (connections : ℕ) (l l' : ListenerShown) (u : Tools) (done : WorkerDone) (e : WorkerEnd) → done.end ≡ e → connections ≤ MAX_CONNECTIONS → u.desk.turns ≤ MAX_CALLS * done.served
-    → WorkerHow connections l l' u done.served e → Ends connections done
-ends_so connections l l' u done Whole is few turns how = inl (is, how)
-ends_so connections l l' u done AcceptFault is few turns how = inr is
-ends_so connections l l' u done PassSpent is few turns how = absurd (let served = how.1 in let spent = how.2 in omega (arith, few, turns, served, spent))
+ends_so : (most : ℕ) (l l' : ListenerShown) (u : Tools) (done : WorkerDone) (e : WorkerEnd) → done.end ≡ e → most ≤ MAX_CONNECTIONS → u.desk.turns ≤ MAX_CALLS * done.served
+    → WorkerHow most l l' u done.served e → Ends most done
+ends_so most l l' u done Whole is few turns how = inl (is, how)
+ends_so most l l' u done AcceptFault is few turns how = inr is
+ends_so most l l' u done PassSpent is few turns how = absurd (let served = how.1 in let spent = how.2 in omega (arith, few, turns, served, spent))
 
-pub whole : {site : Site} {connections : ℕ} {l l' : ListenerShown} {t u : Tools} {done : WorkerDone} → t.desk.turns ≡ 0 → connections ≤ MAX_CONNECTIONS → Works site connections l l' t u done
-    → WorksWhole site connections l l' t u done
-whole {site} {connections} {l} {l'} {t} {u} {done} none few w =
+sockets_end : (most : ℕ) (done : WorkerDone) (e : WorkerEnd) → done.end ≡ e → SocketWorkHow most done.served e → Ends most done
+sockets_end most done Whole is how = inl (is, how)
+sockets_end most done AcceptFault is how = inr is
+sockets_end most done PassSpent is how = absurd how
+
+pub whole : {site : Site} {most : ℕ} {t u : Tools} {done : WorkerDone} (p p' : PostShown) → t.desk.turns ≡ 0 → most ≤ MAX_CONNECTIONS → WorksAt site most p p' t u done → WorksWhole site most p p' t u done
+whole {site} {most} {t} {u} {done} (connections l) (connections l') none few w =
     let made = each_turns site t u w.visits w.serves in
     let count = ap (λ (n : ℕ). MAX_CALLS * n) w.count in
     let turns : u.desk.turns ≤ MAX_CALLS * done.served = omega (arith, made, none, count) in
-    (w, ends_so connections l l' u done done.end refl few turns w.how)
+    (w, ends_so most l l' u done done.end refl few turns w.how)
+whole {site} {most} {t} {u} {done} (sockets a) (sockets a') none few w = (w, sockets_end most done done.end refl w.how)
+whole (connections l) (sockets a') none few w = absurd w
+whole (sockets a) (connections l') none few w = absurd w
 
 -- a desk over the accounts of the same site
 pub unused_of_same : {site site' : Site} (desk : Shown) → site' ≡ site → IsUnused site desk → IsUnused site' desk

@@ -13,6 +13,7 @@ use Rattle.cal_model.specs.Sound.{unsound_place}
 use Rattle.command_line.specs.Commands.{Listen, listen}
 use Rattle.io_edge.specs.Outside.{OpenerShown}
 use Rattle.jmapd_listen.proofs.DeskLemmas.{are_desks_at}
+use Rattle.jmapd_listen.specs.Hosts.{HostsShown}
 use Rattle.jmapd_listen.specs.Listens.{IsUnused, ServesSite, SpawnerShown}
 use Rattle.jmapd_listen.specs.ListensKept.{ListensKept}
 use Rattle.jmapd_listen.specs.Offices.{AreKeptDesks, IsKeptAccount, OfficeShown, OpensNone}
@@ -23,7 +24,6 @@ use Rattle.jmapd_run.specs.declared.kept_status.KeptStatus.TheVariants.{Plain}
 use Rattle.jmapd_run.specs.declared.status.Status.{Status}
 use Rattle.jmapd_run.specs.declared.status.Status.TheVariants.{Config, Cut, Done, NoMemory, OpenFault, ReadFault, Refused, Usage, WriteFault}
 use Rattle.journal_keeper.specs.Journals.{Kept}
-use Rattle.listen_edge.specs.Listening.{HostShown}
 use Rattle.listen_workers.specs.Passes.{ShareAccounts}
 use Rattle.spec_batch.specs.Chain.{Shown}
 use Rattle.spec_history.specs.Base.{Base}
@@ -58,7 +58,7 @@ untold_desks base entries site workers accounts desks are sound many share =
 
 module _ (o o' : OpenerShown) (l : Listen) where
   -- there is no site
-  pub none_loaded : (f : OfficeShown) (h : HostShown) (s : SpawnerShown) (e : Status) → LoadHow o o' l.config (Err e) → ListensKept f f h h s s o o' l (Plain e)
+  pub none_loaded : (f : OfficeShown) (h : HostsShown) (s : SpawnerShown) (e : Status) → LoadHow o o' l.config (Err e) → ListensKept f f h h s s o o' l (Plain e)
   none_loaded f h s OpenFault how = inl (not_opened, (listen l, l.config, refl, refl, how), (refl, refl, refl))
   none_loaded f h s (Config field index) how = inl (misconfigured field index, (listen l, l.config, refl, refl, how), (refl, refl, refl, refl, refl))
   none_loaded f h s NoMemory how = inr (refl, refl, refl)
@@ -71,9 +71,9 @@ module _ (o o' : OpenerShown) (l : Listen) where
 
   module _ (f f' : OfficeShown) (site : Site) (loaded : IsLoaded o o' l.config (Ok site)) where
     -- an account doesn't open
-    pub none_opened : (h : HostShown) (s : SpawnerShown) (status : KeptStatus) → OpensNone site f f' status → ListensKept f f' h h s s o o' l status
+    pub none_opened : (h : HostsShown) (s : SpawnerShown) (status : KeptStatus) → OpensNone site f f' status → ListensKept f f' h h s s o o' l status
     none_opened h s status refused = inl (workers_for l site, (refl, loaded), inl (refused, refl, refl))
 
     -- the workers serve the users of the site
-    pub kept_served : (h h' : HostShown) (s s' : SpawnerShown) (desks : List Shown) → AreKeptDesks site f.told l.workers desks → (e : Status) → ServesSite site desks l h h' s s' e → ListensKept f f' h h' s s' o o' l (Plain e)
+    pub kept_served : (h h' : HostsShown) (s s' : SpawnerShown) (desks : List Shown) → AreKeptDesks site f.told l.workers desks → (e : Status) → ServesSite site desks l h h' s s' e → ListensKept f f' h h' s s' o o' l (Plain e)
     kept_served h h' s s' desks kept e serves = inl (workers_for l site, (refl, loaded), inr (record { desks = desks; kept = kept; plainly = e; status_is = refl; serves = serves }))

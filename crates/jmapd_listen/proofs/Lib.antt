@@ -8,3 +8,4 @@ pub mod Sending
 pub mod ServeLemmas
 pub mod ZipLemmas
 pub mod KeptLemmas
+pub mod PostLemmas

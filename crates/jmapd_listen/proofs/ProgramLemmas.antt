@@ -5,6 +5,7 @@ use mathlib.Core.Logic.{inl, inr}
 use Rattle.command_line.specs.Commands.{Command, Listen, batch, command_of, listen, stdio, workload}
 use Rattle.io_edge.specs.Outside.{OpenerShown}
 use Rattle.jmapd_listen.specs.Asked.{listen_in}
+use Rattle.jmapd_listen.specs.Hosts.{HostsShown}
 use Rattle.jmapd_listen.specs.Listens.{Listens, ListensFrom, SpawnerShown}
 use Rattle.jmapd_listen.specs.Program.{RunsProgram, WorksFrom}
 use Rattle.jmapd_run.specs.Headline.{Surroundings}
@@ -12,7 +13,6 @@ use Rattle.jmapd_run.specs.Runs.{Runs, RunsFrom, streamed}
 use Rattle.jmapd_run.specs.Starts.{IsStart, Start, batch_for, misconfigured, not_opened, stdio_of, usage, workers_for, workload_by}
 use Rattle.jmapd_run.specs.declared.status.Status.{Status}
 use Rattle.jmapd_run.specs.declared.status.Status.TheVariants.{Config, Cut, Done, NoMemory, OpenFault, ReadFault, Refused, Usage, WriteFault}
-use Rattle.listen_edge.specs.Listening.{HostShown}
 
 -- a command that asks nothing of workers is one that `run` knows
 pub streamed_all : (c : Option Command) → listen_in c ≡ None → streamed c ≡ c
@@ -30,7 +30,7 @@ listens (Some (stdio config)) l e = cc
 listens (Some (workload number size)) l e = cc
 listens (Some (listen k)) l e = ap (option_map listen) e
 
-module _ (x x' : Surroundings) (h h' : HostShown) (s s' : SpawnerShown) where
+module _ (x x' : Surroundings) (h h' : HostsShown) (s s' : SpawnerShown) where
   from_listen : (start : Start) (e : Status) → ListensFrom h h' s s' start e → x' ≡ x → WorksFrom x x' h h' s s' start e
   from_listen not_opened OpenFault f same = (same, f.0, f.1)
   from_listen not_opened Done f same = absurd f

@@ -1,4 +1,4 @@
--- A desk over accounts, a worker's job and its answer may go to another thread, whatever listener, clock and desk the job has that may.
+-- A desk over accounts, a worker's job and its answer may go to another thread, whatever listener, accepter, clock and desk the job has that may.
 use denote.RattleType.{RattleType}
 use denote.Param.Send.{IsSend, IsSync, sendable}
 use Rattle.std.proofs.Crossing.{crosses}
@@ -26,11 +26,11 @@ site_sent = search (text_sent, text_shared, crosses, tree.crosses, sendable) dep
 site_shared : IsSync site.the_row
 site_shared = search (text_sent, text_shared, crosses, tree.crosses, sendable) depth 60 fits 20000
 
-pub job_sent : (L C D : RattleType) (desk : Ghosts D.Denot) → IsSend L → IsSend C → IsSend D → IsSend (job.the_row L C D desk)
-job_sent L C D desk l c d = search (site_sent, site_shared, crosses, sendable) depth 60 fits 20000
+pub job_sent : (L A C D : RattleType) (desk : Ghosts D.Denot) → IsSend L → IsSend A → IsSend C → IsSend D → IsSend (job.the_row L A C D desk)
+job_sent L A C D desk l a c d = search (site_sent, site_shared, crosses, sendable) depth 60 fits 20000
 
-pub back_sent : (L C D : RattleType) → IsSend L → IsSend C → IsSend D → IsSend (back.the_row L C D)
-back_sent L C D l c d = search (crosses, sendable) depth 60 fits 20000
+pub back_sent : (L A C D : RattleType) → IsSend L → IsSend A → IsSend C → IsSend D → IsSend (back.the_row L A C D)
+back_sent L A C D l a c d = search (crosses, sendable) depth 60 fits 20000
 
 -- the desks of workers, by the handle with which they wait
 abbrev pub desk_row : RattleType → RattleType

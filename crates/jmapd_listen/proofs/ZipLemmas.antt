@@ -17,3 +17,7 @@ module _ {A B : Type 0} where
   pub seconds_again : (ps : List (A × B)) → map (λ (p : A × B). p.1) ps ≡ map (λ (p : A × B). p.1) (map (λ (p : A × B). (p.0, p.1)) ps)
   seconds_again [] = refl
   seconds_again (p ∷ ps) = ap (λ ys. p.1 ∷ ys) (seconds_again ps)
+
+  pub firsts_again : (ps : List (A × B)) → map (λ (p : A × B). p.0) ps ≡ map (λ (p : A × B). p.0) (map (λ (p : A × B). (p.0, p.1)) ps)
+  firsts_again [] = refl
+  firsts_again (p ∷ ps) = ap (λ xs. p.0 ∷ xs) (firsts_again ps)

@@ -1,3 +1,4 @@
+pub mod Hosts
 pub mod Faultless
 pub mod Listens
 pub mod Program

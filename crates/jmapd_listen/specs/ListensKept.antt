@@ -1,7 +1,8 @@
 -- What `listen` does over accounts whose entries are kept, whatever bytes come on its connections.
 use Rattle.std.specs.Prelude.{◌≡◌, ◌⊎◌, List, Some}
-use Rattle.command_line.specs.Commands.{Listen, listen}
+use Rattle.command_line.specs.Commands.{Listen, all_workers, listen}
 use Rattle.io_edge.specs.Outside.{OpenerShown}
+use Rattle.jmapd_listen.specs.Hosts.{HostsShown}
 use Rattle.jmapd_listen.specs.Listens.{ServesSite, SpawnerShown}
 use Rattle.jmapd_run.specs.Starts.{IsStart, Start, misconfigured, not_opened, workers_for}
 use Rattle.jmapd_run.specs.declared.status.Status.{Status}
@@ -9,16 +10,15 @@ use Rattle.jmapd_run.specs.declared.status.Status.TheVariants.{Config, NoMemory,
 use Rattle.jmapd_listen.specs.Offices.{AreKeptDesks, OpensNone, OfficeShown}
 use Rattle.jmapd_run.specs.declared.kept_status.KeptStatus.{KeptStatus}
 use Rattle.jmapd_run.specs.declared.kept_status.KeptStatus.TheVariants.{Plain}
-use Rattle.listen_edge.specs.Listening.{HostShown}
 use Rattle.spec_batch.specs.Chain.{Shown}
 use Rattle.spec_site.specs.Configuration.{Site}
 
--- what is shown of office, host and spawner before and after
-module _ (f f' : OfficeShown) (h h' : HostShown) (s s' : SpawnerShown) where
+-- what is shown of office, hosts and spawner before and after
+module _ (f f' : OfficeShown) (h h' : HostsShown) (s s' : SpawnerShown) where
   -- The workers share the accounts of the site, each of which goes on from what its keeper has of it.
   pub record ServesKept (l : Listen) (site : Site) (status : KeptStatus) : Type 0 where
     pub desks : List Shown
-    pub kept : AreKeptDesks site f.told l.workers desks
+    pub kept : AreKeptDesks site f.told (all_workers l) desks
     pub plainly : Status
     pub status_is : status ≡ Plain plainly
     pub serves : ServesSite site desks l h h' s s' plainly

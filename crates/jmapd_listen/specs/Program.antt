@@ -7,12 +7,12 @@ use Rattle.jmapd_run.specs.Runs.{RunsFrom}
 use Rattle.jmapd_run.specs.Starts.{IsStart, Start, batch_for, misconfigured, not_opened, stdio_of, usage, workers_for, workload_by}
 use Rattle.jmapd_run.specs.declared.status.Status.{Status}
 use Rattle.jmapd_run.specs.declared.status.Status.TheVariants.{NoMemory}
-use Rattle.listen_edge.specs.Listening.{HostShown}
+use Rattle.jmapd_listen.specs.Hosts.{HostsShown}
 use Rattle.jmapd_listen.specs.Listens.{ServesTogether, SpawnerShown}
 
--- what is shown of input, output and clock, of the host and of the spawner, before and after
-module _ (x x' : Surroundings) (h h' : HostShown) (s s' : SpawnerShown) where
-  -- the streams' part of a run, which asks nothing of host and spawner
+-- what is shown of input, output and clock, of the hosts and of the spawner, before and after
+module _ (x x' : Surroundings) (h h' : HostsShown) (s s' : SpawnerShown) where
+  -- the streams' part of a run, which asks nothing of hosts and spawner
   abbrev pub RunsStreams : Start → Status → Type 0
   RunsStreams start status = RunsFrom x x' start status × (h' ≡ h) × (s' ≡ s)
 

@@ -3,24 +3,26 @@ ghost use Rattle.std.specs.Prelude.{◌≡◌, ◌≤◌};
 ghost use Rattle.std.specs.Arc.{arc_value};
 ghost use Rattle.command_line.specs.declared.listen.TheConstants.{MAX_CONNECTIONS};
 ghost use Rattle.jmapd_listen.specs.Listens.{IsUnused, WorksWhole};
+ghost use Rattle.listen_workers.specs.PostsShown.{post_shown};
 
 use io_edge::clock::Clock;
 use listen_edge::job::{Finished, Job, WorkerDone};
 use listen_edge::listener::ThreadListener;
-use listen_workers::worker::worker;
+use listen_workers::post::{Post, work};
 use session_doc::Site;
 use spec_batch::desk::Desk;
 use std::alloc::Global;
 use std::sync::Arc;
+use ws_edge::accept::WsAccept;
 
-/// A worker that is to serve so many connections of its listener, by its desk.
+/// A worker that is to take so many connections, or handshakes of sockets, at its post, by its desk.
 ///
 /// Its type keeps that the desk is over the accounts of the site and has made no call.
 #[derive(Drop)]
-pub struct WorkerJob<L, C, D: Desk> {
+pub struct WorkerJob<L, A, C, D: Desk> {
     pub(crate) alloc: Global,
     pub(crate) site: Arc<Site>,
-    pub(crate) listener: L,
+    pub(crate) post: Post<L, A>,
     pub(crate) desk: D,
     pub(crate) clock: C,
     pub(crate) connections: u64,
@@ -30,15 +32,19 @@ pub struct WorkerJob<L, C, D: Desk> {
 
 /// A worker that ended.
 #[derive(Drop)]
-pub struct WorkerBack<L, C, D> {
-    pub(crate) listener: L,
+pub struct WorkerBack<L, A, C, D> {
+    pub(crate) post: Post<L, A>,
     pub(crate) desk: D,
     pub(crate) clock: C,
     pub(crate) done: WorkerDone,
 }
 
-impl<L: ThreadListener, C: Clock + Send + Drop + 'static, D: Desk + Send + Drop + 'static> Finished
-    for WorkerBack<L, C, D> {
+impl<
+    L: ThreadListener,
+    A: WsAccept + Send + Drop + 'static,
+    C: Clock + Send + Drop + 'static,
+    D: Desk + Send + Drop + 'static,
+> Finished for WorkerBack<L, A, C, D> {
     ghost ended = { λ back. back.done };
 
     fn done(&self) -> WorkerDone {
@@ -46,33 +52,30 @@ impl<L: ThreadListener, C: Clock + Send + Drop + 'static, D: Desk + Send + Drop 
     }
 }
 
-impl<L: ThreadListener, C: Clock + Send + Drop + 'static, D: Desk + Send + Drop + 'static> Job
-    for WorkerJob<L, C, D> {
-    type Back = WorkerBack<L, C, D>;
+impl<
+    L: ThreadListener,
+    A: WsAccept + Send + Drop + 'static,
+    C: Clock + Send + Drop + 'static,
+    D: Desk + Send + Drop + 'static,
+> Job for WorkerJob<L, A, C, D> {
+    type Back = WorkerBack<L, A, C, D>;
 
-    // What a call of `worker` over its listener and its desk may leave and answer; and it never runs out of calls.
-    ghost may_answer = { λ job back. WorksWhole (arc_value job.site) job.connections (L.shown job.listener) (L.shown back.listener)
+    // What a call of `work` at its post and over its desk may leave and answer; and it never runs out of calls.
+    ghost may_answer = { λ job back. WorksWhole (arc_value job.site) job.connections (post_shown L.shown A.shown job.post) (post_shown L.shown A.shown back.post)
         (record { clock = C.moments job.clock; desk = D.shown job.desk }) (record { clock = C.moments back.clock; desk = D.shown back.desk }) back.done };
 
-    fn go(self) -> WorkerBack<L, C, D> {
+    fn go(self) -> WorkerBack<L, A, C, D> {
         let WorkerJob {
             alloc,
             site,
-            mut listener,
+            mut post,
             mut desk,
             mut clock,
             connections,
         } = self;
-        let done = worker(
-            alloc,
-            &site,
-            &mut listener,
-            &mut desk,
-            &mut clock,
-            connections,
-        );
+        let done = work(alloc, &site, &mut post, &mut desk, &mut clock, connections);
         WorkerBack {
-            listener,
+            post,
             desk,
             clock,
             done,

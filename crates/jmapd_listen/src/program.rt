@@ -1,4 +1,4 @@
-//! The program's commands, over any opener, streams, host, spawner and clock.
+//! The program's commands, over any opener, streams, hosts, spawner and clock.
 ghost use Rattle.std.specs.Prelude.{◌≡◌, ◌≤◌, ◌+◌, map, option_map, string_bytes};
 ghost use Rattle.jmapd_listen.specs.Asked.{listen_by, listen_in};
 ghost use Rattle.command_line.specs.Shown.{command_shown, listen_shown};
@@ -17,8 +17,9 @@ use listen_edge::host::Host;
 use listen_edge::spawner::Spawner;
 use std::alloc::Global;
 use std::sync::Wait;
+use ws_edge::socket_host::SocketHost;
 
-/// Runs the command that `words` name, which are the program's words without its own name: `listen` by workers over a host, the others over the streams.
+/// Runs the command that `words` name, which are the program's words without its own name: `listen` by workers over hosts, the others over the streams.
 ///
 /// The words are looked at first (`Usage` where they are no command's), then the configuration that they name, which is loaded once at most. Takes memory for what the command keeps.
 pub fn run_program<
@@ -27,6 +28,7 @@ pub fn run_program<
     K: Sink,
     C: Clock + Copy + Send + Drop + 'static,
     H: Host,
+    G: SocketHost,
     P: Spawner,
     W: Wait + Copy + Send + Drop + 'static,
 >(
@@ -38,11 +40,13 @@ pub fn run_program<
     output: &mut K,
     clock: &mut C,
     host: &mut H,
+    socket_host: &mut G,
     spawner: &mut P,
 ) -> Status
     ensures runs { RunsProgram (record { input = S.shown input.old; output = K.shown output.old; clock = C.moments clock.old })
         (record { input = S.shown input.new; output = K.shown output.new; clock = C.moments clock.new })
-        (H.shown host.old) (H.shown host.new) (record { faults = P.faults spawner.old; served = P.served spawner.old }) (record { faults = P.faults spawner.new; served = P.served spawner.new })
+        (record { connections = H.shown host.old; sockets = G.shown socket_host.old }) (record { connections = H.shown host.new; sockets = G.shown socket_host.new })
+        (record { faults = P.faults spawner.old; served = P.served spawner.old }) (record { faults = P.faults spawner.new; served = P.served spawner.new })
         (O.shown opener.old) (O.shown opener.new) (map string_bytes words.now) result }
     ensures files { (O.shown opener.new).files ≡ (O.shown opener.old).files }
     ensures once { (O.shown opener.new).loads ≤ (O.shown opener.old).loads + 1 }
@@ -51,7 +55,16 @@ pub fn run_program<
         return Status::NoMemory;
     };
     match listen_in(command) {
-        Some(asked) => listen(alloc, runtime, &asked, opener, host, spawner, *clock),
+        Some(asked) => listen(
+            alloc,
+            runtime,
+            &asked,
+            opener,
+            host,
+            socket_host,
+            spawner,
+            *clock,
+        ),
         None => run(alloc, command, opener, input, output, clock),
     }
 }

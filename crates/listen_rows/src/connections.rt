@@ -21,8 +21,13 @@ pub fn connections_of(alloc: Global, items: &[Tree]) -> Result<Vec<MemConnection
 
 /// The numbers of the calls that are to fail, which may be absent.
 pub fn failing(alloc: Global, asked: &Tree) -> Result<Vec<u64>, AllocError> {
+    failing_at(alloc, asked, "failing")
+}
+
+/// The numbers of the calls at a key that are to fail, which may be absent.
+pub fn failing_at(alloc: Global, asked: &Tree, key: &str) -> Result<Vec<u64>, AllocError> {
     let mut numbers = Vec::new(alloc);
-    for item in asked.list_at("failing").unwrap_or(&[]) {
+    for item in asked.list_at(key).unwrap_or(&[]) {
         if let Tree::Whole(number) = item {
             numbers.push(u64::try_from(number.get()).unwrap_or(u64::MAX))?;
         }

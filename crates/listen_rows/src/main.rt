@@ -5,6 +5,7 @@ mod connections;
 mod gated;
 mod meeting;
 mod sites;
+mod sockets;
 mod workers;
 
 use io_edge::memory_opener::MemOpener;

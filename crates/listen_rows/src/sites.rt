@@ -1,4 +1,4 @@
-//! Runs of `listen` over a host in memory.
+//! Runs of `listen` over hosts in memory.
 ghost use Rattle.std.specs.Prelude.{◌≡◌, ◌≤◌, All, IfOk, length};
 ghost use Rattle.account_desk.specs.FreshDesk.{account_rules};
 ghost use Rattle.account_desk.specs.SharedDesk.{shown_by_passes};
@@ -7,6 +7,7 @@ ghost use Rattle.jmapd_listen.specs.Listens.{IsUnused};
 use crate::connections::{connections_of, failing, tell_output};
 use crate::gated::{GatedLock, gated_accounts};
 use crate::meeting::Meeting;
+use crate::sockets::{socket_host, tell_socket};
 use account_desk::shared_desk::SharedDesk;
 use command_line::command::{Command, read_command};
 use io_edge::memory_clock::StillClock;
@@ -29,6 +30,7 @@ use std::alloc::{AllocError, Global};
 use std::fmt::Write;
 use std::sync::{Arc, Wait};
 use std::thread::Threads;
+use ws_edge::memory_socket_host::MemSocketHost;
 
 /// 2024-01-01T00:00:00Z.
 const CLOCK: StillClock = StillClock {
@@ -38,9 +40,9 @@ const CLOCK: StillClock = StillClock {
 /// The most workers of a row.
 const MAX_WORKERS: u32 = 16;
 
-/// How a run of the `words` ended, whether calls on two accounts missed each other where they were to meet, and what was written of the connections of each worker.
+/// How a run of the `words` ended, whether calls on two accounts missed each other where they were to meet, and what was written of the connections and sent on the sockets of each worker.
 ///
-/// `input` has the connections of each worker, `failing` the calls of the host that fail, `threads` is for real threads, and `meets` for calls on two accounts that wait
+/// `input` has the connections of each worker, `failing` the calls of their host that fail, `sockets` and `failing_sockets` the same of sockets, `threads` is for real threads, and `meets` for calls on two accounts that wait
 /// for one another.
 pub fn told<R: Threads + Wait + Copy + Send + Drop + 'static>(
     rt: R,
@@ -60,6 +62,9 @@ pub fn told<R: Threads + Wait + Copy + Send + Drop + 'static>(
         waiting.push(connections_of(alloc, items.items())?)?;
     }
     let mut host = MemHost::new(alloc, rt, waiting, failing(alloc, asked)?)?;
+    let Some(mut sockets) = socket_host(rt, alloc, asked)? else {
+        return Ok(None);
+    };
     let meeting = Arc::new(alloc, Meeting::new())?;
     let entered = if asked.truth_at("meets") == Some(true) {
         Some(&meeting)
@@ -74,6 +79,7 @@ pub fn told<R: Threads + Wait + Copy + Send + Drop + 'static>(
             &words,
             &mut opener,
             &mut host,
+            &mut sockets,
             &mut spawner,
             entered,
         )?
@@ -85,13 +91,14 @@ pub fn told<R: Threads + Wait + Copy + Send + Drop + 'static>(
             &words,
             &mut opener,
             &mut host,
+            &mut sockets,
             &mut spawner,
             entered,
         )?
     };
     let missed = if meeting.was_missed() { ", missed" } else { "" };
     let mut told = format!(in alloc; "{status:?}{missed}")?;
-    tell_outputs(alloc, &mut told, &host)?;
+    tell_outputs(alloc, &mut told, &host, &sockets)?;
     Ok(Some(told))
 }
 
@@ -102,12 +109,13 @@ fn run<R: Threads + Wait + Copy + Send + Drop + 'static, S: Spawner>(
     words: &[String],
     opener: &mut MemOpener,
     host: &mut MemHost<R>,
+    sockets: &mut MemSocketHost<R>,
     spawner: &mut S,
     entered: Option<&Arc<Meeting>>,
 ) -> Result<Status, AllocError> {
     let mut clock = CLOCK;
     match entered {
-        Some(meeting) => run_gated(rt, alloc, words, opener, host, spawner, meeting),
+        Some(meeting) => run_gated(rt, alloc, words, opener, host, sockets, spawner, meeting),
         None => Ok(run_program(
             alloc,
             rt,
@@ -117,6 +125,7 @@ fn run<R: Threads + Wait + Copy + Send + Drop + 'static, S: Spawner>(
             &mut MemSink::new(alloc, Vec::new(alloc)),
             &mut clock,
             host,
+            sockets,
             spawner,
         )),
     }
@@ -129,6 +138,7 @@ fn run_gated<R: Threads + Wait + Copy + Send + Drop + 'static, S: Spawner>(
     words: &[String],
     opener: &mut MemOpener,
     host: &mut MemHost<R>,
+    sockets: &mut MemSocketHost<R>,
     spawner: &mut S,
     meeting: &Arc<Meeting>,
 ) -> Result<Status, AllocError> {
@@ -139,8 +149,8 @@ fn run_gated<R: Threads + Wait + Copy + Send + Drop + 'static, S: Spawner>(
         Ok(site) => site,
         Err(status) => return Ok(status),
     };
-    let desks = gated_desks(alloc, rt, &site, meeting, asked.workers)?;
-    Ok(serve_site(alloc, &asked, site, desks, host, spawner, CLOCK))
+    let desks = gated_desks(alloc, rt, &site, meeting, asked.all_workers())?;
+    Ok(serve_site(alloc, &asked, site, desks, host, sockets, spawner, CLOCK))
 }
 
 /// A desk for each worker, over fresh accounts of a site whose calls enter a meeting.
@@ -158,16 +168,25 @@ fn gated_desks<R: Wait + Copy + Drop>(
     open_desks(alloc, rt, gated_accounts(alloc, site, meeting)?, workers)
 }
 
-/// Tells what was written of the connections, those of worker 0 first.
+/// Tells what was written of the connections, and then what was sent on the sockets, those of worker 0 first.
 fn tell_outputs<R: Wait + Copy + Send + Drop + 'static>(
     alloc: Global,
     told: &mut String,
     host: &MemHost<R>,
+    sockets: &MemSocketHost<R>,
 ) -> Result<(), AllocError> {
     for worker in 0..MAX_WORKERS {
         for _ in 0..u64::MAX {
             match host.take_output(worker) {
                 Some(output) => tell_output(alloc, told, worker, &output)?,
+                None => break,
+            }
+        }
+    }
+    for worker in 0..MAX_WORKERS {
+        for _ in 0..u64::MAX {
+            match sockets.take_link(worker) {
+                Some(shelved) => tell_socket(alloc, told, &shelved)?,
                 None => break,
             }
         }

@@ -9,16 +9,21 @@ use Rattle.std.specs.Prelude.{All, option_map, slice_index_or}
 use mathlib.Core.Logic.{dite}
 use native.Mathlib.Decide.{ℕ_discrete}
 use Rattle.account_lock.specs.Lock.{IsTicketLock, PassView, TicketLock}
+use Rattle.listen_edge.specs.declared.job.WorkerDone.{WorkerDone}
 use Rattle.listen_workers.proofs.ChainLemmas.{workers_stand}
 use Rattle.listen_workers.proofs.HandLemmas.{some_at}
 use Rattle.listen_workers.specs.Joined.{ArePassesOf, HistoriesAreOfCalls, IsOfCalls, ShareAccount}
-use Rattle.listen_workers.specs.Working.{EndedWorker, fronts_of}
+use Rattle.listen_workers.specs.Posts.{EndedWorker, PostShown, WorksAt, connections, fronts_at, fronts_of, sockets}
+use Rattle.listen_workers.specs.SocketWork.{socket_tools}
+use Rattle.listen_workers.specs.Working.{Tools}
 use Rattle.spec_batch.proofs.Chains.{summaries_join}
 use Rattle.spec_batch.specs.Chain.{Made, Rules, Shown, Summary, SummaryOn, front_of, on}
 use Rattle.spec_history.specs.Base.{Base}
 use Rattle.spec_history.specs.Signed.{written_by}
 use Rattle.spec_history.specs.declared.entry.Entry.{Entry}
 use Rattle.spec_site.specs.Configuration.{Site}
+use Rattle.ws_serve.proofs.ChainLemmas.{hosts_stand}
+use Rattle.ws_serve.specs.declared.host.HostEnd.TheVariants as end
 
 -- ---- what others added behind what a desk knows
 
@@ -55,23 +60,32 @@ in_history s t made m k rest others =
 
 -- ---- the calls of a worker
 
-module _ {site : Site} {connections : ℕ} where
-  abbrev calls_of : EndedWorker site connections → List Made
-  calls_of w = (workers_stand site connections w.listener w.listener' w.tools w.tools' w.done w.works).0
+module _ {site : Site} {most : ℕ} where
+  stand_at : (p p' : PostShown) (t u : Tools) (done : WorkerDone) (w : WorksAt site most p p' t u done) → (made : List Made) × Summary t.desk u.desk made × (map front_of made ≡ fronts_at p p' w)
+  stand_at (connections l) (connections l') t u done w = (let s = workers_stand site most l l' t u done w in (s.0, s.1, s.2))
+  stand_at (sockets a) (sockets a') t u done w = (let s = hosts_stand site done.served a a' (socket_tools t) (socket_tools u) end.All w.hosts in (s.0, s.1, s.2))
+  stand_at (connections l) (sockets a') t u done w = absurd w
+  stand_at (sockets a) (connections l') t u done w = absurd w
 
-  calls_stand : (w : EndedWorker site connections) → Summary w.tools.desk w.tools'.desk (calls_of w)
-  calls_stand w = (workers_stand site connections w.listener w.listener' w.tools w.tools' w.done w.works).1
+  abbrev stand : (w : EndedWorker site most) → (made : List Made) × Summary w.tools.desk w.tools'.desk made × (map front_of made ≡ fronts_of w)
+  stand w = stand_at w.post w.post' w.tools w.tools' w.done w.works
 
-  fronts_are : (ws : List (EndedWorker site connections)) → AllZip (λ (w : EndedWorker site connections) (made : List Made). map front_of made ≡ fronts_of w) ws (map calls_of ws)
+  abbrev calls_of : EndedWorker site most → List Made
+  calls_of w = (stand w).0
+
+  calls_stand : (w : EndedWorker site most) → Summary w.tools.desk w.tools'.desk (calls_of w)
+  calls_stand w = (stand w).1
+
+  fronts_are : (ws : List (EndedWorker site most)) → AllZip (λ (w : EndedWorker site most) (made : List Made). map front_of made ≡ fronts_of w) ws (map calls_of ws)
   fronts_are [] = tt
-  fronts_are (w ∷ ws) = ((workers_stand site connections w.listener w.listener' w.tools w.tools' w.done w.works).2, fronts_are ws)
+  fronts_are (w ∷ ws) = ((stand w).2, fronts_are ws)
 
 -- ---- one lock
 
 no_more : (xs ys : List Entry) → xs ≡ xs ++ ys → ys ≡ []
 no_more xs ys e = append_cancel_left xs ys [] (sym e ∙ sym (append-nil xs))
 
-module _ {site : Site} {connections : ℕ} (workers : List (EndedWorker site connections)) (k : ℕ) (rules : Rules) (base : Base) (opened : List Entry) {B : Type 0} (entries : B → List Entry) (base_of : B → Base)
+module _ {site : Site} {most : ℕ} (workers : List (EndedWorker site most)) (k : ℕ) (rules : Rules) (base : Base) (opened : List Entry) {B : Type 0} (entries : B → List Entry) (base_of : B → Base)
     (l : TicketLock B) (lock : IsTicketLock entries base_of opened base l) (share : ShareAccount workers k rules base opened) (passes : ArePassesOf workers k l.views) where
   -- behind what a pass has seen come entries of others
   pass_missed : (v : PassView) (n : ℕ) → slice_get l.views n ≡ Some v → (rest : List Entry) × (lock.history ≡ v.seen ++ rest) × (written_by v.number rest ≡ [])
@@ -84,7 +98,7 @@ module _ {site : Site} {connections : ℕ} (workers : List (EndedWorker site con
       s.2 ∙ (sym (lock.mine n v at) ∙ (ap (written_by v.number) added ∙ filter-append (λ (e : Entry). e.author == v.number) s.0 rest)) in
       (rest, s.3.1, no_more (written_by v.number s.0) (written_by v.number rest) own)
 
-  of_worker : (n : ℕ) (w : EndedWorker site connections) → slice_get workers n ≡ Some w → (last : ℕ) × SummaryOn rules base n opened lock.history 0 last (on k (calls_of w))
+  of_worker : (n : ℕ) (w : EndedWorker site most) → slice_get workers n ≡ Some w → (last : ℕ) × SummaryOn rules base n opened lock.history 0 last (on k (calls_of w))
   of_worker n w at =
       let s = w.tools.desk in
       let t = w.tools'.desk in
@@ -135,5 +149,5 @@ module _ {site : Site} {connections : ℕ} (workers : List (EndedWorker site con
           subst (λ (ms : List Made). (last : ℕ) × SummaryOn rules base n opened lock.history 0 last ms) (sym (same_Some made (on k (calls_of w.0)) here)) (of_worker n w.0 w.1)
 
 pub histories_are_of_calls : {B : Type 0} (entries : B → List Entry) (base_of : B → Base) → HistoriesAreOfCalls entries base_of
-histories_are_of_calls entries base_of site connections workers =
+histories_are_of_calls entries base_of site most workers =
     (map calls_of workers, fronts_are workers, λ k rules base opened l lock share passes. of_calls workers k rules base opened entries base_of l lock share passes)

@@ -5,3 +5,4 @@ pub mod CrewLemmas
 pub mod ListenerLemmas
 pub mod HandLemmas
 pub mod PassLemmas
+pub mod SocketWorkLemmas

@@ -1,6 +1,9 @@
 pub mod Chained
 pub mod Joined
 pub mod Working
+pub mod SocketWork
+pub mod Posts
+pub mod PostsShown
 pub mod Crew
 pub mod Listeners
 pub mod Passes

@@ -1,12 +1,11 @@
 -- What a worker does, whatever bytes come on its connections and whatever others do meanwhile.
-use Rattle.std.specs.Prelude.{◌≡◌, ℕ, ℤ, ◌*◌, ◌<◌, ◌≤◌, ◌++◌, List, [], ◌∷◌, Option, flat_map, length, map, option_map}
+use Rattle.std.specs.Prelude.{◌≡◌, ℕ, ℤ, ◌*◌, ◌<◌, ◌≤◌, ◌++◌, List, [], ◌∷◌, Option, length, map, option_map}
 use Rattle.io_edge.specs.Outside.{Rose, SinkShown, SourceShown}
 use Rattle.listen_edge.specs.Listening.{Connection, Connections, ListenerShown, Returned}
 use Rattle.listen_edge.specs.declared.job.WorkerDone.{WorkerDone}
 use Rattle.listen_edge.specs.declared.job.WorkerEnd.{WorkerEnd}
 use Rattle.listen_edge.specs.declared.job.WorkerEnd.TheVariants.{AcceptFault, All, PassSpent}
 use Rattle.spec_batch.specs.Chain.{Shown}
-use Rattle.spec_batch.specs.declared.desk.Front.{Front}
 use Rattle.spec_connection.specs.Serving.{Serves, Setting}
 use Rattle.spec_connection.specs.declared.served.TheConstants.{MAX_MESSAGES}
 use Rattle.spec_core.specs.declared.limits.TheConstants.{MAX_CALLS_IN_REQUEST}
@@ -54,16 +53,3 @@ pub record Works (site : Site) (connections : ℕ) (l l' : ListenerShown) (t u :
   pub serves : ServesEach site t u visits
   pub later : l.faults ≤ l'.faults
   pub how : WorkerHow connections l l' u done.served done.end
-
--- a worker that ended: what is shown of its listener, and of its clock and desk, before and after
-pub record EndedWorker (site : Site) (connections : ℕ) : Type 0 where
-  pub listener : ListenerShown
-  pub listener' : ListenerShown
-  pub tools : Tools
-  pub tools' : Tools
-  pub done : WorkerDone
-  pub works : Works site connections listener listener' tools tools' done
-
--- the fronts of its connections, joined in order
-abbrev pub fronts_of : {site : Site} {connections : ℕ} → EndedWorker site connections → List Front
-fronts_of w = flat_map (λ v. v.back.served.fronts.items) w.works.visits

@@ -17,7 +17,7 @@ pub fn workers_stand_in_histories()
 {}
 
 /// Once all workers have ended that share accounts, the history of each account is what it was opened with and then the entries of exactly the calls of all
-/// their connections, each once, in an order that keeps each worker's own: in each state of the account's lock in which its passes are those that the workers left.
+/// their connections and all their sockets, each once, in an order that keeps each worker's own: in each state of the account's lock in which its passes are those that the workers left.
 pub fn histories_are_of_calls<B: Book>()
     ensures { HistoriesAreOfCalls B.entries B.base }
 {}

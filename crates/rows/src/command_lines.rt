@@ -63,6 +63,35 @@ fn listen_names_a_configuration_and_a_port(rt: HostRuntime) -> Result<(), Fail> 
 }
 
 #[test]
+fn listen_may_serve_sockets_beside(rt: HostRuntime) -> Result<(), Fail> {
+    for (line, wanted) in [
+        ("listen --config c --port 80", None),
+        (
+            "listen --config c --port 80 --sockets-port 81",
+            Some((81, 64)),
+        ),
+        (
+            "listen --config c --port 80 --sockets-port=65535 --socket-workers 240",
+            Some((65535, 240)),
+        ),
+        (
+            "listen --config c --port 80 --workers 1 --socket-workers 255 --sockets-port 1",
+            Some((1, 255)),
+        ),
+    ] {
+        let words = words_of(rt.alloc(), line)?;
+        match read_command(rt.alloc(), &words)? {
+            Some(Command::Listen(asked)) => {
+                let sockets = asked.sockets.map(|crew| (crew.port, crew.workers));
+                assert_eq!(rt; sockets, wanted, "at {line}");
+            }
+            _ => assert!(rt; false, "at {line}"),
+        }
+    }
+    Ok(())
+}
+
+#[test]
 fn other_words_ask_for_nothing(rt: HostRuntime) -> Result<(), Fail> {
     assert!(rt; read_command(rt.alloc(), &[])?.is_none());
     for line in [
@@ -71,6 +100,13 @@ fn other_words_ask_for_nothing(rt: HostRuntime) -> Result<(), Fail> {
         "listen --config c",
         "listen --config c --port 0",
         "listen --config c --port 80 --workers 256",
+        "listen --config c --port 80 --sockets-port 80",
+        "listen --config c --port 80 --sockets-port 0",
+        "listen --config c --port 80 --sockets-port 81 --socket-workers 0",
+        "listen --config c --port 80 --sockets-port 81 --socket-workers 241",
+        "listen --config c --port 80 --workers 193 --sockets-port 81",
+        "listen --config c --port 80 --socket-workers 1",
+        "stdio --config c --sockets-port 81",
         "Batch",
         "jmapd batch",
         "batch more",

@@ -1,5 +1,5 @@
 //! What hands out links over TCP.
-ghost use Rattle.std.specs.Prelude.{◌≡◌, ◌≤◌, ◌<◌, None, IfErr, IfOk, IfSome, length};
+ghost use Rattle.std.specs.Prelude.{◌≡◌, ◌≤◌, ◌<◌, None, IfSome, length};
 ghost use Rattle.io_edge.specs.Outside.{Rose};
 
 use crate::accept::WsAccept;
@@ -54,6 +54,19 @@ impl<R: Net + Clock + Copy + Drop> TcpAccept<R> {
         }
     }
 
+    /// Makes one over a listening socket, whose port is open. Takes no memory.
+    pub(crate) fn listening(alloc: Global, runtime: R, listener: R::Listener) -> TcpAccept<R>
+        ensures { (result.faults ≡ 0) × (result.asked ≡ 0) }
+    {
+        TcpAccept {
+            alloc,
+            runtime,
+            listener: Some(listener),
+            asked: 0,
+            faults: 0,
+        }
+    }
+
     fn fail(&mut self) -> LinkError
         ensures later { self.old.faults ≤ self.new.faults }
         ensures failed { Rose self.old.faults self.new.faults }
@@ -79,25 +92,20 @@ impl<R: Net + Clock + Copy + Drop> TcpAccept<R> {
         None
     }
 
-    // The handshake on a connection.
-    fn shake_hands(
-        &self,
-        stream: R::Stream,
-        site: &Site,
-    ) -> Result<Option<(u32, TcpLink<R>)>, LinkError>
-        ensures user { IfOk result (λ found. IfSome found (λ pair. pair.0 < length site.now.users)) }
-        ensures memory { IfErr result (λ error. error ≡ LinkError.NoMemory) }
+    // The handshake on a connection. One that finds no memory ends alone.
+    fn shake_hands(&self, stream: R::Stream, site: &Site) -> Option<(u32, TcpLink<R>)>
+        ensures { IfSome result (λ pair. pair.0 < length site.now.users) }
     {
         let patience = Duration::from_secs(HANDSHAKE_SECONDS);
         let Ok(end) = TcpEnd::until(stream, self.runtime, patience) else {
-            return Ok(None);
+            return None;
         };
-        let Some((user, mut end)) = shake_hands(self.alloc, end, site)? else {
-            return Ok(None);
+        let Ok(Some((user, mut end))) = shake_hands(self.alloc, end, site) else {
+            return None;
         };
         match end.wait_at_each_call(Duration::from_millis(PATIENCE_MILLISECONDS)) {
-            Ok(()) => Ok(Some((user, SocketLink::new(self.alloc, end)))),
-            Err(_) => Ok(None),
+            Ok(()) => Some((user, SocketLink::new(self.alloc, end))),
+            Err(_) => None,
         }
     }
 }
@@ -132,7 +140,7 @@ impl<R: Net + Clock + Copy + Drop> WsAccept for TcpAccept<R> {
         let Some(stream) = self.next_stream() else {
             return Err(self.fail());
         };
-        let found = self.shake_hands(stream, site)?;
+        let found = self.shake_hands(stream, site);
         self.asked = self.asked.saturating_add(1);
         Ok(found)
     }

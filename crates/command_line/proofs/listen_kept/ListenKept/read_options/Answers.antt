@@ -10,5 +10,5 @@ pub returns : goal.returns
 returns c =
     let found = rw c.in-Some.is at c.in_ok-matches.ensures.taken in
     c.with.ensures
-    ∙ listen_kept_found (app_of c.in_ok-command.command) _ c.in-Some.matches _ _ _ _ _ _ _ c.in_ok-command.ensures found.0 found.1 c.with-listen.ensures c.get_str.ensures c.get_str-2.ensures c.get_str-3.ensures c.get_str-4.ensures
-    c.get_str-5.ensures c.get_str-6.ensures
+    ∙ listen_kept_found (app_of c.in_ok-command.command) _ c.in-Some.matches _ _ _ _ _ _ _ _ _ c.in_ok-command.ensures found.0 found.1 c.with-listen.ensures c.get_str.ensures c.get_str-2.ensures c.get_str-3.ensures c.get_str-4.ensures
+    c.get_str-5.ensures c.get_str-6.ensures c.get_str-7.ensures c.get_str-8.ensures
