@@ -70,6 +70,8 @@ class Site:
         for it in [self.folder, *(self.folder / "page").rglob("*"), self.folder / "page"]:
             it.chmod(0o755)
         values = {"FOLDER": str(folder), "PAGE": str(self.folder / "page"), "JMAPD_PORT": str(self.port), "TLS_PORT": str(self.tls_port)}
+        # The page opens no WebSocket.
+        values["SOCKETS_PORT"] = values["JMAPD_PORT"]
         text = (TOP / "examples/nginx.conf").read_text()
         for name, value in values.items():
             text = text.replace(name, value)
