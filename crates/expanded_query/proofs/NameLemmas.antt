@@ -2,8 +2,6 @@
 use Rattle.std.proofs.Common.{◌≡◌, ◌∙◌, ◌==◌, ◌++◌, ◌&&◌, ℕ, ◌<◌, List, [], ◌∷◌, Bool, true, false, not, nat_lt, Option, Some, None, IsAscii, map, arith, refl, sym, ap, subst}
 use Rattle.std.specs.Prelude.{codes, option_and_then, unwrap_or}
 use Rattle.std.specs.List.{list_all, list_any}
-use Rattle.std.specs.Cmp.Lexicographic.{slice_cmp}
-use Rattle.std.specs.Ordering.{is_lt, nat_cmp}
 use Rattle.std.specs.Str.{bytes_eq}
 use Rattle.std.proofs.lemmas.Bool.{and_from, and_parts}
 use Rattle.std.proofs.lemmas.Bool.Decides.{nat_tests}
@@ -14,8 +12,7 @@ use Rattle.std.proofs.lemmas.Str.{chars-IsAscii}
 use Rattle.std.proofs.lemmas.Str.Ascii.{IsAscii-cons, IsAscii-nil, encode_ascii}
 use Rattle.expanded_query.proofs.TitleLemmas.{lookup_with_other, title_of_members, title_stays}
 use Rattle.expanded_query.specs.OwnTitles.{is_plain_name, is_plain, title_by}
-use Rattle.spec_json.proofs.EditLemmas.{below_unlike, lookup_below, lookup_without, rises_with, rises_without}
-use Rattle.spec_json.proofs.KeyOrder.{same_key}
+use Rattle.spec_json.proofs.EditLemmas.{lookup_below, lookup_with, lookup_without, rises_with, rises_without}
 use Rattle.spec_json.specs.Data.{Data, Pair, null, truth, whole, text, list, object, field, lookup, members_of, pairs_back}
 use Rattle.spec_json.specs.Edit.{with_pair, without}
 use Rattle.spec_json.specs.ObjectKeys.{is_above, keys_rise}
@@ -110,15 +107,6 @@ abbrev told : Option Data → Option Data → List ℕ
 told None old = text_of old
 told (Some v) old = unwrap_or (as_text v) []
 
-put_step : (k : List ℕ) (v : Data) (p : Pair) (ps : List Pair) → lookup k (with_pair k v ps) ≡ Some v → (below same : Bool) → is_lt (slice_cmp nat_cmp p.0 k) ≡ below → bytes_eq p.0 k ≡ same → lookup k (with_pair k v (p ∷ ps)) ≡ Some v
-put_step k v p ps h true same b s = rw (b, below_unlike p.0 k b) h
-put_step k v p ps h false true b s = rw (b, s, same_key k) refl
-put_step k v p ps h false false b s = rw (b, s, same_key k) refl
-
-put_found : (k : List ℕ) (v : Data) (ps : List Pair) → lookup k (with_pair k v ps) ≡ Some v
-put_found k v [] = rw (same_key k) refl
-put_found k v (p ∷ ps) = put_step k v p ps (put_found k v ps) (is_lt (slice_cmp nat_cmp p.0 k)) (bytes_eq p.0 k) refl refl
-
 taken : (k : List ℕ) (ps : List Pair) → keys_rise ps ≡ true → lookup k (without k ps) ≡ None
 taken k [] rise = refl
 taken k (p ∷ ps) rise =
@@ -137,11 +125,11 @@ put_other k (object os) ms h = lookup_with_other k title (object os) ms h
 
 put_title : (v : Data) (ms : List Pair) → keys_rise ms ≡ true → text_of (lookup title (put_or_removed title v ms)) ≡ unwrap_or (as_text v) []
 put_title null ms rise = ap text_of (taken title ms rise)
-put_title (truth b) ms rise = ap text_of (put_found title (truth b) ms)
-put_title (whole z) ms rise = ap text_of (put_found title (whole z) ms)
-put_title (text s) ms rise = ap text_of (put_found title (text s) ms)
-put_title (list ds) ms rise = ap text_of (put_found title (list ds) ms)
-put_title (object os) ms rise = ap text_of (put_found title (object os) ms)
+put_title (truth b) ms rise = ap text_of (lookup_with title (truth b) ms)
+put_title (whole z) ms rise = ap text_of (lookup_with title (whole z) ms)
+put_title (text s) ms rise = ap text_of (lookup_with title (text s) ms)
+put_title (list ds) ms rise = ap text_of (lookup_with title (list ds) ms)
+put_title (object os) ms rise = ap text_of (lookup_with title (object os) ms)
 
 put_rises : (k : List ℕ) (v : Data) (ms : List Pair) → keys_rise ms ≡ true → keys_rise (put_or_removed k v ms) ≡ true
 put_rises k null ms h = rises_without k ms h

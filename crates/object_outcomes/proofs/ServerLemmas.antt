@@ -16,7 +16,7 @@ use Rattle.property_table.specs.Table.{given}
 use Rattle.spec_history.specs.ObjectId.{id_text}
 use Rattle.spec_history.specs.declared.entry.Kind.{Kind}
 use Rattle.spec_history.specs.declared.entry.Kind.TheVariants.{Event}
-use Rattle.spec_json.proofs.EditLemmas.{below_unlike}
+use Rattle.spec_json.proofs.EditLemmas.{lookup_with}
 use Rattle.spec_json.proofs.KeyOrder.{same_key}
 use Rattle.spec_json.specs.Data.{Data, Pair, field, list, lookup, members_of, null, object, pairs_back, text, truth, whole}
 use Rattle.spec_json.specs.Edit.{with_pair}
@@ -42,15 +42,6 @@ text_of_moment m h = ap (λ o. option_map_or is_moment o false) (read_back m (mo
 
 -- Members that are put in.
 
-put_step : (k : List ℕ) (v : Data) (p : Pair) (ps : List Pair) → lookup k (with_pair k v ps) ≡ Some v → (below same : Bool) → is_lt (slice_cmp nat_cmp p.0 k) ≡ below → bytes_eq p.0 k ≡ same → lookup k (with_pair k v (p ∷ ps)) ≡ Some v
-put_step k v p ps h true same b s = rw (b, below_unlike p.0 k b) h
-put_step k v p ps h false true b s = rw (b, s, same_key k) refl
-put_step k v p ps h false false b s = rw (b, s, same_key k) refl
-
-put_found : (k : List ℕ) (v : Data) (ps : List Pair) → lookup k (with_pair k v ps) ≡ Some v
-put_found k v [] = rw (same_key k) refl
-put_found k v (p ∷ ps) = put_step k v p ps (put_found k v ps) (is_lt (slice_cmp nat_cmp p.0 k)) (bytes_eq p.0 k) refl refl
-
 other_step : (j k : List ℕ) (v : Data) (p : Pair) (ps : List Pair) → bytes_eq j k ≡ false → lookup k (with_pair j v ps) ≡ lookup k ps → (below same : Bool) → is_lt (slice_cmp nat_cmp p.0 j) ≡ below → bytes_eq p.0 j ≡ same
     → lookup k (with_pair j v (p ∷ ps)) ≡ lookup k (p ∷ ps)
 other_step j k v p ps h e true same b s = rw (b, e) refl
@@ -64,7 +55,7 @@ other_stays j k v (p ∷ ps) h = other_step j k v p ps h (other_stays j k v ps h
 
 default_by : (k : List ℕ) (v : Data) (ps : List Pair) (found : Bool) → is_some (lookup k ps) ≡ found → is_some (lookup k (if found then ps else with_pair k v ps)) ≡ true
 default_by k v ps true e = e
-default_by k v ps false e = ap is_some (put_found k v ps)
+default_by k v ps false e = ap is_some (lookup_with k v ps)
 
 default_found : (k : List ℕ) (v : Data) (ps : List Pair) → is_some (lookup k (with_default k v ps)) ≡ true
 default_found k v ps = default_by k v ps (is_some (lookup k ps)) refl
@@ -151,7 +142,7 @@ text_in key ps v h = ap (λ qs. option_and_then as_text (lookup key qs)) (pairs_
 -- an object has the id that is put in it
 pub own_id_stands : (kind : Kind) (n : ℕ) (ps : List Pair) → has_own_id kind n (with_own_id kind n ps) ≡ true
 own_id_stands kind n ps =
-    ap (λ o. option_map_or (λ s. bytes_eq s (id_text kind n)) o false) (text_in (codes "id") (with_pair (codes "id") (text (id_text kind n)) ps) (text (id_text kind n)) (put_found (codes "id") (text (id_text kind n)) ps))
+    ap (λ o. option_map_or (λ s. bytes_eq s (id_text kind n)) o false) (text_in (codes "id") (with_pair (codes "id") (text (id_text kind n)) ps) (text (id_text kind n)) (lookup_with (codes "id") (text (id_text kind n)) ps))
     ∙ same_key (id_text kind n)
 
 module _ (account : List ℕ) (m : ℤ) (n : ℕ) (before : Option Tree) (ps : List Pair) (moment : IsMoment m) (form : has_stored_form Event n before ≡ true) where
@@ -176,13 +167,13 @@ module _ (account : List ℕ) (m : ℤ) (n : ℕ) (before : Option Tree) (ps : L
   id_found : lookup (codes "id") all ≡ Some (text (id_text Event n))
   id_found =
       stays (codes "id") refl refl ∙ other_stays (codes "updated") (codes "id") (text (utc_text m)) dated refl ∙ other_stays (codes "created") (codes "id") (moment_created m before) named refl
-      ∙ put_found (codes "id") (text (id_text Event n)) (given ps)
+      ∙ lookup_with (codes "id") (text (id_text Event n)) (given ps)
 
   created_found : lookup (codes "created") all ≡ Some (moment_created m before)
-  created_found = stays (codes "created") refl refl ∙ other_stays (codes "updated") (codes "created") (text (utc_text m)) dated refl ∙ put_found (codes "created") (moment_created m before) named
+  created_found = stays (codes "created") refl refl ∙ other_stays (codes "updated") (codes "created") (text (utc_text m)) dated refl ∙ lookup_with (codes "created") (moment_created m before) named
 
   updated_found : lookup (codes "updated") all ≡ Some (text (utc_text m))
-  updated_found = stays (codes "updated") refl refl ∙ put_found (codes "updated") (text (utc_text m)) dated
+  updated_found = stays (codes "updated") refl refl ∙ lookup_with (codes "updated") (text (utc_text m)) dated
 
   type_found : is_some (lookup (codes "@type") all) ≡ true
   type_found = ap is_some (default_other (codes "uid") (codes "@type") (text (supplied_uid account n)) typed refl) ∙ default_found (codes "@type") (text (codes "Event")) set

@@ -1,5 +1,5 @@
 -- Objects with a member put in or taken out: their keys stay in order, other keys keep their values, and what was taken out may be put in again.
-use Rattle.std.proofs.Common.{◌≡◌, ℕ, List, [], ◌∷◌, Bool, true, false, None, if◌then◌else◌, refl, sym, ap, ◌∙◌, Ordering, Less, Equal, Greater}
+use Rattle.std.proofs.Common.{◌≡◌, ℕ, List, [], ◌∷◌, Bool, true, false, Some, None, if◌then◌else◌, refl, sym, ap, ◌∙◌, Ordering, Less, Equal, Greater}
 use Rattle.std.proofs.lemmas.Bool.{and_from, and_parts}
 use Rattle.std.proofs.lemmas.Cmp.{nat_list_cmp_total}
 use Rattle.std.proofs.lemmas.Map.Text.{is_eq-slice_cmp}
@@ -7,7 +7,7 @@ use Rattle.std.proofs.lemmas.Slice.Eq.{bytes_eq-Decides}
 use Rattle.std.specs.Cmp.Lexicographic.{slice_cmp}
 use Rattle.std.specs.Ordering.{nat_cmp, is_lt, is_eq, ordering_reverse}
 use Rattle.std.specs.Str.{bytes_eq}
-use Rattle.spec_json.proofs.KeyOrder.{above_later}
+use Rattle.spec_json.proofs.KeyOrder.{above_later, same_key}
 use Rattle.spec_json.specs.Data.{Data, Pair, lookup}
 use Rattle.spec_json.specs.Edit.{with_pair, without}
 use Rattle.spec_json.specs.ObjectKeys.{is_above, keys_rise}
@@ -134,3 +134,13 @@ other_key j k p ps h e false s = rw (s, e) refl
 pub lookup_without : (j k : List ℕ) (ps : List Pair) → bytes_eq j k ≡ false → lookup k (without j ps) ≡ lookup k ps
 lookup_without j k [] h = refl
 lookup_without j k (p ∷ ps) h = other_key j k p ps h (lookup_without j k ps h) (bytes_eq p.0 j) refl
+
+with_step : (k : List ℕ) (v : Data) (p : Pair) (ps : List Pair) → lookup k (with_pair k v ps) ≡ Some v → (below same : Bool) → is_lt (slice_cmp nat_cmp p.0 k) ≡ below → bytes_eq p.0 k ≡ same → lookup k (with_pair k v (p ∷ ps)) ≡ Some v
+with_step k v p ps h true same b s = rw (b, below_unlike p.0 k b) h
+with_step k v p ps h false true b s = rw (b, s, same_key k) refl
+with_step k v p ps h false false b s = rw (b, s, same_key k) refl
+
+-- what is put in is found
+pub lookup_with : (k : List ℕ) (v : Data) (ps : List Pair) → lookup k (with_pair k v ps) ≡ Some v
+lookup_with k v [] = rw (same_key k) refl
+lookup_with k v (p ∷ ps) = with_step k v p ps (lookup_with k v ps) (is_lt (slice_cmp nat_cmp p.0 k)) (bytes_eq p.0 k) refl refl
