@@ -2,20 +2,25 @@
 
 use std::hint::spin_loop;
 use std::sync::{Mutex, MutexGuard, Wait};
+use std::thread;
 
 /// How often the first of those who wait looks whether the door is open before it sleeps: some 200 microseconds, longer than most calls take.
 const LOOKS_AWAKE: u32 = 4_000;
 
-/// Goes through a door, which is open where nobody has it. Of those who wait one is first, and looks for a while; the others sleep until they are.
+/// How often the second looks whether it is the first before it sleeps: a call or two, where the processors have nothing else to do.
+const LOOKS_BEHIND: u32 = 400;
+
+/// Goes through a door, which is open where nobody has it. Of those who wait the first looks for a while, and the second whether it is the first, since to wake takes about as long as a call; the others sleep until they are.
 pub(crate) fn go_through<'a, R: Wait>(
     rt: &R,
     door: &'a Mutex<()>,
     first: &Mutex<()>,
+    second: &Mutex<()>,
 ) -> MutexGuard<'a, ()> {
     if let Some(inside) = door.try_lock() {
         return inside;
     }
-    let _first = first.lock(rt);
+    let _first = be_first(rt, first, second);
     for _ in 0..LOOKS_AWAKE {
         if let Some(inside) = door.try_lock() {
             return inside;
@@ -23,4 +28,20 @@ pub(crate) fn go_through<'a, R: Wait>(
         spin_loop();
     }
     door.lock(rt)
+}
+
+// Waits until this is the first of those who wait.
+fn be_first<'a, R: Wait>(
+    rt: &R,
+    first: &'a Mutex<()>,
+    second: &Mutex<()>,
+) -> MutexGuard<'a, ()> {
+    let _second = second.lock(rt);
+    for _ in 0..LOOKS_BEHIND {
+        if let Some(is_first) = first.try_lock() {
+            return is_first;
+        }
+        thread::yield_now();
+    }
+    first.lock(rt)
 }

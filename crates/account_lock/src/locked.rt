@@ -46,6 +46,8 @@ pub struct Locked<B: Book> {
     door: Mutex<()>,
     // Who goes in next has it.
     first: Mutex<()>,
+    // Who goes in behind that one has it.
+    second: Mutex<()>,
 }
 
 impl<B: Book> Model for Locked<B> {
@@ -80,7 +82,14 @@ impl<B: Book> Locked<B> {
         all.insert(0, pass_of(seat, 0))?;
         let door = Mutex::new(());
         let first = Mutex::new(());
-        Ok((Locked { table, door, first }, all))
+        let second = Mutex::new(());
+        let lock = Locked {
+            table,
+            door,
+            first,
+            second,
+        };
+        Ok((lock, all))
     }
 
     /// Calls the book at a moment, when the pass's turn has come, for which it waits.
@@ -114,7 +123,7 @@ impl<B: Book> Locked<B> {
             turn: pass.turns,
             moment,
         };
-        let _inside = go_through(rt, &self.door, &self.first);
+        let _inside = go_through(rt, &self.door, &self.first, &self.second);
         match serve(rt, &self.table.shared, &mut pass.seat, &stamp, call) {
             Ok(reply) => Ok(reply),
             Err(AllocError) => Err(CallError::NoMemory),
