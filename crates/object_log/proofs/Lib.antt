@@ -1,0 +1,15 @@
+pub mod SlotLemmas
+pub mod WindowLemmas
+pub mod PutLemmas
+pub mod MentionLemmas
+pub mod IdLemmas
+pub mod StandingLemmas
+pub mod SizeLemmas
+pub mod EndLemmas
+pub mod GrowthLemmas
+pub mod LawLemmas
+pub mod NoteLemmas
+pub mod EarlierLemmas
+pub mod NumberLemmas
+pub mod TouchedLemmas
+pub mod HistoryLemmas
