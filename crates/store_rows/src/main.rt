@@ -1,24 +1,24 @@
-//! Tries what orders and keeps objects on the rows of tables: results and changes of queries, tables of versions and journals. Given words, it times one
-//! call of a table or a journal.
+//! Tries what orders and keeps objects on the rows of tables: results and changes of queries, and logs of objects. Given words, it times one
+//! call of a log.
 #![tactic(auto)]
 
+mod logs;
 mod orders;
-mod versions;
 
+use logs::times;
 use row_table::row::Row;
 use row_table::trial::{Trial, try_rows, unless_unrolled};
 use std::alloc::{AllocError, Global};
 use std::{env, io};
-use versions::times;
 
-/// The tables of queries and of versions.
+/// The tables of queries and of logs.
 #[derive(Drop)]
 struct StoreRows;
 
 impl Trial for StoreRows {
     ghost use Rattle.std.specs.Prelude.{◌||◌, bytes_eq, codes};
 
-    ghost knows = { λ name. bytes_eq name (codes "orders") || bytes_eq name (codes "versions") };
+    ghost knows = { λ name. bytes_eq name (codes "orders") || bytes_eq name (codes "logs") };
 
     fn other_than(
         &mut self,
@@ -27,7 +27,7 @@ impl Trial for StoreRows {
         row: &Row,
     ) -> Result<Option<String>, AllocError> {
         match table {
-            "versions" => versions::other_than(alloc, row),
+            "logs" => logs::other_than(alloc, row),
             "orders" => unless_unrolled(alloc, orders::came(alloc, row.asked.as_str())?, row),
             _ => unless_unrolled(alloc, None, row),
         }

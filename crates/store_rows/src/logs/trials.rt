@@ -1,11 +1,12 @@
-//! Random steps, after which tables and journals are compared with the plain programs.
-use crate::versions::journals::{add, page_text, push_ids};
-use crate::versions::plain::{Step, lists_between, live_at, object_at, page_end, sizes_from};
-use crate::versions::words::{number, words_of};
-use spec_history::entry::Kind;
-use state_log::Journal;
+//! Random steps, after which a log is compared with the plain programs.
+use crate::logs::plain::{
+    Step, lists_between, live_at, object_at, page_end, sizes_from, touched_between,
+};
+use crate::logs::steps::is_made;
+use crate::logs::texts::{page_text, push_ids};
+use crate::logs::words::{number, words_of};
+use object_log::{ObjectLog, Put};
 use std::alloc::{AllocError, Global};
-use version_table::Table;
 
 /// A sequence of numbers that depends on its seed alone.
 #[derive(Drop)]
@@ -36,22 +37,32 @@ pub fn differences(alloc: Global, row: &str) -> Result<Option<String>, AllocErro
         return Ok(None);
     };
     let steps = random_steps(alloc, seed, count, ids)?;
-    if let Some(other) = other_table(alloc, &steps, ids)? {
+    let Some(log) = log_of(alloc, &steps)? else {
+        return Ok(Some(String::from_str(alloc, "refused")?));
+    };
+    if let Some(other) = other_objects(alloc, &log, &steps)? {
         return Ok(Some(other));
     }
-    match other_journal(alloc, &steps, ids)? {
+    match other_changes(alloc, &log, &steps, ids)? {
         Some(other) => Ok(Some(other)),
         None => Ok(Some(String::from_str(alloc, "same")?)),
     }
 }
 
-/// Steps of which each makes the next state. One in three removes, be there an object or not.
+/// Steps of which each makes the next state. One in three removes, and of a number of none that has an object the next object is created, or removed at once.
 fn random_steps(alloc: Global, seed: u64, count: u64, ids: u64) -> Result<Vec<Step>, AllocError> {
     let mut numbers = Numbers { last: seed };
     let mut steps = Vec::new(alloc);
+    let mut created: u64 = 0;
     for state in 0..count {
-        let id = numbers.below(ids);
+        let chosen = numbers.below(ids).saturating_add(1);
         let puts = numbers.below(3) > 0;
+        let id = if object_at(&steps, chosen, state).is_some() {
+            chosen
+        } else {
+            created = created.saturating_add(1);
+            created
+        };
         steps.push(Step {
             id,
             state: state + 1,
@@ -61,48 +72,64 @@ fn random_steps(alloc: Global, seed: u64, count: u64, ids: u64) -> Result<Vec<St
     Ok(steps)
 }
 
-fn table_of(alloc: Global, steps: &[Step]) -> Result<Table<u64>, AllocError> {
-    let mut table = Table::new(alloc);
+fn log_of(alloc: Global, steps: &[Step]) -> Result<Option<ObjectLog<u64>>, AllocError> {
+    let mut log = ObjectLog::new(alloc);
     for step in steps {
-        table.reserve(1)?;
-        match step.object {
-            Some(object) => table.put(step.id, step.state, object),
-            None => table.remove(step.id, step.state),
+        let put = Put {
+            id: step.id,
+            object: step.object,
+            size: 1,
+        };
+        if !is_made(&mut log, put)? {
+            return Ok(None);
         }
     }
-    Ok(table)
+    Ok(Some(log))
 }
 
-fn other_table(alloc: Global, steps: &[Step], ids: u64) -> Result<Option<String>, AllocError> {
-    let table = table_of(alloc, steps)?;
+/// The first object that differs at a state, or list of ids.
+fn other_objects(
+    alloc: Global,
+    log: &ObjectLog<u64>,
+    steps: &[Step],
+) -> Result<Option<String>, AllocError> {
     let last = steps.len() as u64;
-    for state in 0..last + 2 {
-        if table.live_at(alloc, state)?.items().as_slice()
-            != live_at(alloc, steps, state)?.as_slice()
-        {
-            return Ok(Some(format!(in alloc; "live_at {state}")?));
+    if log.live_ids(alloc)?.as_slice() != live_at(alloc, steps, last)?.as_slice() {
+        return Ok(Some(String::from_str(alloc, "live")?));
+    }
+    for state in 0..last + 1 {
+        if !log.retained(state) {
+            return Ok(Some(format!(in alloc; "retained {state}")?));
         }
-        for id in 0..ids {
-            if table.get_at(id, state).copied() != object_at(steps, id, state) {
+        for id in 0..log.created().saturating_add(2) {
+            if log.get_at(id, state).copied() != object_at(steps, id, state) {
                 return Ok(Some(format!(in alloc; "get_at {id} {state}")?));
             }
-        }
-    }
-    for id in 0..ids {
-        if table.get(id).copied() != object_at(steps, id, last) {
-            return Ok(Some(format!(in alloc; "get {id}")?));
         }
     }
     Ok(None)
 }
 
-fn journal_of(alloc: Global, steps: &[Step]) -> Result<Journal, AllocError> {
-    let mut journal = Journal::new(alloc);
-    for step in steps {
-        add(&mut journal, Kind::Calendar, step.id, true)?;
-        add(&mut journal, Kind::Event, step.id, step.object.is_some())?;
+/// The first page or list of touched ids from a state that differs.
+fn other_changes(
+    alloc: Global,
+    log: &ObjectLog<u64>,
+    steps: &[Step],
+    ids: u64,
+) -> Result<Option<String>, AllocError> {
+    let last = steps.len() as u64;
+    for since in 0..last + 1 {
+        if log.retained(since) && since <= log.count() {
+            let came = log.touched_between(alloc, since as usize, log.count() as usize)?;
+            if came.as_slice() != touched_between(alloc, steps, since, last)?.as_slice() {
+                return Ok(Some(format!(in alloc; "touched {since}")?));
+            }
+        }
+        if let Some(other) = other_pages(alloc, log, steps, since, ids)? {
+            return Ok(Some(other));
+        }
     }
-    Ok(journal)
+    Ok(None)
 }
 
 /// The page that the plain program makes from a state, as text, where the sizes are those from that state on.
@@ -122,20 +149,10 @@ fn plain_page(
     Ok(text)
 }
 
-fn other_journal(alloc: Global, steps: &[Step], ids: u64) -> Result<Option<String>, AllocError> {
-    let journal = journal_of(alloc, steps)?;
-    for since in 0..steps.len() as u64 + 1 {
-        if let Some(other) = other_pages(alloc, &journal, steps, since, ids)? {
-            return Ok(Some(other));
-        }
-    }
-    Ok(None)
-}
-
 /// The first page from a state that differs, with each maximum up to the number of ids and with none.
 fn other_pages(
     alloc: Global,
-    journal: &Journal,
+    log: &ObjectLog<u64>,
     steps: &[Step],
     since: u64,
     ids: u64,
@@ -143,7 +160,7 @@ fn other_pages(
     let sizes = sizes_from(alloc, steps, since)?;
     for most in 0..ids.saturating_add(1) {
         let max = if most < ids { Some(most) } else { None };
-        let came = page_text(alloc, journal.changes(Kind::Event, since, max))?;
+        let came = page_text(alloc, log.changes(since, max))?;
         if came.as_str() != plain_page(alloc, steps, &sizes, since, max)?.as_str() {
             return Ok(Some(format!(in alloc; "from {since} with {most}: {came}")?));
         }

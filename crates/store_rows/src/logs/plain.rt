@@ -1,4 +1,4 @@
-//! The plain programs: what tables and journals tell, by going over all steps for each question.
+//! The plain programs: what logs tell, by going over all steps for each question.
 use std::alloc::{AllocError, Global};
 
 /// A put of an object that has a number, or a removal.
@@ -111,4 +111,20 @@ pub fn page_end(sizes: &[u64], since: u64, max: Option<u64>) -> u64 {
         }
     }
     end
+}
+
+/// The different ids that steps name behind a state and up to another, in the order of creation.
+pub fn touched_between(
+    alloc: Global,
+    steps: &[Step],
+    since: u64,
+    until: u64,
+) -> Result<Vec<u64>, AllocError> {
+    let mut touched = Vec::new(alloc);
+    for id in &ids_of(alloc, steps)? {
+        if is_touched(steps, *id, since, until) {
+            touched.push(*id)?;
+        }
+    }
+    Ok(touched)
 }

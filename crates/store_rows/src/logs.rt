@@ -1,7 +1,7 @@
-//! Rows of tables of objects with versions, and of journals.
-mod journals;
+//! Rows of logs of objects.
 mod plain;
-mod tables;
+mod steps;
+mod texts;
 pub mod times;
 mod trials;
 mod words;
@@ -29,12 +29,10 @@ pub fn other_than(alloc: Global, row: &Row) -> Result<Option<String>, AllocError
 
 /// What comes of a question, where it can be read.
 ///
-/// `table` and `journal` are followed by steps and a question, `random` by a seed, a number of steps and a number of ids.
+/// `log` is followed by steps and a question, `random` by a seed, a number of steps and a number of ids.
 fn came(alloc: Global, asked: &str) -> Result<Option<String>, AllocError> {
-    if let Some(steps) = asked.strip_prefix("table ") {
-        tables::shown(alloc, steps)
-    } else if let Some(steps) = asked.strip_prefix("journal ") {
-        journals::shown(alloc, steps)
+    if let Some(steps) = asked.strip_prefix("log ") {
+        steps::shown(alloc, steps)
     } else if let Some(numbers) = asked.strip_prefix("random ") {
         trials::differences(alloc, numbers)
     } else {
