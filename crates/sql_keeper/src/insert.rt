@@ -35,14 +35,14 @@ pub(crate) fn insert_all<S: Alter>(
 fn insert<S: Alter>(
     transaction: &mut Transaction<'_, S>,
     insertion: &Statement,
-    place: u32,
+    place: i64,
     text: &KeptText,
 ) -> Result<(), Error> {
     transaction.execute_prepared(
         insertion,
         &[
             ValueRef::Text(text.account().as_bytes()),
-            ValueRef::Int(i64::from(place)),
+            ValueRef::Int(place),
             ValueRef::Blob(text.text()),
         ],
     )?;

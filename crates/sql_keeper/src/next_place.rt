@@ -8,7 +8,7 @@ use std::alloc::Global;
 #[derive(Drop)]
 pub(crate) struct NextPlace {
     account: Text,
-    place: u32,
+    place: i64,
 }
 
 /// Asks the database for the next place of an account, where it isn't known.
@@ -36,7 +36,7 @@ fn is_known(places: &[NextPlace], account: &str) -> bool {
     false
 }
 
-fn next_place<S: Alter>(conn: &mut Connection<S>, account: &str) -> Result<u32, Error> {
+fn next_place<S: Alter>(conn: &mut Connection<S>, account: &str) -> Result<i64, Error> {
     conn.query_row(
         "SELECT COALESCE(MAX(place), -1) + 1 FROM entry WHERE account = ?1",
         params![account],
@@ -45,7 +45,7 @@ fn next_place<S: Alter>(conn: &mut Connection<S>, account: &str) -> Result<u32, 
 }
 
 /// The next place of an account that is known, which is one further from then on.
-pub(crate) fn take_place(places: &mut [NextPlace], account: &str) -> u32 {
+pub(crate) fn take_place(places: &mut [NextPlace], account: &str) -> i64 {
     for next in places {
         if next.account.as_str() == account {
             let place = next.place;

@@ -56,7 +56,7 @@ pub(crate) fn read_all<S: Alter>(
 {
     let mut list = Vec::new(alloc);
     let mut rows = rows_of(conn, reading, account)?;
-    'rows: for place in 0..u32::MAX {
+    'rows: for place in 0..u64::MAX {
         let Some(row) = next_row(&mut rows)? else {
             return Ok(list);
         };
@@ -78,18 +78,22 @@ fn next_row<'a, S: Alter>(rows: &'a mut Rows<'_, S>) -> Result<Option<&'a Row>, 
 }
 
 // A row at another place than the next one: the account has no text there.
-fn take_row(alloc: Global, list: &mut Vec<Entry>, row: &Row, place: u32) -> Result<(), Trouble>
+fn take_row(alloc: Global, list: &mut Vec<Entry>, row: &Row, place: u64) -> Result<(), Trouble>
     ensures { IfErr result (λ t. (place : _) (text : _) → t ≡ Trouble.Text (AnyJournalError.Damaged place text) → IsNoEntryText text.items) }
 {
-    match text_at(row, i64::from(place)) {
+    match text_at(row, place) {
         Some(text) => Ok(take_text(alloc, list, text)?),
-        None => Err(Trouble::Text(missing_text(alloc, u64::from(place)))),
+        None => Err(Trouble::Text(missing_text(alloc, place))),
     }
 }
 
-fn text_at(row: &Row, place: i64) -> Option<&[u8]> {
+fn text_at(row: &Row, place: u64) -> Option<&[u8]> {
     match (row.get_ref(0), row.get_ref(1)) {
-        (Ok(ValueRef::Int(at)), Ok(ValueRef::Blob(text))) if at == place => Some(text),
+        (Ok(ValueRef::Int(at)), Ok(ValueRef::Blob(text))) if is_place(at, place) => Some(text),
         _ => None,
     }
+}
+
+fn is_place(at: i64, place: u64) -> bool {
+    i128::from(at) == i128::from(place)
 }
