@@ -1,6 +1,6 @@
 -- The entries that changes become.
-use Rattle.std.proofs.Common.{◌≡◌, ◌+◌, ℕ, suc, List, [], ◌∷◌, ◌++◌, add-zero, append_assoc, arith, length, refl, sym, ap, ◌∙◌}
-use Rattle.std.proofs.lemmas.List.{map-append}
+use Rattle.std.proofs.Common.{◌≡◌, ◌<◌, ◌+◌, ℕ, suc, get_or, take, List, [], ◌∷◌, ◌++◌, add-zero, append_assoc, arith, length, refl, sym, ap, ◌∙◌}
+use Rattle.std.proofs.lemmas.List.{map-append, take_more}
 use Rattle.std.proofs.lemmas.List.Sums.{sum_by-append}
 use Rattle.account_core.specs.Tally.{Tallies}
 use Rattle.account_core.specs.declared.tally.Tally.{Tally}
@@ -42,3 +42,13 @@ entries_push s (d ∷ cs) n c = ap (λ es. entry_of s n d ∷ es) (entries_push 
 pub entries_more : (h h' h'' : List Entry) (s : Stamp) (cs : List Change) (c : Change) (first part : ℕ) → h' ≡ h ++ entries_from s first cs → part ≡ first + length cs → h'' ≡ h' ++ entry_of s part c ∷ []
     → h'' ≡ h ++ entries_from s first (cs ++ c ∷ [])
 entries_more h h' h'' s cs c first part before number push = push ∙ rw (before, number, append_assoc) (ap (λ es. h ++ es) (sym (entries_push s cs first c)))
+
+-- one change more is copied as an entry
+pub one_copied : (s : Stamp) (cs : List Change) (i : ℕ) (c d : Change) (part : ℕ) (old new : List Entry) → i < length cs → c ≡ get_or cs i c → length (take i cs) ≡ i → part ≡ i → d ≡ c
+    → old ≡ entries_from s 0 (take i cs) → new ≡ old ++ entry_of s part d ∷ [] → new ≡ entries_from s 0 (take (i + 1) cs)
+one_copied s cs i c d part old new there at upto number same before push =
+    let place : part ≡ 0 + length (take i cs) = omega (arith, number, upto) in
+    let entry : entry_of s part d ≡ entry_of s (0 + length (take i cs)) c = λ k. entry_of s (place k) (same k) in
+    let more : take (i + 1) cs ≡ take i cs ++ c ∷ [] = take_more cs i c there ∙ ap (λ (x : Change). take i cs ++ x ∷ []) (sym at) in
+    push ∙ ap (λ (es : List Entry). es ++ entry_of s part d ∷ []) before ∙ ap (λ (e : Entry). entries_from s 0 (take i cs) ++ e ∷ []) entry
+    ∙ sym (entries_push s (take i cs) 0 c) ∙ ap (entries_from s 0) (sym more)

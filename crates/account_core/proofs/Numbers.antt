@@ -1,9 +1,10 @@
 -- Numbers that are given in order.
 use Rattle.std.proofs.lemmas.Bool.{false≢true}
-use Rattle.std.proofs.Common.{◌≡◌, ◌⊎◌, inl, inr, ◌+◌, ◌<◌, ◌==◌, ◌||◌, Bool, true, false, ℕ, zero, suc, List, [], ◌∷◌, ◌++◌, is_some, length, arith, add-zero, add-one, refl, sym, ap, ◌∙◌, max, subst}
+use Rattle.std.proofs.Common.{◌≡◌, ◌⊎◌, inl, inr, ◌+◌, ◌-◌, ◌<◌, ◌≤◌, ◌==◌, ◌||◌, Bool, true, false, ℕ, zero, suc, List, [], ◌∷◌, ◌++◌, is_some, length, arith, add-zero, add-one, refl, sym, ap, ◌∙◌, max, subst}
 use Rattle.std.proofs.lemmas.Bool.Decides.{nat_tests}
 use Rattle.std.proofs.lemmas.List.FromFn.{length-range_with_len}
 use Rattle.std.specs.List.{range_with_len}
+use Rattle.std.specs.Prelude.{nat_le}
 use Rattle.account_rooms.proofs.Changes.{with_known}
 use Rattle.spec_history.specs.History.{ids_at, next_number, live_object, with_id}
 use Rattle.spec_history.specs.Pages.{is_in}
@@ -54,3 +55,7 @@ numbers_counted cs c n h (inr live) =
 -- the next number was not given
 pub new_is_next : (cs : List Change) (n : ℕ) (kind : Kind) → ids_at cs kind ≡ range_with_len 1 n → is_in (ids_at cs kind) (next_number cs kind) ≡ false
 new_is_next cs n kind h = ap (λ ids. is_in ids (next_number cs kind)) h ∙ is_new 1 n (next_number cs kind) (omega (arith, next_is cs n kind h))
+
+-- what fits beside so much
+pub fits_beside : (x p m : ℕ) → x ≤ m → nat_le p (m - x) ≡ nat_le (x + p) m
+fits_beside x p m within = grind (arith, nat_tests)

@@ -6,3 +6,4 @@ pub mod AskedNames
 pub mod Uses
 pub mod Finds
 pub mod Kept
+pub mod Trails

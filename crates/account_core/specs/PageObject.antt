@@ -7,7 +7,7 @@ use Rattle.spec_history.specs.declared.entry.Kind.{Kind}
 use Rattle.spec_json.specs.Data.{text, truth}
 use Rattle.spec_json.specs.declared.tree.Tree.{Tree}
 use Rattle.spec_json.specs.declared.tree.Tree.TheVariants.{Object}
-use Rattle.state_log.specs.declared.page.Page.{Page}
+use Rattle.object_log.specs.declared.page.Page.{Page}
 
 -- the arguments that tell this page, where there are so many changes of the kind
 abbrev pub page_object : Base → Kind → List ℕ → ℕ → Page → Tree

@@ -6,12 +6,13 @@ ghost use Rattle.spec_books.specs.Acting.{Came};
 
 use crate::changes::changes;
 use crate::get::get;
-use crate::keeping::{EntryKeeper, InMemory};
+use crate::keeping::EntryKeeper;
 use crate::ledger::Ledger;
 use crate::opening::{EntriesError, open_at};
 use crate::queries::{availability, query, query_changes};
 use crate::set::set;
 use crate::slots::{find_slot, slot};
+use crate::trail::Trail;
 use resource_book::Room;
 use slot_request::SlotRequest;
 use spec_bookings::clash::Clash;
@@ -32,12 +33,15 @@ use zone_table::Zones;
 #[derive(Drop)]
 pub struct Account {
     ledger: Ledger,
+    /// Copies of what came since the last mark, where there is one.
+    trail: Trail,
 }
 
 impl Model for Account {
     ghost use Rattle.std.specs.Prelude.{◌≡◌, List, []};
     ghost use Rattle.std.specs.Coded.{codes};
     ghost use Rattle.account_core.specs.Ledger.{base, ledger_entries, staged};
+    ghost use Rattle.account_core.specs.Trails.{HasCopies};
     ghost use Rattle.spec_history.specs.Base.{Base};
     ghost use Rattle.spec_json.specs.DataCode.{data_code};
     ghost use Rattle.spec_history.specs.declared.entry.Entry.{Entry};
@@ -48,7 +52,7 @@ impl Model for Account {
 
     ghost view = { λ a. (base a.ledger, ledger_entries a.ledger) };
 
-    ghost invariant = { λ a. staged a.ledger ≡ [] };
+    ghost invariant = { λ a. (staged a.ledger ≡ []) × HasCopies a.trail (ledger_entries a.ledger) };
 }
 
 impl Account {
@@ -79,6 +83,7 @@ impl Account {
     {
         Ok(Account {
             ledger: Ledger::new(alloc, id, zones, generation),
+            trail: Trail::none(alloc),
         })
     }
 
@@ -100,6 +105,7 @@ impl Account {
     {
         Ok(Account {
             ledger: open_at(alloc, id, zones, generation, entries)?,
+            trail: Trail::none(alloc),
         })
     }
 
@@ -113,7 +119,7 @@ impl Account {
 
     /// Answers a call, keeps the entries that it adds, and adds them once they are kept. Where they could not be kept the reply tells so, and nothing is added.
     ///
-    /// After running out of memory the entries are as before.
+    /// After running out of memory the entries are as before. No copies are kept from here on, whatever `mark` began.
     pub fn act_kept<K: EntryKeeper>(
         &mut self,
         keeper: &mut K,
@@ -125,15 +131,27 @@ impl Account {
         ensures kept { K.has keeper.old self.old.0 self.old.1 → K.has keeper.new self.old.0 self.new.1 }
         ensures unchanged { OnErr result (self.new.1 ≡ self.old.1) }
     {
+        self.trail = Trail::none(self.ledger.alloc);
         answer(&mut self.ledger, keeper, stamp, call)
     }
 
-    /// The entries from a place on. Takes no memory.
-    pub fn added_since(&self, place: u64) -> &[Entry]
-        requires { place ≤ length self.now.1 }
-        ensures { result.now ≡ drop place self.now.1 }
+    /// Begins to keep copies of the entries that calls add from here on, for `added_since`. Takes no memory.
+    pub fn mark(&mut self)
+        ensures { self.new ≡ self.old }
     {
-        &self.ledger.store.entries()[place as usize..]
+        let first = self.ledger.store.len();
+        self.trail = Trail::behind(self.ledger.alloc, first);
+    }
+
+    /// The entries from a place on, where all of them came since the last mark. Takes no memory.
+    pub fn added_since(&self, place: u64) -> Option<&[Entry]>
+        requires { place ≤ length self.now.1 }
+        ensures { IfSome result (λ es. es.now ≡ drop place self.now.1) }
+    {
+        match self.trail.first {
+            Some(first) if first <= place => Some(self.trail.since(first, place)),
+            _ => None,
+        }
     }
 
     /// No second of a live resource calendar is covered by two different occurrences of its bookings, over all days without end.
@@ -206,11 +224,11 @@ impl Book for Account {
             turn,
             moment,
         };
-        self.act_kept(&mut InMemory, &stamp, call)
+        answer(&mut self.ledger, &mut self.trail, &stamp, call)
     }
 
     fn count(&self) -> u64 {
-        self.ledger.store.entries().len() as u64
+        self.ledger.store.len()
     }
 
     ghost signed = { added_signed };

@@ -11,6 +11,7 @@ ghost use Rattle.spec_queries.specs.States.{id_list, is_maximum};
 
 use crate::ledger::Ledger;
 use crate::reply::{refusal, reply};
+use object_log::{ChangesError, Page};
 use query_methods::ids::id_list;
 use spec_calls::call::{ChangesArguments, MethodError, Reply};
 use spec_core::numbers::MAX_UNSIGNED_INT;
@@ -20,7 +21,6 @@ use spec_json::lists::Pairs;
 use spec_json::num::Num;
 use spec_json::text::Text;
 use spec_json::tree::Tree;
-use state_log::{ChangesError, Page};
 use std::alloc::AllocError;
 use time_text::{number_named, state_text};
 

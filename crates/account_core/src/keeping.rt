@@ -1,5 +1,5 @@
 //! What keeps the entries of a call before the account has them.
-ghost use Rattle.std.specs.Prelude.{◌≡◌, ◌≤◌, ◌^◌, ◌++◌, Err, List, None, OnErr, OnOk, Option, Some, length, ⊤};
+ghost use Rattle.std.specs.Prelude.{◌≡◌, ◌≤◌, ◌^◌, ◌++◌, Err, List, None, OnErr, OnOk, Option, Some, length};
 ghost use Rattle.cal_model.specs.Answer.{entries_from, unkept_answer};
 ghost use Rattle.cal_model.specs.Sound.{unsound_place};
 ghost use Rattle.spec_calls.specs.declared.call.Reply.{Reply};
@@ -27,18 +27,4 @@ pub trait EntryKeeper {
             → has self.new base (h ++ entries_from stamp.now 0 changes.now)) }
         ensures not_kept { OnErr result ((base : Base) (h : List Entry) → unsound_place base.zones (changes_of h ++ changes.now) ≡ None → has self.old base h → has self.new base h) }
         ensures told { result ≡ Err KeepError.Failed → unkept ≡ Some unkept_answer };
-}
-
-/// What keeps nothing, for an account that is in memory alone.
-#[derive(Drop)]
-pub struct InMemory;
-
-impl EntryKeeper for InMemory {
-    ghost unkept = { None };
-
-    ghost has = { λ keeper base h. ⊤ };
-
-    fn keep(&mut self, _stamp: &Stamp, _changes: &[Change]) -> Result<(), KeepError> {
-        Ok(())
-    }
 }

@@ -1,6 +1,6 @@
 //! The history of an account with the changes that a call is about to make.
 ghost use Rattle.std.specs.Coded.{codes};
-ghost use Rattle.std.specs.Prelude.{◌≡◌, ◌<◌, ◌≤◌, ◌+◌, ◌^◌, ◌++◌, ◌∷◌, [], None, IfNone, IfSome, OnErr, OnOk, false, length, map, option_map, Some, true, vec_capacity, vec_len, ℕ};
+ghost use Rattle.std.specs.Prelude.{◌≡◌, ◌<◌, ◌≤◌, ◌+◌, ◌^◌, ◌++◌, ◌∷◌, [], List, None, IfNone, IfSome, OnErr, OnOk, false, if◌then◌else◌, is_some, length, map, option_map, Some, true, vec_capacity, vec_len, ℕ};
 ghost use Rattle.std.specs.Arc.{arc_value};
 ghost use Rattle.std.specs.BTreeSet.{BTreeSet as NumberSet};
 ghost use Rattle.account_core.specs.Tally.{Tallies};
@@ -8,27 +8,33 @@ ghost use Rattle.account_core.specs.Uses.{AreInUse};
 ghost use Rattle.account_rooms.specs.RoomChanges.{MayChange, rooms_after};
 ghost use Rattle.account_rooms.specs.Covered.{AreCoveredOnce};
 ghost use Rattle.account_rooms.specs.Rooms.{AreFree, AreRooms};
-ghost use Rattle.account_store.specs.Store.{entries, spare};
+ghost use Rattle.account_store.specs.Store.{entries, event_puts, spare};
 ghost use Rattle.cal_model.specs.Answer.{entries_from};
+ghost use Rattle.cal_model.specs.Quota.{size_of_object};
 ghost use Rattle.cal_model.specs.Sound.{unsound_place};
 ghost use Rattle.event_store.specs.EventsBase.{base_of};
+ghost use Rattle.event_store.specs.ReadSeries.{AreRead};
 ghost use Rattle.spec_bookings.specs.SeriesPut.{series_put};
-ghost use Rattle.spec_history.specs.History.{changes_of, count_of_kind};
+ghost use Rattle.spec_history.specs.History.{changes_of, count_of_kind, live_object};
 ghost use Rattle.spec_bookings.specs.BookedResources.{bookings_of, other_bookings};
 ghost use Rattle.spec_bookings.specs.Resources.{is_resource};
 ghost use Rattle.spec_bookings.specs.Clashes.{IsClash, IsClear, first_clash, second_of};
 ghost use Rattle.spec_series.specs.Lengths.{IsWeekLong};
 ghost use Rattle.rule_expand.specs.Least.{IsLeastOf};
 
-use crate::tally::Tally;
+use crate::pushing::push_all;
+use crate::reading::Reading;
+use crate::tally::{Load, Tally};
 use crate::uses::{calendars_in_use, has_event, still_in_use};
 use account_rooms::Rooms;
 use account_store::Store;
+use cal_model::limits::MAX_CHANGES;
 use cal_model::view::AccountView;
-use event_store::{SeriesLog, StoredEvents};
+use event_store::StoredEvents;
+use json_edge::length::text_length;
 use resource_book::Room;
 use spec_bookings::clash::Clash;
-use spec_history::entry::{Change, Entry, Kind};
+use spec_history::entry::{Change, Kind};
 use spec_history::stamp::Stamp;
 use spec_history::state::State;
 use spec_json::text::Text;
@@ -55,8 +61,8 @@ pub struct Ledger {
     /// What the history holds.
     kept: Tally,
     pub(crate) staged: Vec<Change>,
-    /// The series of the events of the history and of the staged changes.
-    series: SeriesLog,
+    /// What was read of the staged changes, one for each.
+    readings: Vec<Reading>,
     /// What the history and the staged changes hold.
     pub(crate) tally: Tally,
     /// The live resource calendars with their bookings, at the history and the staged changes; it goes back to those at the history.
@@ -65,7 +71,9 @@ pub struct Ledger {
     pub(crate) in_use: Option<BTreeSet<u64>>,
     ghost kept_told: { Tallies kept (changes_of (entries store)) },
     ghost told: { Tallies tally (changes_of (entries store) ++ staged.items) },
-    ghost series_read: { series ≡ map (series_put (arc_value zones)) (changes_of (entries store) ++ staged.items) } by { Prim.hlevel codes },
+    ghost events_read: { AreRead (arc_value zones) (event_puts store) } by { Prim.hlevel codes },
+    ghost series_read: { map (λ r. r.series) readings.items ≡ map (series_put (arc_value zones)) staged.items } by { Prim.hlevel codes },
+    ghost sizes_read: { map (λ r. r.size) readings.items ≡ map (λ c. size_of_object c.object) staged.items },
     ghost kept_rooms: { AreRooms (arc_value zones) (changes_of (entries store)) rooms.kept },
     ghost rooms_now: { AreRooms (arc_value zones) (changes_of (entries store) ++ staged.items) rooms.rooms },
     ghost used: { (numbers : NumberSet ℕ) → in_use ≡ Some numbers → AreInUse (changes_of (entries store)) numbers },
@@ -90,7 +98,7 @@ impl Ledger {
             store: Store::new(alloc),
             kept: Tally::new(),
             staged: Vec::new(alloc),
-            series: SeriesLog::new(alloc),
+            readings: Vec::new(alloc),
             tally: Tally::new(),
             rooms: Rooms::new(alloc),
             in_use: None,
@@ -102,13 +110,7 @@ impl Ledger {
         ensures store { result.store.now ≡ self.now.store }
         ensures base { base_of result ≡ base self.now }
     {
-        StoredEvents::new(
-            &self.store,
-            &self.id,
-            &self.zones,
-            self.generation,
-            &self.series,
-        )
+        StoredEvents::new(&self.store, &self.id, &self.zones, self.generation)
     }
 
     /// Looks up which calendars events are in, unless that is known since an event was changed, so that `has_event` then tells it without
@@ -150,9 +152,11 @@ impl Ledger {
         ensures base { base self.new ≡ base self.old }
     {
         let staged = mem::replace(&mut self.staged, Vec::new(self.alloc));
+        let mut readings = mem::replace(&mut self.readings, Vec::new(self.alloc));
         let known = mem::replace(&mut self.in_use, None);
         self.in_use = still_in_use(known, &staged);
-        push_all(&mut self.store, stamp, first, staged);
+        push_all(&mut self.store, stamp, first, staged, &mut readings);
+        self.store.compact();
         self.kept = self.tally;
         self.rooms.keep();
     }
@@ -187,6 +191,23 @@ impl Ledger {
         self.rooms.room_of(calendar)
     }
 
+    // What the object of a kind and number takes, nothing where it isn't live.
+    fn load_of(&self, kind: Kind, id: u64) -> Load
+        ensures objects { result.objects ≡ (if is_some (live_object (changes self.now) kind id) then 1 else 0) }
+        ensures bytes { result.bytes ≡ size_of_object (live_object (changes self.now) kind id) }
+    {
+        match self.live(kind, id) {
+            Some(object) => Load {
+                objects: 1,
+                bytes: text_length(object) as usize,
+            },
+            None => Load {
+                objects: 0,
+                bytes: 0,
+            },
+        }
+    }
+
     // How many changes are of a kind, in the history and staged.
     #[tactic(auto, using(crate::proofs::Committing::count_of_kind_append))]
     fn count_of_kind(&self, kind: Kind) -> u64
@@ -202,44 +223,43 @@ impl Ledger {
     }
 }
 
-// Takes memory for one staged change more, which the rooms follow and whose series stands beside it.
+// Takes memory for one staged change more with what was read of it, which the rooms follow.
 fn follow(
     staged: &mut Vec<Change>,
-    log: &mut SeriesLog,
+    readings: &mut Vec<Reading>,
     rooms: &mut Rooms,
     change: &Change,
-    series: Option<Series>,
+    series: &Option<Series>,
 ) -> Result<(), AllocError>
-    requires { MayChange rooms.old.rooms change.now.kind change.now.object series }
+    requires { MayChange rooms.old.rooms change.now.kind change.now.object series.now }
     ensures staged { staged.new.items ≡ staged.old.items }
     ensures len { vec_len staged.new ≡ vec_len staged.old }
     ensures place { OnOk result (vec_len staged.new < vec_capacity staged.new) }
-    ensures series { OnOk result (log.new ≡ log.old ++ series ∷ []) }
-    ensures unread { OnErr result (log.new ≡ log.old) }
-    ensures rooms { OnOk result (rooms.new.rooms ≡ rooms_after change.now series rooms.old.rooms) }
+    ensures readings { readings.new.items ≡ readings.old.items }
+    ensures read_len { vec_len readings.new ≡ vec_len readings.old }
+    ensures read_place { OnOk result (vec_len readings.new < vec_capacity readings.new) }
+    ensures rooms { OnOk result (rooms.new.rooms ≡ rooms_after change.now series.now rooms.old.rooms) }
     ensures kept { rooms.new.kept ≡ rooms.old.kept }
 {
     staged.reserve(1)?;
-    rooms.follow(change, series.as_ref())?;
-    log.push(series)
+    readings.reserve(1)?;
+    rooms.follow(change, series.as_ref())
 }
 
-// Puts the entries of these changes at the end, with parts from `first` on. They are counted in 64 bits, since the last part may be the greatest.
-fn push_all(store: &mut Store, stamp: &Stamp, first: u32, changes: Vec<Change>)
-    requires spare { length changes.items ≤ spare store.old }
-    requires few { first + length changes.items ≤ 2 ^ 32 }
-    ensures { entries store.new ≡ entries store.old ++ entries_from stamp.now first changes.items }
+// What a change puts, where its object has a text of so many bytes.
+fn load_put(change: &Change, size: usize) -> Load
+    ensures objects { result.objects ≡ (if is_some change.now.object then 1 else 0) }
+    ensures bytes { result.bytes ≡ size }
 {
-    let mut part = u64::from(first);
-    for change in changes {
-        store.push_reserved(Entry {
-            author: stamp.author,
-            turn: stamp.turn,
-            part: part as u32,
-            moment: stamp.moment,
-            change,
-        });
-        part += 1;
+    match &change.object {
+        Some(_) => Load {
+            objects: 1,
+            bytes: size,
+        },
+        None => Load {
+            objects: 0,
+            bytes: size,
+        },
     }
 }
 
@@ -296,12 +316,18 @@ impl AccountView for Ledger {
         }
     }
 
-    fn count(&self) -> usize {
-        self.tally.entries
-    }
-
-    fn text(&self) -> usize {
-        self.tally.size
+    fn has_room(&self, change: &Change, size: usize) -> bool {
+        match &change.object {
+            Some(_) => {
+                let gone = self.load_of(change.kind, change.id);
+                let put = Load {
+                    objects: 1,
+                    bytes: size,
+                };
+                self.tally.has_room(gone, put)
+            }
+            None => self.tally.entries < MAX_CHANGES,
+        }
     }
 
     fn stage(
@@ -310,21 +336,28 @@ impl AccountView for Ledger {
         size: usize,
         series: Option<Series>,
     ) -> Result<(), AllocError> {
+        let gone = self.load_of(change.kind, change.id);
         match follow(
             &mut self.staged,
-            &mut self.series,
+            &mut self.readings,
             &mut self.rooms,
             &change,
-            series,
+            &series,
         ) {
             Ok(()) => {
-                self.tally.count(change.kind, change.id, size);
+                let put = load_put(&change, size);
+                self.tally.count(change.kind, change.id, gone, put);
+                let reading = Reading {
+                    size: size as u64,
+                    series,
+                };
+                self.readings.push_reserved(reading);
                 self.staged.push_reserved(change);
                 Ok(())
             }
             Err(error) => {
                 self.staged.clear();
-                self.series.truncate(self.store.entries().len());
+                self.readings.clear();
                 self.tally = self.kept;
                 self.rooms.undo();
                 Err(error)
@@ -334,7 +367,7 @@ impl AccountView for Ledger {
 
     fn forget(&mut self) {
         self.staged.clear();
-        self.series.truncate(self.store.entries().len());
+        self.readings.clear();
         self.tally = self.kept;
         self.rooms.undo();
     }

@@ -82,7 +82,7 @@ fn add(ledger: &mut Ledger, entry: Entry) -> Result<(), EntriesError>
     ensures base { base ledger.new ≡ base ledger.old }
     ensures refused { (more : List AnyChange) → IfErr result (IsRefusal (unsound_place (base ledger.old).zones (history ledger.old ++ entry.change ∷ more))) }
 {
-    let place = ledger.store.entries().len() as u64;
+    let place = ledger.store.len();
     let Entry {
         author,
         turn,

@@ -17,7 +17,7 @@ pub fn reply(store: &Store, arguments: Tree, created: Pairs) -> Reply
         arguments,
         error: None,
         created,
-        place: store.entries().len() as u64,
+        place: store.len(),
     }
 }
 
@@ -29,6 +29,6 @@ pub fn refusal(alloc: Global, store: &Store, error: MethodError) -> Reply
         arguments: Tree::Null,
         error: Some(error),
         created: Pairs::new(Vec::new(alloc)),
-        place: store.entries().len() as u64,
+        place: store.len(),
     }
 }

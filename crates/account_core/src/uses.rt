@@ -24,8 +24,9 @@ use std::collections::BTreeSet;
 pub(crate) fn calendars_in_use(alloc: Global, store: &Store) -> Result<BTreeSet<u64>, AllocError>
     ensures { IfOk result (AreInUse (changes_of (entries store.now))) }
 {
+    let numbers = store.live_ids(alloc, Kind::Event)?;
     let mut in_use = BTreeSet::new(alloc);
-    for number in store.ids(Kind::Event) {
+    for number in &numbers {
         put_calendars_of(alloc, &mut in_use, store.object(Kind::Event, *number))?;
     }
     Ok(in_use)

@@ -7,7 +7,12 @@ use Rattle.spec_json.proofs.tree.TreeList.TheLaws.TheKnot as tree
 use Rattle.resource_book.specs.contracts.room.Room as room
 use Rattle.account_rooms.specs.contracts.slot.Slot as slot
 use Rattle.account_rooms.specs.contracts.rooms.Rooms as rooms
-use Rattle.event_store.specs.contracts.series_log.SeriesLog as series
+use Rattle.spec_series.specs.contracts.series.Series as series
+use Rattle.ghost_list.proofs.list.GhostList.TheSendSync as told
+use Rattle.account_store.specs.contracts.kept.KeptEvent as kept_event
+use Rattle.account_store.specs.contracts.store.Store as store
+use Rattle.account_core.specs.contracts.reading.Reading as reading
+use Rattle.account_core.specs.contracts.trail.Trail as trail
 use Rattle.account_core.specs.contracts.account.Account as account
 
 room_sent : IsSend room.the_row
@@ -22,5 +27,17 @@ rooms_sent = search (slot_sent, crosses, sendable) depth 60 fits 20000
 series_sent : IsSend series.the_row
 series_sent = search (crosses, sendable) depth 60 fits 20000
 
+event_sent : IsSend kept_event.the_row
+event_sent = search (text_sent, series_sent, crosses, tree.crosses, sendable) depth 60 fits 20000
+
+store_sent : IsSend store.the_row
+store_sent = search (text_sent, event_sent, told.the_send, crosses, tree.crosses, sendable) depth 60 fits 20000
+
+reading_sent : IsSend reading.the_row
+reading_sent = search (series_sent, crosses, sendable) depth 60 fits 20000
+
+trail_sent : IsSend trail.the_row
+trail_sent = search (text_sent, crosses, tree.crosses, sendable) depth 60 fits 20000
+
 pub account_sent : IsSend account.the_row
-account_sent = search (text_sent, rooms_sent, series_sent, BTreeSet-send, send, frees, crosses, tree.crosses, sendable) depth 60 fits 20000
+account_sent = search (text_sent, rooms_sent, store_sent, reading_sent, trail_sent, BTreeSet-send, send, frees, crosses, tree.crosses, sendable) depth 60 fits 20000

@@ -72,6 +72,13 @@ impl SoleDesk {
         &self.accounts[n as usize]
     }
 
+    /// Begins to keep copies of the entries that calls add to each account from here on. Takes no memory.
+    pub fn mark(&mut self)
+        ensures { self.new ≡ self.old }
+    {
+        mark_all(&mut self.accounts);
+    }
+
     /// No entry of the accounts is anybody else's than the desk's. A law; it does nothing.
     pub fn all_entries_are_its_own(&self)
         ensures { IsSole (shown_of self.now) }
@@ -120,6 +127,14 @@ pub fn open_account(alloc: Global, site: &Site, n: u32) -> Result<Account, Alloc
 {
     let id = site.account_id(n).copy()?;
     Account::open(alloc, id, Arc::try_clone(site.zones())?, site.generation())
+}
+
+fn mark_all(accounts: &mut Vec<Account>)
+    ensures { accounts.new.items ≡ accounts.old.items }
+{
+    for account in accounts.iter_mut() {
+        account.mark();
+    }
 }
 
 fn as_of_desk(reply: Result<Reply, AllocError>) -> Result<Reply, DeskError>

@@ -5,7 +5,7 @@ use Rattle.cal_model.specs.Calendar.{calendar_in, stored}
 use Rattle.cal_model.specs.CreatedIds.{object_named, resolved_object, resolved_patch}
 use Rattle.cal_model.specs.Occurrences.{occurrence_named}
 use Rattle.cal_model.specs.Operations.{Ground, Operation, destroy, update, after_tests, bad_of_calendar, bad_of_event, calendar_outcome, destroyed_outcome, exceeds_resources, has_other_id, is_in_use, outcome_of, patched_outcome, put, removal, if_holds, unless, unless_occurrence, updated_outcome, with_own_id, within_quota}
-use Rattle.cal_model.specs.Quota.{exceeds_quota, size_of_object}
+use Rattle.cal_model.specs.Quota.{exceeds_quota}
 use Rattle.cal_model.specs.declared.outcome.Outcome.{Outcome}
 use Rattle.cal_model.specs.declared.outcome.Outcome.TheVariants.{Accepted, Refused}
 use Rattle.cal_model.specs.declared.set_error.SetError.TheVariants.{CalendarHasEvent, Clashes, OverQuota}
@@ -36,23 +36,23 @@ use Rattle.spec_series.specs.declared.series.Series.{Series}
 abbrev unless_clash : Option (ℕ × Clash) → Change → Outcome
 unless_clash clash c = unless (option_map (λ q. Clashes q.0 q.1) clash ∷ []) (Accepted c)
 
-unless_earlier : (cs : List Change) (is_full : Bool) (clash : Option (ℕ × Clash)) (c : Change) (names : List (List ℕ)) → names ≡ [] → exceeds_quota cs (size_of_object c.object) ≡ false → is_full ≡ false
+unless_earlier : (cs : List Change) (is_full : Bool) (clash : Option (ℕ × Clash)) (c : Change) (names : List (List ℕ)) → names ≡ [] → exceeds_quota cs c ≡ false → is_full ≡ false
     → after_tests cs is_full clash c names ≡ unless_clash clash c
 unless_earlier cs is_full clash c names valid fits room = rw (valid, fits, room) refl
 
 -- a clash told is the last refusal
 last_of_all : (cs : List Change) (is_full : Bool) (clash : Option (ℕ × Clash)) (c : Change) (names : List (List ℕ)) (calendar : ℕ) (told : Clash)
     → after_tests cs is_full clash c names ≡ Refused (Clashes calendar told)
-    → ((names ≡ []) × (exceeds_quota cs (size_of_object c.object) ≡ false)) × ((is_full ≡ false) × (clash ≡ Some (calendar, told)))
+    → ((names ≡ []) × (exceeds_quota cs c ≡ false)) × ((is_full ≡ false) × (clash ≡ Some (calendar, told)))
 last_of_all cs is_full clash c (name ∷ names) calendar told h = absurd (cc h)
-last_of_all cs is_full clash c [] calendar told h = let rest = by_cases (exceeds_quota cs (size_of_object c.object)) is_full clash refl refl refl h in ((refl, rest.0), (rest.1, rest.2))
+last_of_all cs is_full clash c [] calendar told h = let rest = by_cases (exceeds_quota cs c) is_full clash refl refl refl h in ((refl, rest.0), (rest.1, rest.2))
   where
     same : (q : ℕ × Clash) → Refused (Clashes q.0 q.1) ≡ Refused (Clashes calendar told) → Some q ≡ Some (calendar, told)
     same (m, clash) e = cc e
 
-    by_cases : (e f : Bool) (o : Option (ℕ × Clash)) → exceeds_quota cs (size_of_object c.object) ≡ e → is_full ≡ f → clash ≡ o
+    by_cases : (e f : Bool) (o : Option (ℕ × Clash)) → exceeds_quota cs c ≡ e → is_full ≡ f → clash ≡ o
         → unless (if_holds (e || f) OverQuota ∷ option_map (λ q. Clashes q.0 q.1) o ∷ []) (Accepted c) ≡ Refused (Clashes calendar told)
-        → (exceeds_quota cs (size_of_object c.object) ≡ false) × (is_full ≡ false) × (clash ≡ Some (calendar, told))
+        → (exceeds_quota cs c ≡ false) × (is_full ≡ false) × (clash ≡ Some (calendar, told))
     by_cases true f o a b d g = absurd (cc g)
     by_cases false true o a b d g = absurd (cc g)
     by_cases false false None a b d g = absurd (cc g)

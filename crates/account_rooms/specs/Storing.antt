@@ -4,7 +4,7 @@ use Rattle.cal_model.specs.CreatedIds.{object_named, resolved_object, resolved_p
 use Rattle.cal_model.specs.EventObject.{event_members}
 use Rattle.cal_model.specs.Occurrences.{occurrence_named}
 use Rattle.cal_model.specs.Operations.{Ground, Operation, bad_of_event, create_outcome, destroy, event_outcome, has_other_id, outcome_of, put, update}
-use Rattle.cal_model.specs.Quota.{exceeds_quota, size_of_object}
+use Rattle.cal_model.specs.Quota.{exceeds_quota}
 use Rattle.cal_model.specs.declared.outcome.Outcome.{Outcome}
 use Rattle.cal_model.specs.declared.outcome.Outcome.TheVariants.{Accepted, Refused}
 use Rattle.cal_model.specs.declared.set_error.SetError.TheVariants.{Clashes}
@@ -42,7 +42,7 @@ module _ (g : Ground) (cs : List Change) (n : ℕ) (before : Option Tree) (names
   -- No other refusal holds: no property is bad, and the account and each resource that the event books have room for it.
   pub record MeetsNoEarlier : Type 0 where
     pub valid : bad_of_event g.base.zones cs before names_id stored_event ≡ []
-    pub fits : exceeds_quota cs (size_of_object (Some (Object stored_members))) ≡ false
+    pub fits : exceeds_quota cs (record { kind = Event; id = n; object = Some (Object stored_members) }) ≡ false
     pub room : has_full_resource g.base.zones cs n stored_event ≡ false
 
   -- the event is in a live resource calendar, of which it would have x covered twice

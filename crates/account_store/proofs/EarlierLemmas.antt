@@ -8,8 +8,8 @@ use Rattle.spec_history.specs.Pages.{is_in}
 use Rattle.spec_history.specs.declared.entry.Change.{Change}
 use Rattle.spec_history.specs.declared.entry.Kind.{Kind}
 use Rattle.spec_json.specs.declared.tree.Tree.{Tree}
-use Rattle.state_log.proofs.SizeLemmas.{is_in-with_id}
-use Rattle.version_table.specs.Histories.{of_kind}
+use Rattle.object_log.proofs.SizeLemmas.{is_in-with_id}
+use Rattle.spec_sizes.specs.Sizes.{of_kind}
 use Rattle.spec_json.proofs.Booleans.{eqb_sym}
 
 -- ---- the numbers of some changes, by kind and in two parts

@@ -1,3 +1,4 @@
-pub mod PlaceLemmas
-pub mod GrowthLemmas
+pub mod FollowLemmas
+pub mod ShownLemmas
+pub mod LiveLemmas
 pub mod EarlierLemmas

@@ -1,7 +1,8 @@
-//! The entries of an account with the objects that they make, each found by its number, at any state.
+//! What an account holds by its history, each object found by its number, at any state that is answered from.
 #![tactic(auto)]
 
+mod kept;
 mod store;
-mod tables;
 
+pub use kept::KeptEvent;
 pub use store::Store;

@@ -1,7 +1,7 @@
 -- The changes that an account takes behind others: what every accepted operation of a set makes sure of (RFC 8620 section 5.3).
 use Rattle.std.specs.Prelude.{◌≡◌, ◌⊎◌, ◌<◌, ℕ, List, false, true, Option, Some, None, is_some, length}
 use Rattle.cal_model.specs.EventObject.{has_event, names_missing_calendar}
-use Rattle.cal_model.specs.Quota.{exceeds_quota, size_of_object}
+use Rattle.cal_model.specs.Quota.{exceeds_quota}
 use Rattle.cal_model.specs.Sound.{is_sound}
 use Rattle.spec_events.specs.Events.{names_calendar}
 use Rattle.spec_history.specs.History.{live_object, next_number}
@@ -45,7 +45,7 @@ IsObjectFit zones cs Event n (Some t) = IsEventFit zones cs n (data_of t)
 -- A change that may follow these: the account has room for it, it creates the next object or is one of an object that is there, no second of
 -- a resource is covered twice behind it where none was before, and the account would store its object again.
 pub record IsFit (zones : List ZoneText) (cs : List Change) (c : Change) : Type 0 where
-  pub room : exceeds_quota cs (size_of_object c.object) ≡ false
+  pub room : exceeds_quota cs c ≡ false
   pub number : (c.id ≡ next_number cs c.kind) ⊎ (is_some (live_object cs c.kind c.id) ≡ true)
   pub object : IsObjectFit zones cs c.kind c.id c.object
   pub sound : is_sound zones cs c ≡ true

@@ -6,7 +6,7 @@ use Rattle.cal_model.specs.Calendar.{bad_properties, calendar_in, stored, text_o
 use Rattle.cal_model.specs.CreatedIds.{object_named, resolved_object, resolved_patch}
 use Rattle.cal_model.specs.EventObject.{event_members, has_event, has_other_uid, names_missing_calendar}
 use Rattle.cal_model.specs.Occurrences.{occurrence_named}
-use Rattle.cal_model.specs.Quota.{exceeds_quota, size_of_object}
+use Rattle.cal_model.specs.Quota.{exceeds_quota}
 use Rattle.cal_model.specs.declared.outcome.Outcome.{Outcome}
 use Rattle.cal_model.specs.declared.outcome.Outcome.TheVariants.{Accepted, Refused}
 use Rattle.cal_model.specs.declared.set_error.SetError.{SetError}
@@ -71,7 +71,7 @@ unless (r ∷ rs) o = option_map_or Refused r (unless rs o)
 abbrev pub after_tests : List Change → Bool → Option (ℕ × Clash) → Change → List (List ℕ) → Outcome
 after_tests cs is_full clash c names = unless (
     if_bad names
-    ∷ if_holds (exceeds_quota cs (size_of_object c.object) || is_full) OverQuota
+    ∷ if_holds (exceeds_quota cs c || is_full) OverQuota
     ∷ option_map (λ q. Clashes q.0 q.1) clash
     ∷ []) (Accepted c)
 

@@ -1,10 +1,10 @@
 //! What a set sees of an account while it is planned.
-ghost use Rattle.std.specs.Prelude.{◌≡◌, ◌≤◌, ◌+◌, ◌++◌, ◌∷◌, [], None, IfNone, IfOk, List, OnErr, OnOk, length, option_map, true};
+ghost use Rattle.std.specs.Prelude.{◌≡◌, ◌≤◌, ◌+◌, ◌++◌, ◌∷◌, [], None, IfNone, IfOk, List, OnErr, OnOk, length, not, option_map, true};
 ghost use Rattle.cal_model.specs.EventObject.{has_event};
 ghost use Rattle.cal_model.specs.Fits.{IsFit};
-ghost use Rattle.cal_model.specs.Quota.{size_of, size_of_object};
+ghost use Rattle.cal_model.specs.Quota.{exceeds_quota, size_of_object};
 ghost use Rattle.cal_model.specs.Sound.{unsound_place};
-ghost use Rattle.cal_model.specs.declared.limits.TheConstants.{MAX_ENTRIES, MAX_OBJECT_BYTES};
+ghost use Rattle.cal_model.specs.declared.limits.TheConstants.{MAX_CHANGES};
 ghost use Rattle.spec_history.specs.Base.{Base};
 ghost use Rattle.spec_history.specs.History.{changes_of, ids_at, live_object};
 ghost use Rattle.spec_history.specs.States.{state_of};
@@ -68,7 +68,7 @@ pub trait AccountView {
     fn created_so_far(&self, kind: Kind) -> u64
         ensures exact { result ≡ length (ids_at (changes self.now) kind) }
         ensures new { live_object (changes self.now) kind (result + 1) ≡ None }
-        ensures most { result ≤ MAX_ENTRIES };
+        ensures most { result ≤ MAX_CHANGES };
 
     /// Which copy of the data the account goes on from. Takes no memory.
     fn generation(&self) -> u64
@@ -78,15 +78,10 @@ pub trait AccountView {
     fn state(&self, kind: Kind) -> State
         ensures { result ≡ state_of (base self.now).generation kind (changes self.now) };
 
-    /// The number of changes. Takes no memory.
-    fn count(&self) -> usize
-        ensures exact { result ≡ length (changes self.now) }
-        ensures most { result ≤ MAX_ENTRIES };
-
-    /// The bytes of the compact texts of all objects that the changes put. Takes no memory.
-    fn text(&self) -> usize
-        ensures exact { result ≡ size_of (changes self.now) }
-        ensures most { result ≤ MAX_OBJECT_BYTES };
+    /// Whether the account has room for one change more, whose object has a compact text of `size` bytes, 0 for a removal. Takes no memory.
+    fn has_room(&self, change: &Change, size: usize) -> bool
+        requires { size ≡ size_of_object change.now.object }
+        ensures { result ≡ not (exceeds_quota (changes self.now) change.now) };
 
     /// Stages a change behind those that are staged. `size` is the bytes of its object's compact text, 0 for a removal; `series` is that
     /// of the event that it puts (RFC 8984 section 4.3).

@@ -2,6 +2,7 @@
 
 use account_core::account::Account;
 use account_core::opening::EntriesError;
+use spec_books::book::Book;
 use spec_history::entry::{Change, Entry, Kind};
 use spec_json::text::Text;
 use spec_json::tree::Tree;
@@ -30,7 +31,7 @@ pub fn told(alloc: Global, rows: &[Tree]) -> Result<Option<String>, AllocError> 
 fn opened(alloc: Global, zones: Zones, entries: Vec<Entry>) -> Result<String, AllocError> {
     let id = Text::from_str(alloc, "A1")?;
     match Account::open_at(alloc, id, Arc::new(alloc, zones)?, 0, entries) {
-        Ok(account) => Ok(format!(in alloc; "opens at {}", account.added_since(0).len())?),
+        Ok(account) => Ok(format!(in alloc; "opens at {}", account.count())?),
         Err(EntriesError::BadEntries { place }) => Ok(format!(in alloc; "not sound at {place}")?),
         Err(EntriesError::NoMemory) => Err(AllocError),
     }

@@ -1,2 +1,2 @@
 pub mod LiveLemmas
-pub mod SeriesLemmas
+pub mod ReadLemmas

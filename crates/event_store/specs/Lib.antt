@@ -1,3 +1,3 @@
-pub mod SeriesLog
+pub mod ReadSeries
 pub mod StoredEvents
 pub mod EventsBase

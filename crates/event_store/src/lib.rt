@@ -2,7 +2,5 @@
 #![tactic(auto)]
 
 mod events;
-mod series_log;
 
 pub use events::{StoredEvent, StoredEvents};
-pub use series_log::SeriesLog;

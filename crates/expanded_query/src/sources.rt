@@ -21,7 +21,8 @@ pub(crate) fn sources<'a>(
     requires { sight.now.zones.now ≡ events.now.zones.now }
     ensures { IfOk result (λ v. flat_map (given_by (filter_window sight.now)) v.items ≡ all_given sight.now (changes_of (entries events.now.store.now))) }
 {
-    sources_among(alloc, events, sight, events.store.ids(Kind::Event))
+    let numbers = events.store.live_ids(alloc, Kind::Event)?;
+    sources_among(alloc, events, sight, &numbers)
 }
 
 // Those of these events.

@@ -1,5 +1,5 @@
 -- Pages of the changes of an account's events lead to the last, and what a workload writes.
-use Rattle.std.proofs.Common.{◌≡◌, ◌≤◌, ◌<◌, ◌-◌, ◌^◌, ◌==◌, ◌&&◌, not, ℕ, pos, List, [], Bool, true, false, cond, Option, Some, None, Result, Ok, Err, IfOk, codes, length, map, arith, refl, sym, ap, ◌∙◌, subst, eq-eqb, eqb-true}
+use Rattle.std.proofs.Common.{◌≡◌, ◌≤◌, ◌<◌, ◌-◌, ◌^◌, ◌==◌, not, ℕ, List, [], Bool, true, false, cond, Option, Some, None, Result, Ok, Err, IfOk, codes, length, map, arith, refl, sym, ap, ◌∙◌, subst, eq-eqb, eqb-true}
 use Rattle.std.proofs.Math.Nat.{lt_of_not-le}
 use Rattle.std.proofs.lemmas.Bool.{and_parts}
 use Rattle.std.proofs.lemmas.Bool.Decides.{nat_tests}
@@ -24,10 +24,11 @@ use Rattle.spec_history.specs.declared.entry.Kind.TheVariants.{Event}
 use Rattle.spec_history.specs.declared.state.State.{State}
 use Rattle.spec_json.specs.Data.{items_back, items_of, list_of, text}
 use Rattle.spec_queries.specs.States.{is_known_state}
+use Rattle.spec_sizes.specs.Sizes.{is_answered_from}
 use Rattle.spec_site.specs.Configuration.{built_in}
 use Rattle.jmapd_run.specs.Headline.{IsWorkText}
-use Rattle.state_log.proofs.EndLemmas.{greatest-ge}
-use Rattle.state_log.proofs.LawLemmas.{gets_on, length-mentions, page_ends, page_fits}
+use Rattle.object_log.proofs.EndLemmas.{greatest-ge}
+use Rattle.object_log.proofs.LawLemmas.{gets_on, length-mentions, page_ends, page_fits}
 use Rattle.time_text.proofs.StateLemmas.{generation_small, state_back}
 use Rattle.time_text.specs.State.{number_named, number_within, state_in}
 use Rattle.workload.specs.Counts.{count_listed, count_of_ids, has_more, lines, new_state, next_page_state, state_number}
@@ -59,9 +60,9 @@ named_is generation (Some s) k e = within (s.generation == generation) refl e
     within true same e = ap Some (λ i. record { generation = eqb-true s.generation generation same i; number = ap (λ o. unwrap_or o 0) e i })
     within false same e = cc
 
-retained_from : (n : ℕ) (o : Option ℕ) → option_map_or (λ k. is_retained n k) o false ≡ true → (k : ℕ) × (o ≡ Some k) × (k ≤ n)
-retained_from n None e = cc
-retained_from n (Some k) e = (k, refl, le_of k n (and_parts (nat_le k n) _ e).0)
+answered_from : (cs : List Change) (o : Option ℕ) → option_map_or (λ k. is_answered_from Event cs k) o false ≡ true → (k : ℕ) × (o ≡ Some k) × (k ≤ count_of_kind cs Event)
+answered_from cs None e = cc
+answered_from cs (Some k) e = (k, refl, le_of k (count_of_kind cs Event) (and_parts (nat_le k (count_of_kind cs Event)) _ (and_parts (is_retained (count_of_kind cs Event) k) _ e).0).0)
 
 known_state : (known : Bool) → cond (not known) (Some CannotCalculateChanges) None ≡ None → known ≡ true
 known_state true e = refl
@@ -109,7 +110,7 @@ module _ (base : Base) (h : List Entry) (since : List ℕ) where
 
   page_leads : is_known_state base.generation Event cs since ≡ true → length h ≤ 2 ^ 40 → has_more page ≡ true → Leads (new_state page)
   page_leads known few more =
-      let k = retained_from (count_of_kind cs Event) (number_named base.generation since) known in
+      let k = answered_from cs (number_named base.generation since) known in
       let begins : from ≡ k.0 = ap (λ o. unwrap_or o 0) k.1 in
       let named = named_is base.generation (state_in since) k.0 k.1 in
       let number : state_number since ≡ k.0 = ap (λ o. option_map_or (λ s. s.number) o 0) named in

@@ -1,6 +1,6 @@
 -- What is found in the object of an entry.
 use Rattle.std.proofs.Common.{◌≡◌, ◌≢◌, ◌≤◌, List, ◌∙◌, ℕ, pos, cond, Option, Some, None, codes, ap, sym, refl, subst, arith, le-leb}
-use Rattle.journal_keeper.specs.EntryParts.{kind_in, most_u32, small, small_at}
+use Rattle.journal_keeper.specs.EntryParts.{kind_in, most_id, most_u32, small, small_at}
 use Rattle.journal_keeper.specs.EntryText.{IsKeepable, IsNoEntryText, IsObjectTree, entry_data, entry_text, object_data}
 use Rattle.spec_json.proofs.TreeBack.{same_tree}
 use Rattle.spec_json.specs.Json.{reading, value}
@@ -20,8 +20,8 @@ small_enough most n h = ap (λ b. cond b (Some n) None) (le-leb n most h)
 pub author_found : (d : Data) (e : Entry) → IsKeepable e → d ≡ entry_data e → small_at most_u32 (codes "author") d ≡ Some e.author
 author_found d e k is = ap (small_at most_u32 (codes "author")) is ∙ small_enough most_u32 e.author (let h = k.author in omega arith)
 
-pub id_found : (d : Data) (e : Entry) → IsKeepable e → d ≡ entry_data e → small_at most_u32 (codes "id") d ≡ Some e.change.id
-id_found d e k is = ap (small_at most_u32 (codes "id")) is ∙ small_enough most_u32 e.change.id (let h = k.id in omega arith)
+pub id_found : (d : Data) (e : Entry) → IsKeepable e → d ≡ entry_data e → small_at most_id (codes "id") d ≡ Some e.change.id
+id_found d e k is = ap (small_at most_id (codes "id")) is ∙ small_enough most_id e.change.id (let h = k.id in omega arith)
 
 pub part_found : (d : Data) (e : Entry) → IsKeepable e → d ≡ entry_data e → small_at most_u32 (codes "part") d ≡ Some e.part
 part_found d e k is = ap (small_at most_u32 (codes "part")) is ∙ small_enough most_u32 e.part (let h = k.part in omega arith)

@@ -1,5 +1,5 @@
 -- What an object says of an entry.
-use Rattle.std.specs.Prelude.{ℕ, ℤ, pos, negsuc, List, Option, Some, None, codes, nat_le, option_and_then, if◌then◌else◌}
+use Rattle.std.specs.Prelude.{◌^◌, ℕ, ℤ, pos, negsuc, List, Option, Some, None, codes, nat_le, option_and_then, if◌then◌else◌}
 use Rattle.std.specs.Str.{bytes_eq}
 use Rattle.spec_history.specs.declared.entry.Kind.{Kind}
 use Rattle.spec_history.specs.declared.entry.Kind.TheVariants.{Calendar, Event}
@@ -23,3 +23,7 @@ kind_in d = option_and_then kind_named (text_at (codes "kind") d)
 -- 2 ^ 32 - 1
 abbrev pub most_u32 : ℕ
 most_u32 = 4294967295
+
+-- the greatest number of an object that is kept
+abbrev pub most_id : ℕ
+most_id = 2 ^ 40

@@ -47,7 +47,7 @@ IsObjectTree (Some (Listed ds)) = ⊥
 -- an entry that has a text
 pub record IsKeepable (e : Entry) : Type 0 where
   pub author : e.author < 2 ^ 32
-  pub id : e.change.id < 2 ^ 32
+  pub id : e.change.id ≤ 2 ^ 40
   pub part : e.part < 2 ^ 32
   pub moment : IsMoment e.moment
   pub turn : e.turn ≤ most_turns

@@ -23,6 +23,9 @@ const MAX_DEPTH: u32 = 120;
 /// The greatest u32.
 const MAX_U32: u64 = 4_294_967_295;
 
+/// The greatest number of an object.
+const MAX_ID: u64 = 1 << 40;
+
 /// The most turns of an author.
 const MAX_TURN: u64 = 1 << 40;
 
@@ -71,7 +74,7 @@ pub fn read_entry(alloc: Global, bytes: &[u8]) -> Result<Entry, TextError>
 #[derive(Clone, Copy, Drop)]
 struct Numbers {
     author: u32,
-    id: u32,
+    id: u64,
     part: u32,
     turn: u64,
 }
@@ -92,7 +95,7 @@ fn entry_of(tree: Tree) -> Option<Entry>
         moment,
         change: Change {
             kind,
-            id: u64::from(numbers.id),
+            id: numbers.id,
             object,
         },
     })
@@ -100,16 +103,17 @@ fn entry_of(tree: Tree) -> Option<Entry>
 
 #[tactic(auto, using(crate::proofs::Finding::author_found, crate::proofs::Finding::id_found, crate::proofs::Finding::part_found, crate::proofs::Finding::turn_found))]
 fn numbers_of(tree: &Tree) -> Option<Numbers>
+    ensures id { IfSome result (λ n. n.id ≤ 2 ^ 40) }
     ensures turn { IfSome result (λ n. n.turn ≤ 2 ^ 40) }
     ensures found { (e : AnyEntry) → IsKeepable e → data_of tree.now ≡ entry_data e → result ≡ Some (record { author = e.author; id = e.change.id; part = e.part; turn = e.turn }) }
 {
     let author = small_at(tree, "author", MAX_U32)?;
-    let id = small_at(tree, "id", MAX_U32)?;
+    let id = small_at(tree, "id", MAX_ID)?;
     let part = small_at(tree, "part", MAX_U32)?;
     let turn = small_at(tree, "turn", MAX_TURN)?;
     Some(Numbers {
         author: author as u32,
-        id: id as u32,
+        id,
         part: part as u32,
         turn,
     })

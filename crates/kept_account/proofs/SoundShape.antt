@@ -4,9 +4,9 @@ use Rattle.std.proofs.lemmas.Bool.{false≢true, ltb-true, not-false, or_parts}
 use Rattle.std.specs.Prelude.{IfSome, nat_lt}
 use Rattle.cal_model.specs.Calendar.{bad_properties, calendar_in, stored}
 use Rattle.cal_model.specs.Operations.{after_tests, bad_of_booking, bad_of_calendar, bad_of_event, destroyed_outcome, exceeds_resources, has_other_zone, if_holds, is_in_use, put, removal, unless, within_quota}
-use Rattle.cal_model.specs.Quota.{exceeds_quota, size_of_object}
+use Rattle.cal_model.specs.Quota.{exceeds_quota}
 use Rattle.cal_model.specs.Sound.{has_number, has_stored_form, is_sound, leaves, outcome_again}
-use Rattle.cal_model.specs.declared.limits.TheConstants.{MAX_ENTRIES}
+use Rattle.cal_model.specs.declared.limits.TheConstants.{MAX_CHANGES}
 use Rattle.cal_model.specs.declared.outcome.Outcome.{Outcome}
 use Rattle.cal_model.specs.declared.outcome.Outcome.TheVariants.{Accepted, Refused}
 use Rattle.cal_model.specs.declared.set_error.SetError.TheVariants.{CalendarHasEvent, Clashes, OverQuota}
@@ -34,18 +34,18 @@ use Rattle.spec_site.specs.TimeZones.{ZoneText}
 
 -- the account has room for one change more
 abbrev HasRoom : List Change → Type 0
-HasRoom cs = length cs < MAX_ENTRIES
+HasRoom cs = length cs < MAX_CHANGES
 
-room_for : (cs : List Change) (is_full over : Bool) (clash : Option (ℕ × Clash)) (c b : Change) → (exceeds_quota cs (size_of_object c.object) || is_full) ≡ over
+room_for : (cs : List Change) (is_full over : Bool) (clash : Option (ℕ × Clash)) (c b : Change) → (exceeds_quota cs c || is_full) ≡ over
     → unless (None ∷ if_holds over OverQuota ∷ option_map (λ q. Clashes q.0 q.1) clash ∷ []) (Accepted c) ≡ Accepted b → HasRoom cs
 room_for cs is_full true clash c b e h = absurd (cc h)
 room_for cs is_full false clash c b e h =
-    let quota = or_parts (exceeds_quota cs (size_of_object c.object)) is_full e in
-    let count = or_parts (not (nat_lt (length cs) MAX_ENTRIES)) _ quota.0 in
-    ltb-true (length cs) MAX_ENTRIES (not-false (nat_lt (length cs) MAX_ENTRIES) count.0)
+    let quota = or_parts (exceeds_quota cs c) is_full e in
+    let count = or_parts (not (nat_lt (length cs) MAX_CHANGES)) _ quota.0 in
+    ltb-true (length cs) MAX_CHANGES (not-false (nat_lt (length cs) MAX_CHANGES) count.0)
 
 accepted_fits : (cs : List Change) (is_full : Bool) (clash : Option (ℕ × Clash)) (c b : Change) (names : List (List ℕ)) → after_tests cs is_full clash c names ≡ Accepted b → (names ≡ []) × HasRoom cs
-accepted_fits cs is_full clash c b [] h = (refl, room_for cs is_full (exceeds_quota cs (size_of_object c.object) || is_full) clash c b refl h)
+accepted_fits cs is_full clash c b [] h = (refl, room_for cs is_full (exceeds_quota cs c || is_full) clash c b refl h)
 accepted_fits cs is_full clash c b (name ∷ names) h = absurd (cc h)
 
 left_accepted : (o : Option Tree) (out : Outcome) → leaves o out ≡ true → (b : Change) × (out ≡ Accepted b)

@@ -48,6 +48,26 @@ pub(crate) fn run_line<K: Sink, C: Clock, J: Keeper>(
     requires may_call { desk.old.1 + 16 < most_turns }
     ensures { RunsLine site.now user line.now desk.old desk.new (C.moments clock.old) (C.moments clock.new) (K.shown output.old) (K.shown output.new) (J.shown keeper.old) (J.shown keeper.new) result }
 {
+    desk.mark();
+    answer_line(alloc, site, user, line, desk, output, clock, keeper)
+}
+
+// The same over a desk that keeps copies of what comes.
+fn answer_line<K: Sink, C: Clock, J: Keeper>(
+    alloc: Global,
+    site: &Site,
+    user: u32,
+    line: &[u8],
+    desk: &mut SoleDesk,
+    output: &mut K,
+    clock: &mut C,
+    keeper: &mut J,
+) -> LineEnd
+    requires user { user < length site.now.users }
+    requires all { length desk.old.0 ≡ length site.now.accounts }
+    requires may_call { desk.old.1 + 16 < most_turns }
+    ensures { RunsLine site.now user line.now desk.old desk.new (C.moments clock.old) (C.moments clock.new) (K.shown output.old) (K.shown output.new) (J.shown keeper.old) (J.shown keeper.new) result }
+{
     let moment = Moment::clamped(clock.now());
     let Ok(places) = counts_of(alloc, desk) else {
         return LineEnd::NoMemory;

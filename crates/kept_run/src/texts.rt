@@ -12,6 +12,7 @@ use journal_keeper::texts::entry_texts;
 use kept_account::values::are_entry_values;
 use session_doc::Site;
 use spec_batch::desk::Desk;
+use spec_books::book::Book;
 use std::alloc::{AllocError, Global};
 
 /// How many entries each account has.
@@ -21,7 +22,7 @@ pub(crate) fn counts_of(alloc: Global, desk: &SoleDesk) -> Result<Vec<u64>, Allo
     let count = desk.accounts();
     let mut counts = Vec::with_capacity(alloc, count as usize)?;
     for n in 0..count {
-        counts.push(desk.account(n).added_since(0).len() as u64)?;
+        counts.push(desk.account(n).count())?;
     }
     Ok(counts)
 }
@@ -75,7 +76,10 @@ fn new_texts(
     for n in 0..site.accounts() {
         let account = desk.account(n);
         account.has_sound_entries();
-        let added = account.added_since(places[n as usize]);
+        // The desk was marked where these places were counted.
+        let Some(added) = account.added_since(places[n as usize]) else {
+            return Err(AllocError);
+        };
         are_entry_values(added);
         let mut more = entry_texts(alloc, site.account_id(n), added)?;
         texts.append(&mut more)?;

@@ -5,7 +5,7 @@ use Rattle.std.specs.Option.{option_map_or}
 use Rattle.std.specs.Str.{bytes_eq}
 use Rattle.cal_model.specs.Calendar.{bad_properties, calendar_in, stored}
 use Rattle.cal_model.specs.Operations.{after_tests, bad_of_calendar, bad_of_event, destroyed_outcome, exceeds_resources, has_other_zone, if_holds, is_in_use, put, removal, stored_calendar_outcome, stored_event_outcome, unless, within_quota, zone_given}
-use Rattle.cal_model.specs.Quota.{exceeds_quota, size_of_object}
+use Rattle.cal_model.specs.Quota.{exceeds_quota}
 use Rattle.cal_model.specs.Sound.{first_unsound, has_number, has_own_id, has_server_values, has_stored_form, is_sound, leaves, outcome_again, same_object, unsound_place}
 use Rattle.cal_model.specs.declared.outcome.Outcome.{Outcome}
 use Rattle.cal_model.specs.declared.outcome.Outcome.TheVariants.{Accepted}
@@ -70,7 +70,7 @@ accepted_by cs false (Some q) c b h = absurd (cc h)
 accepted_by cs false None c b h = cc h
 
 pub accepted_is : (cs : List Change) (is_full : Bool) (clash : Option (ℕ × Clash)) (c b : Change) (ns : List (List ℕ)) → after_tests cs is_full clash c ns ≡ Accepted b → c ≡ b
-accepted_is cs is_full clash c b [] h = accepted_by cs (exceeds_quota cs (size_of_object c.object) || is_full) clash c b h
+accepted_is cs is_full clash c b [] h = accepted_by cs (exceeds_quota cs c || is_full) clash c b h
 accepted_is cs is_full clash c b (n ∷ ns) h = absurd (cc h)
 
 -- where the outcome accepts this change the object is left

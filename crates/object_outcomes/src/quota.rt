@@ -1,8 +1,8 @@
 //! The room of an account.
-ghost use Rattle.std.specs.Prelude.{◌≡◌, ◌++◌, IfOk, None, false, not, true};
+ghost use Rattle.std.specs.Prelude.{◌≡◌, IfOk, None, false, true};
 ghost use Rattle.cal_model.specs.Fits.{IsObjectFit};
 ghost use Rattle.cal_model.specs.Operations.{within_quota};
-ghost use Rattle.cal_model.specs.Quota.{exceeds_quota, size_of_object};
+ghost use Rattle.cal_model.specs.Quota.{size_of_object};
 ghost use Rattle.cal_model.specs.Sound.{is_sound};
 ghost use Rattle.cal_model.specs.declared.outcome.Outcome.TheVariants.{Accepted};
 ghost use Rattle.spec_bookings.specs.SeriesPut.{series_put};
@@ -10,7 +10,6 @@ ghost use Rattle.object_outcomes.specs.Judging.{HasNumber, IsAllowed};
 
 use crate::against::Against;
 use crate::setting::Judged;
-use cal_model::limits::{MAX_ENTRIES, MAX_OBJECT_BYTES};
 use cal_model::outcome::Outcome;
 use cal_model::set_error::SetError;
 use cal_model::view::AccountView;
@@ -39,7 +38,7 @@ pub(crate) fn within_quota<V: AccountView>(
     ensures allowed { IfOk result (IsAllowed (V.base view.now).zones (V.changes view.now)) }
 {
     let size = size_of_change(alloc, &change)?;
-    if !has_room(view, size) || against.is_full {
+    if !view.has_room(&change, size) || against.is_full {
         return Ok(Judged::refused(SetError::OverQuota));
     }
     if let Some((calendar, clash)) = against.clash {
@@ -59,10 +58,4 @@ fn size_of_change(alloc: Global, change: &Change) -> Result<usize, AllocError>
         Some(object) => Ok(tree_text(alloc, object)?.len()),
         None => Ok(0),
     }
-}
-
-fn has_room<V: AccountView>(view: &V, size: usize) -> bool
-    ensures { result ≡ not (exceeds_quota (V.changes view.now) size) }
-{
-    view.count() < MAX_ENTRIES && size <= MAX_OBJECT_BYTES - view.text()
 }

@@ -1,61 +1,60 @@
--- The changes of events after a state are those that the entries from some place on make.
-use Rattle.std.proofs.Common.{◌≡◌, ℕ, suc, ◌+◌, ◌-◌, ◌<◌, Bool, true, false, cond, List, [], ◌∷◌, ◌++◌, drop, filter, get_or, length, map, take, refl, sym, ap, ◌∙◌}
-use Rattle.std.proofs.Math.Seq.{drop-append_seam}
-use Rattle.std.proofs.lemmas.List.{take-append-drop, take_rest}
-use Rattle.std.proofs.lemmas.List.Elements.{filter-append}
-use Rattle.std.proofs.lemmas.List.Filters.{length-filter_more}
-use Rattle.spec_history.specs.History.{changes_of, is_kind}
-use Rattle.spec_history.specs.declared.entry.Entry.{Entry}
+-- The events that changes behind a state name.
+use Rattle.std.proofs.Common.{◌≡◌, ℕ, zero, suc, ◌&&◌, Bool, true, false, cond, List, [], ◌∷◌, drop, filter, map, take, refl, sym, ap, ◌∙◌}
+use Rattle.std.proofs.Math.Seq.{take-length}
+use Rattle.std.proofs.lemmas.List.{drop-map}
+use Rattle.account_store.specs.Earlier.{touched_ids}
+use Rattle.object_log.proofs.LawLemmas.{ids_are, length-mentions}
+use Rattle.object_log.proofs.MentionLemmas.{is_named}
+use Rattle.object_log.proofs.SizeLemmas.{is_in-ids_of}
+use Rattle.object_log.proofs.TouchedLemmas.{in_ids, touched_named}
+use Rattle.spec_history.proofs.IdLemmas.{is_in-filter}
+use Rattle.spec_history.specs.History.{count_of_kind, ids_at, is_kind}
+use Rattle.spec_history.specs.Pages.{Mention, is_in, is_touched, mention_of, mentions}
+use Rattle.spec_history.specs.declared.entry.Change.{Change}
 use Rattle.spec_history.specs.declared.entry.Kind.TheVariants.{Event}
-use Rattle.spec_queries.specs.Matching.{of_events, touched_by, touched_since}
-
-abbrev pub is_of_event : Entry → Bool
-is_of_event e = is_kind Event e.change.kind
-
--- entries and their changes
-changes_append : (es fs : List Entry) → changes_of (es ++ fs) ≡ changes_of es ++ changes_of fs
-changes_append [] fs = refl
-changes_append (e ∷ es) fs = ap (λ cs. e.change ∷ cs) (changes_append es fs)
-
-count_step : (b : Bool) (e : Entry) (es : List Entry) → length (of_events (changes_of es)) ≡ length (filter is_of_event es)
-    → length (cond b (e.change ∷ of_events (changes_of es)) (of_events (changes_of es))) ≡ length (cond b (e ∷ filter is_of_event es) (filter is_of_event es))
-count_step true e es same = ap suc same
-count_step false e es same = same
-
--- as many are of events
-pub count_of_events : (es : List Entry) → length (of_events (changes_of es)) ≡ length (filter is_of_event es)
-count_of_events [] = refl
-count_of_events (e ∷ es) = count_step (is_of_event e) e es (count_of_events es)
-
--- one entry more
-pub count_with : (es : List Entry) (place : ℕ) (e : Entry) → place < length es → e ≡ get_or es place e
-    → length (filter is_of_event (take (place + 1) es)) ≡ length (filter is_of_event (take place es)) + cond (is_of_event e) 1 0
-count_with es place e below is = length-filter_more is_of_event es place e below ∙ ap (λ f. length (filter is_of_event (take place es)) + cond (is_of_event f) 1 0) (sym is)
-
--- the changes of events that the entries from a place on make, where so many are made before it
-pub later_changes : (es : List Entry) (place state : ℕ) → state ≡ length (filter is_of_event (take place es)) → of_events (changes_of (drop place es)) ≡ drop state (of_events (changes_of es))
-later_changes es place state is =
-    let before = take place es in
-    let after = drop place es in
-    let parts : of_events (changes_of es) ≡ of_events (changes_of before) ++ of_events (changes_of after) =
-    ap (λ l. of_events (changes_of l)) (sym (take-append-drop place es)) ∙ ap of_events (changes_append before after)
-    ∙ filter-append (λ c. is_kind Event c.kind) (changes_of before) (changes_of after) in
-    sym (ap (λ n. drop n (of_events (changes_of es))) (is ∙ sym (count_of_events before)) ∙ ap (drop (length (of_events (changes_of before)))) parts
-    ∙ drop-append_seam (of_events (changes_of before)) (of_events (changes_of after)))
-
-twice_step : {X : Type 0} (p : X → Bool) (x : X) (xs : List X) (b : Bool) → p x ≡ b → filter p (filter p xs) ≡ filter p xs
-    → filter p (cond b (x ∷ filter p xs) (filter p xs)) ≡ cond b (x ∷ filter p xs) (filter p xs)
-twice_step p x xs true is rest = ap (λ b. cond b (x ∷ filter p (filter p xs)) (filter p (filter p xs))) is ∙ ap (λ l. x ∷ l) rest
-twice_step p x xs false is rest = rest
+use Rattle.spec_queries.specs.Matching.{of_events, touched_since}
 
 twice : {X : Type 0} (p : X → Bool) (xs : List X) → filter p (filter p xs) ≡ filter p xs
 twice p [] = refl
-twice p (x ∷ xs) = twice_step p x xs (p x) refl (twice p xs)
+twice p (x ∷ xs) = by_test (p x) refl (twice p xs)
+  where
+    by_test : (b : Bool) → p x ≡ b → filter p (filter p xs) ≡ filter p xs → filter p (cond b (x ∷ filter p xs) (filter p xs)) ≡ cond b (x ∷ filter p xs) (filter p xs)
+    by_test true is rest = ap (λ b. cond b (x ∷ filter p (filter p xs)) (filter p (filter p xs))) is ∙ ap (λ l. x ∷ l) rest
+    by_test false is rest = rest
 
--- what these entries touch was touched since
-pub touched_from : (es : List Entry) (place state : ℕ) → of_events (changes_of (drop place es)) ≡ drop state (of_events (changes_of es))
-    → touched_by (changes_of (take (length es - place) (drop place es))) ≡ touched_since (changes_of es) state
-touched_from es place state is =
-    let later = changes_of (drop place es) in
-    ap (λ l. touched_by (changes_of l)) (take_rest es place)
-    ∙ ap (map (λ c. c.id)) (sym (twice (λ c. is_kind Event c.kind) later) ∙ ap of_events is)
+-- those behind some of what passes pass
+dropped_pass : {X : Type 0} (p : X → Bool) (k : ℕ) (xs : List X) → filter p (drop k (filter p xs)) ≡ drop k (filter p xs)
+dropped_pass p zero xs = twice p xs
+dropped_pass p (suc k) [] = refl
+dropped_pass p (suc k) (x ∷ xs) = by_test (p x) (dropped_pass p k xs) (dropped_pass p (suc k) xs)
+  where
+    by_test : (b : Bool) → filter p (drop k (filter p xs)) ≡ drop k (filter p xs) → filter p (drop (suc k) (filter p xs)) ≡ drop (suc k) (filter p xs)
+        → filter p (drop (suc k) (cond b (x ∷ filter p xs) (filter p xs))) ≡ drop (suc k) (cond b (x ∷ filter p xs) (filter p xs))
+    by_test true here rest = here
+    by_test false here rest = rest
+
+ids_mentioned : (cs : List Change) → map (λ (m : Mention). m.id) (map mention_of cs) ≡ map (λ (c : Change). c.id) cs
+ids_mentioned [] = refl
+ids_mentioned (c ∷ cs) = ap (λ l. c.id ∷ l) (ids_mentioned cs)
+
+-- a number is named between a state and now where it is among those that were touched since
+pub named_since : (cs : List Change) (k id : ℕ) → is_touched (mentions Event cs) k (count_of_kind cs Event) id ≡ is_in (touched_since cs k) id
+named_since cs k id =
+    let ms = mentions Event cs in
+    let all : take (count_of_kind cs Event) ms ≡ ms = ap (λ n. take n ms) (sym (length-mentions cs Event)) ∙ take-length ms in
+    ap (λ (l : List Mention). is_named (drop k l) id) all ∙ sym (in_ids (drop k ms) id)
+    ∙ ap (λ (l : List Mention). is_in (map (λ (m : Mention). m.id) l) id) (drop-map mention_of k (of_events cs))
+    ∙ ap (λ (l : List ℕ). is_in l id) (ids_mentioned (drop k (of_events cs)) ∙ ap (map (λ (c : Change). c.id)) (sym (dropped_pass (λ (c : Change). is_kind Event c.kind) k cs)))
+
+-- the numbers that changes behind a state name are those
+pub touched_are : (cs : List Change) (k id : ℕ) → is_in (touched_ids cs Event k) id ≡ is_touched (mentions Event cs) k (count_of_kind cs Event) id
+touched_are cs k id =
+    let ms = mentions Event cs in
+    let n = count_of_kind cs Event in
+    is_in-filter (is_touched ms k n) (ids_at cs Event) id
+    ∙ ap (λ b. b && is_touched ms k n id) (ap (λ (l : List ℕ). is_in l id) (sym (ids_are cs Event)) ∙ is_in-ids_of ms id)
+    ∙ by_name (is_named ms id) refl
+  where
+    by_name : (b : Bool) → is_named (mentions Event cs) id ≡ b → (b && is_touched (mentions Event cs) k (count_of_kind cs Event) id) ≡ is_touched (mentions Event cs) k (count_of_kind cs Event) id
+    by_name true is = refl
+    by_name false is = sym (touched_named (mentions Event cs) k (count_of_kind cs Event) id is)

@@ -1,13 +1,14 @@
 //! What changed of a query's result since a state.
-ghost use Rattle.std.specs.Prelude.{◌≡◌, ◌≤◌, ◌∷◌, [], IfErr, IfOk, OnOk, None, codes, map, option_map, true, unsigned_abs};
+ghost use Rattle.std.specs.Prelude.{◌≡◌, ◌∷◌, [], IfErr, IfOk, OnOk, None, codes, map, option_map, true, unsigned_abs};
 ghost use Rattle.account_store.specs.Store.{entries};
 ghost use Rattle.event_store.specs.EventsBase.{base_of};
-ghost use Rattle.spec_history.specs.History.{changes_of, count_of_kind};
+ghost use Rattle.spec_history.specs.History.{changes_of};
 ghost use Rattle.spec_history.specs.Pages.{is_within};
 ghost use Rattle.spec_history.specs.declared.entry.Kind.TheVariants.{Event};
 ghost use Rattle.spec_history.specs.States.{state_of, state_text};
 ghost use Rattle.spec_json.specs.Data.{items_of, list, text};
 ghost use Rattle.spec_json.specs.TreeData.{data_of, keyed};
+ghost use Rattle.spec_sizes.specs.Sizes.{is_answered_from};
 ghost use Rattle.spec_queries.specs.Changed.{added_item, changed_response, delta_response, delta_since, size_of_delta, size_refusal};
 ghost use Rattle.spec_queries.specs.Found.{total_member};
 ghost use Rattle.spec_queries.specs.States.{id_list, is_maximum};
@@ -20,7 +21,6 @@ use crate::event_state::event_state;
 use crate::ids::{id_list, number_tree};
 use crate::result::{current_result, touched_result};
 use crate::sight::Sight;
-use crate::touched::touched_since;
 use event_store::StoredEvents;
 use query_order::change::changes_of;
 use query_order::order::Order;
@@ -42,7 +42,7 @@ pub(crate) fn changed(
     since: u64,
 ) -> Result<Tree, QueryError>
     requires zones { sight.now.zones.now ≡ events.now.zones.now }
-    requires reached { since ≤ count_of_kind (changes_of (entries events.now.store.now)) Event }
+    requires answered { is_answered_from Event (changes_of (entries events.now.store.now)) since ≡ true }
     requires maximum { is_maximum arguments.now.max ≡ true }
     ensures response { IfOk result (λ t. t ≡ changed_response (seen_by sight.now) order.now (changes_of (entries events.now.store.now)) (base_of events.now) arguments.now since) }
     ensures few { OnOk result (size_refusal (seen_by sight.now) order.now (changes_of (entries events.now.store.now)) arguments.now since ≡ None) }
@@ -66,16 +66,11 @@ fn delta_since(
     now: &[u64],
 ) -> Result<Delta, AllocError>
     requires zones { sight.now.zones.now ≡ events.now.zones.now }
-    requires reached { since ≤ count_of_kind (changes_of (entries events.now.store.now)) Event }
+    requires answered { is_answered_from Event (changes_of (entries events.now.store.now)) since ≡ true }
     requires result { now.now ≡ result_of (seen_by sight.now) order.now (changes_of (entries events.now.store.now)) }
     ensures { IfOk result (λ delta. delta ≡ delta_since (seen_by sight.now) order.now (changes_of (entries events.now.store.now)) since) }
 {
-    let touched = touched_since(
-        alloc,
-        events.store.entries(),
-        events.store.count(Kind::Event),
-        since,
-    )?;
+    let touched = events.store.touched_since(alloc, since)?;
     let before = touched_result(alloc, events, sight, order, since, &touched)?;
     changes_of(alloc, &before, now, &touched)
 }

@@ -14,4 +14,3 @@ pub mod query;
 pub mod query_changes;
 mod result;
 mod sight;
-mod touched;

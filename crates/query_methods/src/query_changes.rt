@@ -1,10 +1,10 @@
 //! `CalendarEvent/queryChanges` (RFC 8620 section 5.6, draft JMAP for Calendars).
-ghost use Rattle.std.specs.Prelude.{◌≡◌, ◌≤◌, IfErr, IfOk, IfSome, OnOk, None, if◌then◌else◌};
+ghost use Rattle.std.specs.Prelude.{◌≡◌, IfErr, IfOk, IfSome, OnOk, None, if◌then◌else◌, true};
 ghost use Rattle.account_store.specs.Store.{entries};
 ghost use Rattle.event_store.specs.EventsBase.{base_of};
-ghost use Rattle.spec_history.specs.History.{changes_of, count_of_kind};
-ghost use Rattle.spec_history.specs.Pages.{is_retained};
+ghost use Rattle.spec_history.specs.History.{changes_of};
 ghost use Rattle.spec_history.specs.declared.entry.Kind.TheVariants.{Event};
+ghost use Rattle.spec_sizes.specs.Sizes.{is_answered_from};
 ghost use Rattle.spec_queries.specs.Queries.{query_changes_refusal, query_changes_response};
 ghost use Rattle.spec_queries.specs.States.{is_known_state};
 ghost use Rattle.query_methods.specs.Reports.{Reports};
@@ -19,7 +19,6 @@ use spec_calls::call::{MethodError, QueryChangesArguments};
 use spec_history::entry::Kind;
 use spec_json::text::Text;
 use spec_json::tree::Tree;
-use state_log::WINDOW;
 use std::alloc::Global;
 use time_text::number_named;
 
@@ -52,18 +51,12 @@ pub fn query_changes(
 fn number_known(events: &StoredEvents<'_>, text: &Text) -> Option<u64>
     ensures value { result ≡ (if is_known_state events.now.generation Event (changes_of (entries events.now.store.now)) text.now
         then number_named events.now.generation text.now else None) }
-    ensures reached { IfSome result (λ number. number ≤ count_of_kind (changes_of (entries events.now.store.now)) Event) }
+    ensures answered { IfSome result (λ number. is_answered_from Event (changes_of (entries events.now.store.now)) number ≡ true) }
 {
     let number = number_named(events.generation, text.as_str().as_bytes())?;
-    if is_retained(events.store.count(Kind::Event), number) {
+    if events.store.retained(Kind::Event, number) {
         Some(number)
     } else {
         None
     }
-}
-
-fn is_retained(count: u64, number: u64) -> bool
-    ensures { result ≡ is_retained count number }
-{
-    number <= count && count - number <= WINDOW
 }

@@ -1,10 +1,11 @@
 //! Results of queries at the states of an account's history.
-ghost use Rattle.std.specs.Prelude.{◌≡◌, IfOk, filter, length, map};
-ghost use Rattle.account_store.specs.Earlier.{changes_up_to};
+ghost use Rattle.std.specs.Prelude.{◌≡◌, IfOk, filter, length, map, true};
+ghost use Rattle.account_store.specs.Earlier.{changes_up_to, touched_ids};
 ghost use Rattle.account_store.specs.Store.{entries};
 ghost use Rattle.spec_history.specs.History.{changes_of, live_object};
 ghost use Rattle.spec_history.specs.Pages.{is_in};
 ghost use Rattle.spec_history.specs.declared.entry.Kind.TheVariants.{Event};
+ghost use Rattle.spec_sizes.specs.Sizes.{is_answered_from};
 ghost use Rattle.spec_queries.specs.Matching.{match_of, result_at, result_of, with_number};
 ghost use Rattle.query_methods.specs.Among.{matches_among, number_if, result_among};
 ghost use Rattle.query_methods.specs.Compared.{seen_in};
@@ -12,7 +13,6 @@ ghost use Rattle.query_methods.specs.Sights.{seen_by};
 
 use crate::sight::Sight;
 use event_store::StoredEvents;
-use query_order::change::numbers_among;
 use query_order::order::Order;
 use query_order::result::{numbers_at, result};
 use spec_history::entry::Kind;
@@ -32,14 +32,13 @@ pub(crate) fn current_result(
     ensures { IfOk result (λ v. v.items ≡ result_of (seen_by sight.now) order.now (changes_of (entries events.now.store.now))) }
 {
     let state = events.store.count(Kind::Event);
-    let numbers = events.store.ids(Kind::Event);
-    result_among(alloc, events, sight, order, state, numbers)
+    let numbers = events.store.live_ids(alloc, Kind::Event)?;
+    result_among(alloc, events, sight, order, state, &numbers)
 }
 
-/// Those of the numbers in the result at state `state` of events that are in a list, in the order of the result.
+/// The result at state `state` of events of those alone that changes behind it name, where these are all of them. So no other can have been left out.
 ///
-/// Takes memory for them and their items alone, and for the list of those that were live then.
-#[tactic(auto, using(crate::proofs::ResultLemmas::touched_result))]
+/// Takes memory for them and their items.
 pub(crate) fn touched_result(
     alloc: Global,
     events: &StoredEvents<'_>,
@@ -48,12 +47,12 @@ pub(crate) fn touched_result(
     state: u64,
     touched: &[u64],
 ) -> Result<Vec<u64>, AllocError>
-    requires { sight.now.zones.now ≡ events.now.zones.now }
+    requires zones { sight.now.zones.now ≡ events.now.zones.now }
+    requires answered { is_answered_from Event (changes_of (entries events.now.store.now)) state ≡ true }
+    requires touched { touched.now ≡ touched_ids (changes_of (entries events.now.store.now)) Event state }
     ensures { IfOk result (λ v. filter (is_in touched.now) v.items ≡ filter (is_in touched.now) (result_at (seen_by sight.now) order.now (changes_of (entries events.now.store.now)) state)) }
 {
-    let live = events.store.live_ids_at(alloc, Kind::Event, state)?;
-    let among = numbers_among(alloc, live.items(), touched)?;
-    result_among(alloc, events, sight, order, state, &among)
+    result_among(alloc, events, sight, order, state, touched)
 }
 
 // The result of a query that looks at these events alone, at a state.
@@ -65,7 +64,8 @@ fn result_among(
     state: u64,
     numbers: &[u64],
 ) -> Result<Vec<u64>, AllocError>
-    requires { sight.now.zones.now ≡ events.now.zones.now }
+    requires zones { sight.now.zones.now ≡ events.now.zones.now }
+    requires answered { is_answered_from Event (changes_of (entries events.now.store.now)) state ≡ true }
     ensures { IfOk result (λ v. v.items ≡ result_among (seen_by sight.now) order.now (changes_up_to (entries events.now.store.now) Event state) numbers.now) }
 {
     if order.is_empty() {
@@ -91,7 +91,8 @@ fn matches_among(
     state: u64,
     numbers: &[u64],
 ) -> Result<Matches, AllocError>
-    requires { sight.now.zones.now ≡ events.now.zones.now }
+    requires zones { sight.now.zones.now ≡ events.now.zones.now }
+    requires answered { is_answered_from Event (changes_of (entries events.now.store.now)) state ≡ true }
     ensures numbers { IfOk result (λ m. m.numbers.items ≡ map (λ p. p.0) (matches_among (seen_in order.now (seen_by sight.now)) (changes_up_to (entries events.now.store.now) Event state) numbers.now)) }
     ensures items { IfOk result (λ m. m.items.items ≡ map (λ p. p.1) (matches_among (seen_in order.now (seen_by sight.now)) (changes_up_to (entries events.now.store.now) Event state) numbers.now)) }
     ensures paired { IfOk result (λ m. length m.numbers.items ≡ length m.items.items) }
@@ -118,7 +119,8 @@ fn item_at(
     state: u64,
     number: u64,
 ) -> Result<Option<Item>, AllocError>
-    requires { sight.now.zones.now ≡ events.now.zones.now }
+    requires zones { sight.now.zones.now ≡ events.now.zones.now }
+    requires answered { is_answered_from Event (changes_of (entries events.now.store.now)) state ≡ true }
     ensures { IfOk result (λ o. with_number number o ≡ match_of (seen_in order.now (seen_by sight.now)) number (live_object (changes_up_to (entries events.now.store.now) Event state) Event number)) }
 {
     match events.event_at(number, state) {
@@ -135,7 +137,8 @@ fn found_among(
     state: u64,
     numbers: &[u64],
 ) -> Result<Vec<u64>, AllocError>
-    requires { sight.now.zones.now ≡ events.now.zones.now }
+    requires zones { sight.now.zones.now ≡ events.now.zones.now }
+    requires answered { is_answered_from Event (changes_of (entries events.now.store.now)) state ≡ true }
     ensures { IfOk result (λ v. v.items ≡ map (λ p. p.0) (matches_among (seen_by sight.now) (changes_up_to (entries events.now.store.now) Event state) numbers.now)) }
 {
     let mut found = Vec::new(alloc);
@@ -154,7 +157,8 @@ fn is_match(
     state: u64,
     number: u64,
 ) -> Result<bool, AllocError>
-    requires { sight.now.zones.now ≡ events.now.zones.now }
+    requires zones { sight.now.zones.now ≡ events.now.zones.now }
+    requires answered { is_answered_from Event (changes_of (entries events.now.store.now)) state ≡ true }
     ensures { IfOk result (λ b. number_if b number ≡ map (λ p. p.0) (match_of (seen_by sight.now) number (live_object (changes_up_to (entries events.now.store.now) Event state) Event number))) }
 {
     match events.event_at(number, state) {

@@ -39,14 +39,6 @@ pub fn splice(alloc: Global, old: &[u64], delta: &Delta) -> Result<Ids, AllocErr
     Ok(Ids::new(put_in(alloc, &kept, delta.added.items())?))
 }
 
-/// Those of the numbers that are in another list, in order. Takes memory for them and for a copy of the other list.
-pub fn numbers_among(alloc: Global, numbers: &[u64], others: &[u64]) -> Result<Vec<u64>, AllocError>
-    ensures { IfOk result (λ v. v.items ≡ filter (is_in others.now) numbers.now) }
-{
-    let sorted = sorted(alloc, others)?;
-    among(alloc, numbers, &sorted)
-}
-
 // The same numbers, so that a binary search finds them.
 fn sorted(alloc: Global, ids: &[u64]) -> Result<Vec<u64>, AllocError>
     ensures rising { IfOk result (λ v. IsNonDecreasing v.items) }

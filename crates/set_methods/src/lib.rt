@@ -5,6 +5,7 @@ mod arguments;
 pub mod asked_ids;
 mod carry_out;
 mod changed;
+pub mod copy;
 mod created;
 mod named_id;
 mod objects;

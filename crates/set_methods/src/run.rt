@@ -6,13 +6,13 @@ ghost use Rattle.spec_json.specs.Data.{Data};
 ghost use Rattle.spec_json.specs.TreeData.{pair_of};
 ghost use Rattle.object_outcomes.specs.Judging.{IsAllowed, ground_in, operation_in};
 
+use crate::copy::copy_of;
 use cal_model::outcome::Outcome;
 use cal_model::view::AccountView;
 use object_outcomes::created_ids::CreatedIds;
 use object_outcomes::judge::{judge, judge_create};
 use object_outcomes::operation::Operation;
 use object_outcomes::setting::{Judged, Setting};
-use spec_history::entry::Change;
 use spec_json::text::Text;
 use spec_json::tree::Member;
 use std::alloc::{AllocError, Global};
@@ -117,18 +117,4 @@ fn staged<V: AccountView>(view: &mut V, judged: Judged) -> Result<Outcome, Alloc
         Outcome::Refused(_) => {}
     }
     Ok(outcome)
-}
-
-fn copy_of(change: &Change) -> Result<Change, AllocError>
-    ensures { IfOk result (λ c. c ≡ change.now) }
-{
-    let object = match &change.object {
-        Some(object) => Some(object.copy()?),
-        None => None,
-    };
-    Ok(Change {
-        kind: change.kind,
-        id: change.id,
-        object,
-    })
 }

@@ -5,7 +5,7 @@ use Rattle.account_core.specs.Ledger.{base}
 use Rattle.account_store.specs.Store.{entries}
 use Rattle.spec_history.specs.History.{changes_of}
 use Rattle.spec_history.specs.Pages.{mentions}
-use Rattle.state_log.specs.IsPage.{IsPage}
+use Rattle.object_log.specs.IsPage.{IsPage}
 use Rattle.time_text.specs.State.{number_named}
 use Rattle.account_core.proofs.changes.changes.Goals as goal
 

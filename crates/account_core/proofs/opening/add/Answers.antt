@@ -1,4 +1,4 @@
-use Rattle.std.proofs.Common.{◌≡◌, ◌++◌, ◌∙◌, List, Some, ap, append-nil, false, length, subst, sym}
+use Rattle.std.proofs.Common.{◌≡◌, ◌++◌, ◌∙◌, List, Some, ap, append-nil, false, subst, sym}
 use Rattle.std.proofs.lemmas.List.{length-map}
 use Rattle.std.specs.Arc.{arc_value}
 use Rattle.account_core.proofs.Soundness.{first_place}
@@ -16,4 +16,4 @@ returns-clause-refused c more =
     let unsound : is_sound zones (changes l) c.args.entry.change ≡ false = subst (IsJudged zones (changes l) c.args.entry.change) c.in-None.is c.in_ok-sound.ensures in
     let here = ap (λ (cs : List Change). is_sound zones cs c.args.entry.change) (sym (ap (λ (cs : List Change). history l ++ cs) c.requires ∙ append-nil (history l))) ∙ unsound in
     first_place zones (history l) c.args.entry.change more l.kept_sound here
-    ∙ ap Some (length-map (ledger_entries l) (λ (e : Entry). e.change) ∙ sym (ap length c.entries.ensures))
+    ∙ ap Some (length-map (ledger_entries l) (λ (e : Entry). e.change) ∙ sym c.len-place.ensures)

@@ -14,8 +14,8 @@ use Rattle.spec_history.specs.Base.{Base}
 use Rattle.spec_history.specs.declared.entry.Entry.{Entry}
 use Rattle.kept_run.proofs.texts.new_texts.Goals as goal
 
-pub added_since-added-requires : goal.added_since-added-requires
-added_since-added-requires c =
+pub added_since-requires : goal.added_since-requires
+added_since-requires c =
     let there : c.loop-n.n < length c.args.places.now = omega (arith, c.accounts-n-end.ensures, c.requires.each) in
     let beside : c.loop-n.n < length c.args.desk.now.0 = omega (arith, c.accounts-n-end.ensures, c.requires.all) in
     subst (λ (a : Base × List Entry). get_or c.args.places.now c.loop-n.n 0 ≤ length a.1) (sym c.account-account.ensures) (within_at c.loop-n.n c.args.places.now c.args.desk.now.0 c.requires.within there beside)
@@ -29,8 +29,8 @@ loop-n-preserved c =
     let there : c.loop-n.n < length c.args.places.now = omega (arith, c.accounts-n-end.ensures, c.requires.each) in
     let beside : c.loop-n.n < length c.args.desk.now.0 = omega (arith, c.accounts-n-end.ensures, c.requires.all) in
     let account : c.account-account.result.now ≡ get_or c.args.desk.now.0 c.loop-n.n no_account = c.account-account.ensures in
-    let added : c.added_since-added.result.now ≡ drop (get_or c.args.places.now c.loop-n.n 0) (get_or c.args.desk.now.0 c.loop-n.n no_account).1 =
-    c.added_since-added.ensures ∙ ap (λ (a : Base × List Entry). drop (get_or c.args.places.now c.loop-n.n 0) a.1) account in
+    let added : c.in-Some.added.now ≡ drop (get_or c.args.places.now c.loop-n.n 0) (get_or c.args.desk.now.0 c.loop-n.n no_account).1 =
+    c.in-Some.ensures ∙ ap (λ (a : Base × List Entry). drop (get_or c.args.places.now c.loop-n.n 0) a.1) account in
     let more : c.in_ok-more.more.items ≡ labelled (get_or c.args.site.now.accounts c.loop-n.n nameless).id (drop (get_or c.args.places.now c.loop-n.n 0) (get_or c.args.desk.now.0 c.loop-n.n no_account).1) =
     c.in_ok-more.ensures.texts ∙ (λ i. labelled (c.account_id.ensures nameless i) (added i)) in
     let place : ℕ = get_or c.args.places.now c.loop-n.n 0 in

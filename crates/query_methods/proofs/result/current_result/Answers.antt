@@ -14,5 +14,6 @@ returns c =
     let order = c.args.order.now in
     let es = entries c.args.events.now.store.now in
     let state = c.count-state.result in
-    let whole = ap (result_among see order (changes_up_to es Event state)) c.ids-numbers.ensures ∙ result_now see order es state c.count-state.ensures in
+    let listed = c.deref.ensures.value ∙ c.in_ok-numbers.ensures in
+    let whole = ap (result_among see order (changes_up_to es Event state)) listed ∙ result_now see order es state c.count-state.ensures.exact in
     IfOk-weaker c.result_among.result _ _ (λ v is. is ∙ whole) c.result_among.ensures

@@ -15,7 +15,7 @@ pub returns-clause-exact : goal.returns-clause-exact
 returns-clause-exact c =
     let l = c.self.inside.ledger in
     let same =
-    ap (λ ds. bookings_of (arc_value l.zones) (history l ++ ds) c.args.calendar) c.self.invariant
+    ap (λ ds. bookings_of (arc_value l.zones) (history l ++ ds) c.args.calendar) c.self.invariant.0
     ∙ ap (λ ds. bookings_of (arc_value l.zones) ds c.args.calendar) (append-nil (history l))
     ∙ ap (λ (v : Base × List Entry). bookings_of v.0.zones (changes_of v.1) c.args.calendar) c.self.view_is in
     c.first_clash.ensures.exact ∙ ap (λ (bs : List Booking). first_clash (without_booking c.args.event bs) c.args.series.now) same
@@ -24,7 +24,7 @@ pub returns-clause-least : goal.returns-clause-least
 returns-clause-least c =
     let l = c.self.inside.ledger in
     let same =
-    ap (λ ds. bookings_of (arc_value l.zones) (history l ++ ds) c.args.calendar) c.self.invariant
+    ap (λ ds. bookings_of (arc_value l.zones) (history l ++ ds) c.args.calendar) c.self.invariant.0
     ∙ ap (λ ds. bookings_of (arc_value l.zones) ds c.args.calendar) (append-nil (history l))
     ∙ ap (λ (v : Base × List Entry). bookings_of v.0.zones (changes_of v.1) c.args.calendar) c.self.view_is in
     subst (λ (bs : List Booking). IsLeastOf (IsClash (without_booking c.args.event bs) c.args.series.now) (option_map second_of c.first_clash.result)) same c.first_clash.ensures.least

@@ -1,8 +1,12 @@
-use Rattle.std.proofs.Common.{arith}
-use Rattle.std.proofs.lemmas.Grind.{common_steps}
+use Rattle.std.proofs.Common.{ap, flat_map, ◌∙◌}
+use Rattle.std.proofs.lemmas.List.{take_all}
+use Rattle.account_store.proofs.LiveLemmas.{objects_of_live}
+use Rattle.account_store.specs.Store.{entries}
+use Rattle.spec_history.specs.History.{changes_of, live_object, some_object}
 use Rattle.account_store.proofs.store.Store.live.Goals as goal
 
 pub returns : goal.returns
 returns c =
-    let past = c.loop-id-test.false in
-    grind (arith, common_steps, c.ids-id-items.ensures, c.loop-id.invariant)
+    let cs = changes_of (entries c.args.self.now) in
+    let kind = c.args.kind in
+    c.loop-id.invariant ∙ ap (flat_map (λ id. some_object (live_object cs kind id))) (take_all c.loop-id.id-index c.deref-id-items.result.now c.loop-id-test.false ∙ c.deref-id-items.ensures.value ∙ c.in_ok-ids.ensures) ∙ objects_of_live cs kind

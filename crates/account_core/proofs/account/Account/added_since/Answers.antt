@@ -1,0 +1,21 @@
+use Rattle.std.proofs.Common.{◌≤◌, ◌∙◌, ℕ, List, Option, Some, ap, drop, length, subst, sym}
+use Rattle.account_core.proofs.Trails.{from_place, reaches}
+use Rattle.account_core.specs.Ledger.{ledger_entries}
+use Rattle.account_core.specs.Trails.{AreFrom}
+use Rattle.spec_history.specs.Base.{Base}
+use Rattle.spec_history.specs.declared.entry.Entry.{Entry}
+use Rattle.account_core.proofs.account.Account.added_since.Goals as goal
+
+pub since-requires-clause-reached : goal.since-requires-clause-reached
+since-requires-clause-reached c =
+    let h = ledger_entries c.self.inside.ledger in
+    let es = c.self.inside.trail.entries.items in
+    let are : AreFrom (Some c.in-Some.first) es h = subst (λ (o : Option ℕ). AreFrom o es h) c.in-Some.is c.self.invariant.1 in
+    reaches c.in-Some.first c.args.place es h are (subst (λ (v : Base × List Entry). c.args.place ≤ length v.1) (sym c.self.view_is) c.requires)
+
+pub returns-in-Some : goal.returns-in-Some
+returns-in-Some c =
+    let h = ledger_entries c.self.inside.ledger in
+    let es = c.self.inside.trail.entries.items in
+    let are : AreFrom (Some c.in-Some.first) es h = subst (λ (o : Option ℕ). AreFrom o es h) c.in-Some.is c.self.invariant.1 in
+    c.since.ensures ∙ from_place c.in-Some.first c.args.place es h are c.if-first-le-place.true ∙ ap (λ (v : Base × List Entry). drop c.args.place v.1) c.self.view_is

@@ -1,4 +1,0 @@
-pub mod Puts
-pub mod Versions
-pub mod Table
-pub mod Histories
