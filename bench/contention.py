@@ -38,7 +38,7 @@ def event(number):
 GET = message("CalendarEvent/get", {"accountId": "A1", "ids": ["E1"]})
 QUERY = message("CalendarEvent/query", {"accountId": "A1", "filter": {"after": "2026-06-01T00:00:00", "before": "2026-07-01T00:00:00"}, "sort": [{"property": "start"}], "limit": 100})
 CREATE = message("CalendarEvent/set", {"accountId": "A1", "create": {"e": event(0)}})
-# Each with how many a client sends: an account takes 50,000 changes.
+# Each with how many a client sends: an account has at most 50,000 objects.
 KINDS = {"gets of one event": (GET, 4000), "queries of a month": (QUERY, 400), "creates": (CREATE, 1000)}
 
 
