@@ -110,17 +110,17 @@ unswitched {user} {moment} asking {f} {f'} {d} {d'} fronts same =
 -- ---- a look
 
 -- it makes no more calls than there are states
-pub look_calls : {moment : ℤ} {watch watch' : List Watched} {d d' : Shown} (looked : Looked) → LooksSo moment watch watch' d d' (Ok looked) → looked.calls ≤ length watch
-look_calls {moment} {watch} looked s = (
+pub look_calls : {moment : ℤ} {watch watch' : List Watched} {d d' : Shown} (came : Looked) → LooksSo moment watch watch' d d' (Ok came) → came.calls ≤ length watch
+look_calls {moment} {watch} came s = (
     let within = look_within watch moment s.look s.how.0.whole.0 in
     let made = made_for_few s.look.sights in
     let calls = s.how.2 in
     omega (arith, within, made, calls)
     )
 
-pub look_told : (moment : ℤ) (p p' : Push) (d d' : Shown) (looked : Looked) (said : Said) → LooksSo moment p.watch p'.watch d d' (Ok looked) → p'.calls ≡ p.calls + looked.calls
-    → texts_said said ≡ texts_in looked.told → replies_said said ≡ [] → IsLookHad moment p p' d d' (Ok said)
-look_told moment p p' d d' looked said s calls says none = record {
+pub look_told : (moment : ℤ) (p p' : Push) (d d' : Shown) (came : Looked) (said : Said) → LooksSo moment p.watch p'.watch d d' (Ok came) → p'.calls ≡ p.calls + came.calls
+    → texts_said said ≡ texts_in came.told → replies_said said ≡ [] → IsLookHad moment p p' d d' (Ok said)
+look_told moment p p' d d' came said s calls says none = record {
   look = s.look;
   desk = s.desk;
   chain = s.chain;
