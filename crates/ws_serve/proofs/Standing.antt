@@ -1,6 +1,7 @@
 -- Where the loop of a socket stands, and what each of its ends says.
-use Rattle.std.proofs.Common.{◌≡◌, ℕ, ℤ, ◌+◌, ◌<◌, ◌≤◌, List, [], ◌∷◌, ◌++◌, length, length-append, Option, Some, None, Result, Ok, Err, inl, inr, refl, sym, ap, ◌∙◌, subst, append-nil, arith}
-use Rattle.std.specs.Prelude.{All, sum_by}
+use Rattle.std.proofs.Common.{◌≡◌, ℕ, ℤ, ◌+◌, ◌<◌, ◌≤◌, List, [], ◌∷◌, ◌++◌, length, length-append, Option, Some, None, Result, Ok, Err, inl, inr, refl, sym, ap, ◌∙◌, subst, append-nil, arith, Bool, true, false}
+use Rattle.std.specs.Prelude.{All, nat_lt, sum_by}
+use Rattle.std.proofs.lemmas.Bool.Decides.{nat_tests}
 use Rattle.std.proofs.lemmas.Grind.{flat_map-append, fold-append}
 use Rattle.io_edge.specs.Outside.{Rose}
 use Rattle.spec_batch.proofs.Chains.{accounts_stay}
@@ -73,6 +74,12 @@ serving_start {user} {most} {push} x f none off = record {
   room = omega arith;
   looks = (let none_made = off.1 in omega (arith, none_made));
 }
+
+pub over_of : (b : Bool) (n m : ℕ) → b ≡ nat_lt n m → b ≡ true → n < m
+over_of b n m is holds = (let h : nat_lt n m ≡ true = sym is ∙ holds in search (arith, nat_tests, h))
+
+pub within_of : (b : Bool) (n m : ℕ) → b ≡ nat_lt n m → b ≡ false → m ≤ n
+within_of b n m is fails = (let h : nat_lt n m ≡ false = sym is ∙ fails in search (arith, nat_tests, h))
 
 rose_more : {a b c : ℕ} → a ≤ b → Rose b c → Rose a c
 rose_more {a} {b} {c} h r = omega arith
