@@ -1,8 +1,9 @@
 #!/usr/bin/env python3
 """Has clients talk to `jmapd listen --sockets-port` over HTTP and over WebSockets, on the same accounts.
 
-What a socket changes a connection sees at once, and the other way round; of 400 calendars that four of each make at the same time each is there once, in the order of one history. Open
-sockets, as many as their workers, hold up no connection; the next one is served when one of them closes. Handshakes that don't come hold a worker for 10 s and no longer. And with `--journals`, what was answered on either is there behind `kill -9` and a new start.
+What a socket changes a connection sees at once, and the other way round; of 400 calendars that four of each make at the same time each is there once, in the order of one history. The
+session object lists the address of WebSockets that the configuration gives. Open sockets, as many as their workers, hold up no connection; the next one is served when one of them closes.
+Handshakes that don't come hold a worker for 10 s and no longer. And with `--journals`, what was answered on either is there behind `kill -9` and a new start.
 
     examples/both_ports.py [PATH_OF_THE_PROGRAM]
 """
@@ -23,13 +24,14 @@ import time
 
 from peers import free_port, joined
 
-CORE, CALENDARS = ("urn:ietf:params:jmap:" + name for name in ("core", "calendars"))
+CORE, CALENDARS, WEBSOCKET = ("urn:ietf:params:jmap:" + name for name in ("core", "calendars", "websocket"))
 SITE = json.loads(pathlib.Path("examples/site.json").read_text(encoding="utf-8"))
+URL = "wss://calendar.example/jmap/ws"
 WORKERS = 4
 
 
 def request(calls):
-    return {"using": [CORE, CALENDARS], "methodCalls": calls}
+    return {"using": [CORE, CALENDARS, WEBSOCKET], "methodCalls": calls}
 
 
 def made(name):
@@ -45,12 +47,15 @@ class Http:
     def __init__(self, port):
         self.port = port
 
-    def asked(self, calls):
+    def sent(self, method, path, body=None):
         peer = http.client.HTTPConnection("127.0.0.1", self.port, timeout=60)
-        peer.request("POST", "/jmap", json.dumps(request(calls)), {"Authorization": "Bearer t-ann"})
+        peer.request(method, path, body, {"Authorization": "Bearer t-ann"})
         answer = json.loads(peer.getresponse().read())
         peer.close()
-        return answer["methodResponses"][0][1]
+        return answer
+
+    def asked(self, calls):
+        return self.sent("POST", "/jmap", json.dumps(request(calls)))["methodResponses"][0][1]
 
     def close(self):
         pass
@@ -96,15 +101,17 @@ class Socket:
 
 
 class Server:
-    """The program on two ports."""
+    """The program, with a configuration that gives an address of WebSockets."""
 
-    def __init__(self, program, *more):
+    def __init__(self, program, folder, *more):
         self.program, self.more = program, more
+        self.site = pathlib.Path(folder) / "site.json"
+        self.site.write_text(json.dumps({**SITE, "webSocketUrl": URL}), encoding="utf-8")
 
     @contextlib.contextmanager
     def running(self):
         self.port, self.sockets_port = free_port(), free_port()
-        words = [self.program, "listen", "--config", "examples/site.json", "--port", str(self.port), "--workers", "4", *self.more]
+        words = [self.program, "listen", "--config", str(self.site), "--port", str(self.port), "--workers", "4", *self.more]
         words += ["--sockets-port", str(self.sockets_port), "--socket-workers", str(WORKERS)]
         server = subprocess.Popen(words, stderr=subprocess.PIPE, text=True)
         lines = [server.stderr.readline().strip() for _ in range(2 if "--journals" in self.more else 3)]
@@ -155,6 +162,12 @@ def all_at_once(server):
         client.close()
 
 
+def discovery(server):
+    session = Http(server.port).sent("GET", "/.well-known/jmap")
+    yield "the session object has the address", session["capabilities"][WEBSOCKET] == {"url": URL, "supportsPush": True}
+    yield "it is no capability of an account", all(WEBSOCKET not in account["accountCapabilities"] for account in session["accounts"].values())
+
+
 def open_sockets(server):
     held = [Socket(server.sockets_port) for _ in range(WORKERS)]
     yield "as many sockets as workers are open", all(peer.status == [b"101"] for peer in held)
@@ -189,7 +202,7 @@ def handshakes_that_do_not_come(server):
 def killed(program, folder):
     journals = pathlib.Path(folder) / "journals"
     journals.mkdir()
-    server = Server(program, "--journals", str(journals))
+    server = Server(program, folder, "--journals", str(journals))
     with server.running():
         web, peer = Http(server.port), Socket(server.sockets_port)
         for count in range(20):
@@ -204,10 +217,10 @@ def main():
     program = sys.argv[1] if len(sys.argv) > 1 else "crates/jmapd/out/jmapd"
     results = []
     with tempfile.TemporaryDirectory() as folder:
-        server = Server(program)
+        server = Server(program, folder)
         with server.running():
             results.append(("the lines tell of both ports", server.told))
-            for part in (both_see_both, all_at_once, open_sockets, handshakes_that_do_not_come):
+            for part in (both_see_both, all_at_once, discovery, open_sockets, handshakes_that_do_not_come):
                 results += part(server)
         results += killed(program, folder)
     for what, is_so in results:

@@ -9,7 +9,7 @@ ghost use Rattle.spec_batch.specs.Requests.{created_ids_of, invocation_of, invoc
 ghost use Rattle.spec_json.specs.TreeData.{data_of, pair_of};
 
 use spec_batch::request::{BatchError, Invocation, Invocations, Limit, Request, RequestError};
-use spec_core::capability::{AVAILABILITY, CALENDARS, CORE, SLOTS};
+use spec_core::capability::{AVAILABILITY, CALENDARS, CORE, SLOTS, WEBSOCKET};
 use spec_core::limits::MAX_CALLS_IN_REQUEST;
 use spec_json::lists::Texts;
 use spec_json::text::Text;
@@ -191,5 +191,5 @@ fn are_capabilities(names: &[Text]) -> bool
 fn is_known_capability(name: &str) -> bool
     ensures { result ≡ is_capability name.now }
 {
-    name == CORE || name == CALENDARS || name == AVAILABILITY || name == SLOTS
+    name == CORE || name == CALENDARS || name == AVAILABILITY || name == SLOTS || name == WEBSOCKET
 }

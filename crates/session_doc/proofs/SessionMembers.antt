@@ -23,7 +23,7 @@ module _ (site : Site) where
   -- the members put together, in two parts
   abbrev pub leading_members : List ℕ → List Grant → List Pair
   leading_members base grants =
-      (codes "accounts", object (members_of (put_all (account_members site grants) []))) ∷ (codes "apiUrl", text (base ++ codes "/jmap")) ∷ (codes "capabilities", capabilities)
+      (codes "accounts", object (members_of (put_all (account_members site grants) []))) ∷ (codes "apiUrl", text (base ++ codes "/jmap")) ∷ (codes "capabilities", capabilities site.web_socket_url)
       ∷ (codes "downloadUrl", text (base ++ codes "/download/{accountId}/{blobId}/{name}?accept={type}")) ∷ []
 
   abbrev pub trailing_members : List ℕ → List Grant → List ℕ → List Pair

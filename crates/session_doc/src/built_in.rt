@@ -24,7 +24,7 @@ impl Site {
         let accounts = vec![in alloc; account]?;
         let users = vec![in alloc; local_user(alloc)?]?;
         let zones = Arc::new(alloc, no_zones(alloc)?)?;
-        Ok(Site::new(base_url, accounts, users, zones, 0))
+        Ok(Site::new(base_url, accounts, users, zones, 0, None))
     }
 }
 

@@ -1,10 +1,10 @@
 //! The capabilities of the server and of its accounts.
-ghost use Rattle.std.specs.Prelude.{◌≡◌, [], IfOk, pos};
+ghost use Rattle.std.specs.Prelude.{◌≡◌, [], IfOk, Some, map, option_map, pos};
 ghost use Rattle.spec_json.specs.Data.{members_of, object, whole};
-ghost use Rattle.spec_site.specs.SessionObject.{account_capabilities, capabilities, core_capability};
-ghost use Rattle.spec_json.specs.TreeData.{data_of};
+ghost use Rattle.spec_site.specs.SessionObject.{account_capabilities, capabilities, core_capability, own_capabilities, web_socket_capability};
+ghost use Rattle.spec_json.specs.TreeData.{data_of, keyed};
 
-use spec_core::capability::{AVAILABILITY, CALENDARS, CORE, SLOTS};
+use spec_core::capability::{AVAILABILITY, CALENDARS, CORE, SLOTS, WEBSOCKET};
 use spec_core::limits::{
     MAX_CALLS_IN_REQUEST, MAX_OBJECTS_IN_GET, MAX_OBJECTS_IN_SET, MAX_SIZE_REQUEST,
 };
@@ -13,16 +13,44 @@ use spec_json::text::Text;
 use spec_json::tree::{Tree, TreeList, TreeObject};
 use std::alloc::{AllocError, Global};
 
-/// The capabilities of the server (RFC 8620 section 2, draft JMAP for Calendars). Takes memory for them.
-pub(crate) fn capabilities(alloc: Global) -> Result<Tree, AllocError>
-    ensures { IfOk result (λ tree. data_of tree ≡ capabilities) }
+/// The capabilities of the server (RFC 8620 section 2, draft JMAP for Calendars), that of WebSockets where these have an address (RFC 8887 section 3). Takes memory for them.
+pub(crate) fn capabilities(alloc: Global, web_socket_url: Option<&Text>) -> Result<Tree, AllocError>
+    ensures { IfOk result (λ tree. data_of tree ≡ capabilities (option_map (λ url. url.now) web_socket_url.entry)) }
 {
+    match web_socket_url {
+        Some(url) => with_web_sockets(alloc, url),
+        None => Tree::object(alloc, own_capabilities(alloc)?),
+    }
+}
+
+fn with_web_sockets(alloc: Global, url: &Text) -> Result<Tree, AllocError>
+    ensures { IfOk result (λ tree. data_of tree ≡ capabilities (Some url.now)) }
+{
+    let mut members = own_capabilities(alloc)?;
+    members.push((WEBSOCKET, web_socket_capability(alloc, url)?))?;
+    Tree::object(alloc, members)
+}
+
+// The capabilities of each site, in byte order of their names.
+fn own_capabilities(alloc: Global) -> Result<Vec<(&'static str, Tree)>, AllocError>
+    ensures { IfOk result (λ ms. map keyed ms.items ≡ own_capabilities) }
+{
+    let core = core_capability(alloc)?;
     let members = vec![in alloc;
         (SLOTS, no_members(alloc)),
         (CALENDARS, no_members(alloc)),
-        (CORE, core_capability(alloc)?),
+        (CORE, core),
         (AVAILABILITY, no_members(alloc)),
     ]?;
+    Ok(members)
+}
+
+// Where WebSockets are, and that changes are told on them.
+fn web_socket_capability(alloc: Global, url: &Text) -> Result<Tree, AllocError>
+    ensures { IfOk result (λ tree. data_of tree ≡ web_socket_capability url.now) }
+{
+    let url = Tree::Text(url.copy()?);
+    let members = vec![in alloc; ("supportsPush", Tree::Truth(true)), ("url", url)]?;
     Tree::object(alloc, members)
 }
 

@@ -11,6 +11,7 @@ use crate::configuration_error::{ConfigurationError, bad};
 use crate::generation::read_generation;
 use crate::site::Site;
 use crate::users::read_users;
+use crate::web_socket_url::read_web_socket_url;
 use crate::zones::read_zones;
 use json_edge::read::{ReadError, read_tree};
 use spec_json::tree::Tree;
@@ -58,5 +59,6 @@ fn read_fields(alloc: Global, tree: &Tree) -> Result<Site, ConfigurationError>
     let users = read_users(alloc, &accounts, tree)?;
     let zones = Arc::new(alloc, read_zones(alloc, tree)?)?;
     let generation = read_generation(tree)?;
-    Ok(Site::new(base_url, accounts, users, zones, generation))
+    let web_socket_url = read_web_socket_url(tree)?;
+    Ok(Site::new(base_url, accounts, users, zones, generation, web_socket_url))
 }

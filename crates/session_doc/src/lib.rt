@@ -16,6 +16,7 @@ mod session_accounts;
 mod site;
 mod site_user;
 mod users;
+mod web_socket_url;
 mod zones;
 
 pub use configuration_error::ConfigurationError;

@@ -41,12 +41,12 @@ fn leading(
     ensures { IfOk result (λ ms. map keyed ms.items ≡
         (codes "accounts", object (members_of (put_all (account_members site.now grants.now) [])))
         ∷ (codes "apiUrl", text (base.now ++ codes "/jmap"))
-        ∷ (codes "capabilities", capabilities)
+        ∷ (codes "capabilities", capabilities site.now.web_socket_url)
         ∷ (codes "downloadUrl", text (base.now ++ codes "/download/{accountId}/{blobId}/{name}?accept={type}")) ∷ []) }
 {
     let accounts = Tree::Object(accounts_object(alloc, site, grants)?);
     let api = address(alloc, base, "/jmap")?;
-    let known = capabilities(alloc)?;
+    let known = capabilities(alloc, site.web_socket_url())?;
     let download = address(
         alloc,
         base,

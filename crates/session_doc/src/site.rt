@@ -1,6 +1,6 @@
 //! A site.
 ghost use Rattle.spec_site.specs.declared.limits.TheConstants.{MAX_ACCOUNTS, MAX_USERS};
-ghost use Rattle.std.specs.Prelude.{◌≡◌, ◌<◌, ◌≤◌, All, IfSome, length, position, slice_index_or};
+ghost use Rattle.std.specs.Prelude.{◌≡◌, ◌<◌, ◌≤◌, All, IfSome, length, option_map, position, slice_index_or};
 ghost use Rattle.std.specs.Str.{bytes_eq};
 ghost use Rattle.std.specs.Arc.{arc_value};
 ghost use Rattle.spec_site.specs.Configuration.{HasItsAccounts, SiteAccount, user_at, user_named, user_of_token};
@@ -13,8 +13,8 @@ use std::marker::Model;
 use std::sync::Arc;
 use zone_table::Zones;
 
-/// What a configuration tells of: the base of the server's addresses, the accounts, the users who may use them, the time zones, and
-/// which copy of the data the accounts go on from.
+/// What a configuration tells of: the base of the server's addresses, the accounts, the users who may use them, the time zones,
+/// which copy of the data the accounts go on from, and where clients find WebSockets.
 #[derive(Drop)]
 pub struct Site {
     base_url: Text,
@@ -22,6 +22,7 @@ pub struct Site {
     users: Vec<SiteUser>,
     zones: Arc<Zones>,
     generation: u64,
+    web_socket_url: Option<Text>,
 }
 
 impl Model for Site {
@@ -32,9 +33,9 @@ impl Model for Site {
 
     ghost Value = { Described };
 
-    ghost view = { λ a. record { base_url = a.base_url; accounts = a.accounts.items; users = a.users.items; zones = arc_value a.zones; generation = a.generation } };
+    ghost view = { λ a. record { base_url = a.base_url; accounts = a.accounts.items; users = a.users.items; zones = arc_value a.zones; generation = a.generation; web_socket_url = a.web_socket_url } };
 
-    ghost invariant = { λ a. (length a.accounts.items ≤ MAX_ACCOUNTS) × (0 < length a.users.items) × (length a.users.items ≤ MAX_USERS) × HasItsAccounts (record { base_url = a.base_url; accounts = a.accounts.items; users = a.users.items; zones = arc_value a.zones; generation = a.generation }) };
+    ghost invariant = { λ a. (length a.accounts.items ≤ MAX_ACCOUNTS) × (0 < length a.users.items) × (length a.users.items ≤ MAX_USERS) × HasItsAccounts (record { base_url = a.base_url; accounts = a.accounts.items; users = a.users.items; zones = arc_value a.zones; generation = a.generation; web_socket_url = a.web_socket_url }) };
 }
 
 impl Site {
@@ -45,12 +46,13 @@ impl Site {
         users: Vec<SiteUser>,
         zones: Arc<Zones>,
         generation: u64,
+        web_socket_url: Option<Text>,
     ) -> Site
         requires few_accounts { length accounts.items ≤ MAX_ACCOUNTS }
         requires some_users { 0 < length users.items }
         requires few_users { length users.items ≤ MAX_USERS }
-        requires granted { HasItsAccounts (record { base_url = base_url; accounts = accounts.items; users = users.items; zones = arc_value zones; generation = generation }) }
-        ensures { result ≡ record { base_url = base_url; accounts = accounts.items; users = users.items; zones = arc_value zones; generation = generation } }
+        requires granted { HasItsAccounts (record { base_url = base_url; accounts = accounts.items; users = users.items; zones = arc_value zones; generation = generation; web_socket_url = web_socket_url }) }
+        ensures { result ≡ record { base_url = base_url; accounts = accounts.items; users = users.items; zones = arc_value zones; generation = generation; web_socket_url = web_socket_url } }
     {
         Site {
             base_url,
@@ -58,6 +60,7 @@ impl Site {
             users,
             zones,
             generation,
+            web_socket_url,
         }
     }
 
@@ -141,6 +144,13 @@ impl Site {
         ensures { result.now ≡ self.now.base_url }
     {
         &self.base_url
+    }
+
+    /// Where clients find WebSockets (RFC 8887 section 3), if they are to find them. Takes no memory.
+    pub(crate) fn web_socket_url(&self) -> Option<&Text>
+        ensures { option_map (λ url. url.now) result ≡ self.now.web_socket_url }
+    {
+        self.web_socket_url.as_ref()
     }
 }
 

@@ -1,4 +1,4 @@
--- The capabilities that requests may use (RFC 8620 sections 2 and 3.3, draft JMAP for Calendars).
+-- The capabilities that requests may use (RFC 8620 sections 2 and 3.3, RFC 8887 section 3, draft JMAP for Calendars).
 use Rattle.std.specs.Prelude.{ℕ, List, ◌||◌, Bool, codes}
 use Rattle.std.specs.Str.{bytes_eq}
 
@@ -15,6 +15,10 @@ availability = codes "urn:ietf:params:jmap:principals:availability"
 abbrev pub slots : List ℕ
 slots = codes "https://jmapd.example/slots"
 
+-- JMAP over WebSocket (RFC 8887 section 3); it has no methods
+abbrev pub websocket : List ℕ
+websocket = codes "urn:ietf:params:jmap:websocket"
+
 -- a capability that a request may use
 abbrev pub is_capability : List ℕ → Bool
-is_capability u = bytes_eq u core || (bytes_eq u calendars || (bytes_eq u availability || bytes_eq u slots))
+is_capability u = bytes_eq u core || (bytes_eq u calendars || (bytes_eq u availability || (bytes_eq u slots || bytes_eq u websocket)))

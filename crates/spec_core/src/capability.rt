@@ -11,3 +11,6 @@ pub const AVAILABILITY: &str = "urn:ietf:params:jmap:principals:availability";
 
 /// The capability of `Resource/findSlot`, an extension of this server's own (RFC 8620 sections 1.8 and 9.4).
 pub const SLOTS: &str = "https://jmapd.example/slots";
+
+/// The capability of JMAP over WebSocket (RFC 8887 section 3). It has no methods.
+pub const WEBSOCKET: &str = "urn:ietf:params:jmap:websocket";

@@ -1,6 +1,6 @@
 -- What the bytes of a configuration come to: a site, or its first bad field with the place of the first bad item.
-use Rattle.std.specs.Prelude.{ℕ, ℤ, ◌<◌, ◌&&◌, All, slice_index_or, List, [], ◌∷◌, ◌++◌, Bool, true, false, not, Option, Some, None, option_and_then, option_map, Result, Ok, Err, codes, int_le, length, nat_le, nat_lt, pos, position, unsigned_abs, if◌then◌else◌}
-use Rattle.std.specs.List.{list_any}
+use Rattle.std.specs.Prelude.{ℕ, ℤ, ◌<◌, ◌==◌, ◌&&◌, ◌||◌, All, slice_index_or, List, [], ◌∷◌, ◌++◌, Bool, true, false, not, Option, Some, None, option_and_then, option_map, Result, Ok, Err, codes, int_le, length, nat_le, nat_lt, pos, position, unsigned_abs, if◌then◌else◌}
+use Rattle.std.specs.List.{list_any, starts_with}
 use Rattle.std.specs.Result.{result_ok}
 use Rattle.std.specs.Str.{bytes_eq}
 use Rattle.spec_json.specs.Data.{Data, null, object, field}
@@ -13,7 +13,7 @@ use Rattle.spec_core.specs.Names.{is_name}
 use Rattle.spec_site.specs.TimeZones.{ZoneText, is_good_zone}
 use Rattle.spec_site.specs.declared.limits.TheConstants.{MAX_ACCOUNTS, MAX_BASE_URL_BYTES, MAX_CONFIGURATION_BYTES, MAX_USERS, MAX_ZONES}
 use Rattle.spec_site.specs.declared.field.Field.{Field}
-use Rattle.spec_site.specs.declared.field.Field.TheVariants.{Json, BaseUrl, Accounts, Users, Zones, Generation}
+use Rattle.spec_site.specs.declared.field.Field.TheVariants.{Json, BaseUrl, Accounts, Users, Zones, Generation, WebSocketUrl}
 use Rattle.spec_core.specs.declared.user.Grant.{Grant}
 use Rattle.spec_core.specs.declared.user.User.{User}
 
@@ -35,6 +35,8 @@ pub record Site : Type 0 where
   pub zones : List ZoneText
   -- which copy of the data the accounts go on from
   pub generation : ℕ
+  -- where clients find WebSockets (RFC 8887 section 3), if they are to find them
+  pub web_socket_url : Option (List ℕ)
 
 -- the first bad field, and the place of its first bad item, 0 where no item is bad alone
 pub record Fault : Type 0 where
@@ -49,6 +51,7 @@ field_name Accounts = codes "accounts"
 field_name Users = codes "users"
 field_name Zones = codes "zones"
 field_name Generation = codes "generation"
+field_name WebSocketUrl = codes "webSocketUrl"
 
 -- ---- lists
 
@@ -181,6 +184,21 @@ generation_of (Some d) = on_read 0 Ok (unsigned_of d)
 abbrev pub generation_in : Data → Result ℕ ℕ
 generation_in d = generation_of (field (field_name Generation) d)
 
+-- ---- webSocketUrl
+
+-- at most 1000 bytes, which begin as the address of a WebSocket does (RFC 6455 section 3)
+abbrev pub is_web_socket_url : List ℕ → Bool
+is_web_socket_url text =
+    nat_le (length text) MAX_BASE_URL_BYTES && (starts_with (λ x y. x == y) text (codes "ws://") || starts_with (λ x y. x == y) text (codes "wss://"))
+
+abbrev pub web_socket_url_of : Option Data → Result (Option (List ℕ)) ℕ
+web_socket_url_of None = Ok None
+web_socket_url_of (Some d) = on_read 0 (λ url. Ok (Some url)) (passing is_web_socket_url (as_text d))
+
+-- none where the field is absent
+abbrev pub web_socket_url_in : Data → Result (Option (List ℕ)) ℕ
+web_socket_url_in d = web_socket_url_of (field (field_name WebSocketUrl) d)
+
 -- ---- the whole
 
 -- goes on with what a field is read as
@@ -192,8 +210,8 @@ and_then name (Ok x) next = next x
 abbrev pub site_in : Data → Result Site Fault
 site_in d =
     and_then BaseUrl (base_url_in d) (λ base_url. and_then Accounts (accounts_in d) (λ accounts. and_then Users (users_in accounts d) (λ users.
-    and_then Zones (zones_in d) (λ zones. and_then Generation (generation_in d) (λ generation.
-    Ok (record { base_url = base_url; accounts = accounts; users = users; zones = zones; generation = generation }))))))
+    and_then Zones (zones_in d) (λ zones. and_then Generation (generation_in d) (λ generation. and_then WebSocketUrl (web_socket_url_in d) (λ web_socket_url.
+    Ok (record { base_url = base_url; accounts = accounts; users = users; zones = zones; generation = generation; web_socket_url = web_socket_url })))))))
 
 abbrev pub site_read : Reading → Result Site Fault
 site_read (value (object members)) = site_in (object members)
@@ -214,6 +232,7 @@ built_in = record {
   } ∷ [];
   zones = [];
   generation = 0;
+  web_socket_url = None;
 }
 
 -- ---- users by what they are known by

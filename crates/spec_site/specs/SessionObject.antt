@@ -1,7 +1,7 @@
--- The session object of a user (RFC 8620 section 2, draft JMAP for Calendars), with an extension of this server's own (RFC 8620 section 1.8).
-use Rattle.std.specs.Prelude.{ℕ, pos, List, [], ◌∷◌, ◌++◌, Bool, true, false, codes, map, slice_index_or}
+-- The session object of a user (RFC 8620 section 2, RFC 8887 section 3, draft JMAP for Calendars), with an extension of this server's own (RFC 8620 section 1.8).
+use Rattle.std.specs.Prelude.{ℕ, pos, List, [], ◌∷◌, ◌++◌, Bool, true, false, Option, Some, None, codes, map, slice_index_or}
 use Rattle.spec_core.specs.declared.limits.TheConstants.{MAX_CALLS_IN_REQUEST, MAX_OBJECTS_IN_GET, MAX_OBJECTS_IN_SET, MAX_SIZE_REQUEST}
-use Rattle.spec_core.specs.Capabilities.{core, calendars, availability, slots}
+use Rattle.spec_core.specs.Capabilities.{core, calendars, availability, slots, websocket}
 use Rattle.spec_json.specs.Data.{Data, Pair, truth, whole, text, list, object, items_of, members_of}
 use Rattle.spec_json.specs.Edit.{put_all}
 use Rattle.spec_site.specs.Configuration.{Site, SiteAccount}
@@ -26,8 +26,18 @@ core_capability = object (members_of (
     ∷ (codes "maxSizeRequest", number MAX_SIZE_REQUEST)
     ∷ (codes "maxSizeUpload", number 0) ∷ []))
 
-abbrev pub capabilities : Data
-capabilities = object (members_of ((slots, empty) ∷ (calendars, empty) ∷ (core, core_capability) ∷ (availability, empty) ∷ []))
+-- what the capability of WebSockets says: where they are, and that changes are told on them
+abbrev pub web_socket_capability : List ℕ → Data
+web_socket_capability url = object (members_of ((codes "supportsPush", truth true) ∷ (codes "url", text url) ∷ []))
+
+-- the capabilities of each site
+abbrev pub own_capabilities : List Pair
+own_capabilities = (slots, empty) ∷ (calendars, empty) ∷ (core, core_capability) ∷ (availability, empty) ∷ []
+
+-- that of WebSockets is among them where these have an address
+abbrev pub capabilities : Option (List ℕ) → Data
+capabilities None = object (members_of own_capabilities)
+capabilities (Some url) = object (members_of (own_capabilities ++ (websocket, web_socket_capability url) ∷ []))
 
 abbrev pub account_capabilities : Data
 account_capabilities = object (members_of ((slots, empty) ∷ (calendars, empty) ∷ (availability, empty) ∷ []))
@@ -63,7 +73,7 @@ module _ (site : Site) where
   session_object user = object (members_of (
       (codes "accounts", object (members_of (put_all (account_members user.grants) [])))
       ∷ (codes "apiUrl", address (codes "/jmap"))
-      ∷ (codes "capabilities", capabilities)
+      ∷ (codes "capabilities", capabilities site.web_socket_url)
       ∷ (codes "downloadUrl", address (codes "/download/{accountId}/{blobId}/{name}?accept={type}"))
       ∷ (codes "eventSourceUrl", address (codes "/events?types={types}&closeafter={closeafter}&ping={ping}"))
       ∷ (codes "primaryAccounts", primary_accounts user.grants)

@@ -17,6 +17,8 @@ pub enum Field {
     Zones,
     /// `generation`: which copy of the data the accounts go on from.
     Generation,
+    /// `webSocketUrl`: where clients find WebSockets.
+    WebSocketUrl,
 }
 
 impl Field {
@@ -31,6 +33,7 @@ impl Field {
             Field::Users => "users",
             Field::Zones => "zones",
             Field::Generation => "generation",
+            Field::WebSocketUrl => "webSocketUrl",
         }
     }
 }

@@ -3,7 +3,7 @@
 /// The most bytes of a configuration.
 pub const MAX_CONFIGURATION_BYTES: usize = 1_000_000;
 
-/// The most bytes of what the server's addresses begin with.
+/// The most bytes of what the server's addresses begin with, and of the address of its WebSockets.
 pub const MAX_BASE_URL_BYTES: usize = 1000;
 
 /// The most accounts of a site.
