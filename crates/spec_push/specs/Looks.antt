@@ -6,7 +6,7 @@ use Rattle.spec_batch.specs.declared.desk.DeskError.{DeskError}
 use Rattle.spec_calls.specs.declared.call.Call.{Call}
 use Rattle.spec_json.specs.Data.{Pair}
 use Rattle.spec_json.specs.Parts.{some_of}
-use Rattle.spec_push.specs.StateChanges.{noted, state_call, told_of, with_news}
+use Rattle.spec_push.specs.StateChanges.{once_told, state_call, told_of, with_news}
 use Rattle.spec_push.specs.declared.watched.Watched.{Watched}
 
 -- what was watched before a look, and the call that was made for it; none where it wasn't looked at
@@ -22,7 +22,7 @@ abbrev pub watched_of : List Sight → List Watched
 watched_of sights = map (λ s. s.watched) sights
 
 abbrev pub watched_behind : Sight → Watched
-watched_behind s = option_map_or (λ m. noted s.watched m.reply) s.made s.watched
+watched_behind s = option_map_or (λ m. once_told s.watched m.reply) s.made s.watched
 
 -- what is watched behind the look
 abbrev pub all_behind : List Sight → List Watched
@@ -36,8 +36,8 @@ abbrev pub changed_by : List Sight → List Pair
 changed_by sights = fold with_sight [] sights
 
 -- what a look sends: one StateChange of all that is news, or nothing where nothing is
-abbrev pub told_by : List Sight → List (List ℕ)
-told_by sights = told_of (changed_by sights)
+abbrev pub sent_for : List Sight → List (List ℕ)
+sent_for sights = told_of (changed_by sights)
 
 -- a look: what was seen, and what of all that is watched it didn't come to
 pub record Look : Type 0 where

@@ -11,7 +11,7 @@ use Rattle.spec_json.specs.Edit.{with_pair}
 use Rattle.spec_json.specs.Json.{text_of}
 use Rattle.spec_json.specs.Parts.{as_object, text_at}
 use Rattle.spec_json.specs.TreeData.{data_of}
-use Rattle.spec_push.specs.Watching.{type_name}
+use Rattle.spec_push.specs.Watching.{data_type_name}
 use Rattle.spec_push.specs.declared.watched.Watched.{Watched}
 
 -- the call that asks for the state of a type: a get of no object (RFC 8620 section 5.1)
@@ -30,8 +30,8 @@ abbrev pub news_in : Watched → Reply → Option (List ℕ)
 news_in w reply = option_and_then (unless_told w) (text_at (codes "state") (data_of reply.arguments))
 
 -- what is watched once that is told
-abbrev pub noted : Watched → Reply → Watched
-noted w reply = record w { told = option_or (news_in w reply) w.told; place = Some reply.place }
+abbrev pub once_told : Watched → Reply → Watched
+once_told w reply = record w { told = option_or (news_in w reply) w.told; place = Some reply.place }
 
 -- the states of an account, by type, among those that are to be told
 abbrev pub states_of : List ℕ → List Pair → List Pair
@@ -39,7 +39,7 @@ states_of id changed = unwrap_or (option_and_then as_object (lookup id changed))
 
 -- those that are to be told, and this state
 abbrev pub with_state : Watched → List ℕ → List Pair → List Pair
-with_state w state changed = with_pair w.id (object (members_of (with_pair (type_name w.kind) (text state) (states_of w.id changed)))) changed
+with_state w state changed = with_pair w.id (object (members_of (with_pair (data_type_name w.kind) (text state) (states_of w.id changed)))) changed
 
 abbrev pub with_news : Watched → Reply → List Pair → List Pair
 with_news w reply changed = option_map_or (λ state. with_state w state changed) (news_in w reply) changed

@@ -8,19 +8,19 @@ use Rattle.spec_push.specs.declared.data_types.DataTypes.{DataTypes}
 use Rattle.spec_push.specs.declared.watched.Watched.{Watched}
 
 -- the name of a type
-abbrev pub type_name : Kind → List ℕ
-type_name Calendar = codes "Calendar"
-type_name Event = codes "CalendarEvent"
+abbrev pub data_type_name : Kind → List ℕ
+data_type_name Calendar = codes "Calendar"
+data_type_name Event = codes "CalendarEvent"
 
 -- a type in the account of a grant, of which nothing was told
-abbrev pub untold : Grant → Kind → Watched
-untold g kind = record { account = g.account; id = g.id; kind = kind; told = None; place = None }
+abbrev pub watched_anew : Grant → Kind → Watched
+watched_anew g kind = record { account = g.account; id = g.id; kind = kind; told = None; place = None }
 
-abbrev pub untold_if : Bool → Grant → Kind → List Watched
-untold_if wanted g kind = if wanted then untold g kind ∷ [] else []
+abbrev pub watched_anew_if : Bool → Grant → Kind → List Watched
+watched_anew_if wanted g kind = if wanted then watched_anew g kind ∷ [] else []
 
 abbrev pub watched_in : DataTypes → Grant → List Watched
-watched_in types g = untold_if types.calendars g Calendar ++ untold_if types.events g Event
+watched_in types g = watched_anew_if types.calendars g Calendar ++ watched_anew_if types.events g Event
 
 -- all of these types in the accounts that a user may use
 abbrev pub watched_for : User → DataTypes → List Watched

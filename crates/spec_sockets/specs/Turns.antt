@@ -6,7 +6,7 @@ use Rattle.spec_batch.specs.declared.desk.DeskError.{DeskError}
 use Rattle.spec_batch.specs.declared.desk.Front.{Front}
 use Rattle.spec_connection.specs.Answered.{Ticked}
 use Rattle.spec_core.specs.declared.user.User.{User}
-use Rattle.spec_push.specs.Looks.{Look, LooksInPart, LooksWhole, all_behind, made_for, told_by}
+use Rattle.spec_push.specs.Looks.{Look, LooksInPart, LooksWhole, all_behind, made_for, sent_for}
 use Rattle.spec_push.specs.Watching.{watched_for}
 use Rattle.spec_push.specs.declared.watched.Watched.{Watched}
 use Rattle.spec_sockets.specs.Exchanges.{TextBegun, TextExchange, TextFits}
@@ -59,7 +59,7 @@ reply_of (looked l moment) = []
 abbrev pub sent_by : Turn → List (List ℕ)
 sent_by (replied t) = t.reply ∷ []
 sent_by (switched asking moment) = []
-sent_by (looked l moment) = told_by l.sights
+sent_by (looked l moment) = sent_for l.sights
 
 abbrev pub taken_in : List Turn → List WsMessage
 taken_in turns = flat_map taken_by_turn turns
@@ -67,8 +67,8 @@ taken_in turns = flat_map taken_by_turn turns
 abbrev pub moments_in : List Turn → List ℤ
 moments_in turns = map moment_of turns
 
-abbrev pub made_in : List Turn → List Made
-made_in turns = flat_map made_by turns
+abbrev pub made_in_turns : List Turn → List Made
+made_in_turns turns = flat_map made_by turns
 
 abbrev pub made_for_texts : List Turn → List Made
 made_for_texts turns = flat_map made_for_text turns
@@ -123,7 +123,7 @@ AllTurnsFit user watch (t ∷ ts) = TurnFits user watch t × AllTurnsFit user (w
 pub record TurnsTold (clock clock' : Option (ℕ → ℤ)) (fronts fronts' : List Front) (d d' : Shown) (turns : List Turn) : Type 0 where
   pub ticked : Ticked clock clock' (moments_in turns)
   pub added : fronts' ≡ fronts ++ map front_of (made_for_texts turns)
-  pub chain : Chain d d' (made_in turns)
+  pub chain : Chain d d' (made_in_turns turns)
 
 -- the most calls that a turn makes to look at states
 abbrev pub look_size : Turn → ℕ

@@ -13,7 +13,7 @@ use Rattle.spec_calls.specs.declared.call.Reply.{Reply}
 use Rattle.spec_json.specs.Data.{Pair}
 use Rattle.spec_json.specs.Json.{text_of}
 use Rattle.spec_json.specs.Parts.{some_of}
-use Rattle.spec_push.specs.Looks.{AsksForNext, IsLook, Look, LooksInPart, Sight, SightFits, all_behind, changed_by, made_for, told_by, watched_behind, watched_of, with_sight}
+use Rattle.spec_push.specs.Looks.{AsksForNext, IsLook, Look, LooksInPart, Sight, SightFits, all_behind, changed_by, made_for, sent_for, watched_behind, watched_of, with_sight}
 use Rattle.spec_core.specs.declared.user.Grant.{Grant}
 use Rattle.spec_push.specs.StateChanges.{state_call, state_change, told_of}
 use Rattle.spec_push.specs.Watching.{watched_in}

@@ -5,7 +5,7 @@ use Rattle.spec_batch.specs.Chain.{Called, Chain, Made, Shown}
 use Rattle.spec_batch.specs.declared.desk.DeskError.{DeskError}
 use Rattle.spec_batch.specs.declared.desk.DeskError.TheVariants.{NoMemory}
 use Rattle.spec_json.specs.Data.{Pair}
-use Rattle.spec_push.specs.Looks.{Look, LooksInPart, LooksWhole, Sight, SightFits, all_behind, changed_by, made_for, told_by, watched_behind, with_sight}
+use Rattle.spec_push.specs.Looks.{Look, LooksInPart, LooksWhole, Sight, SightFits, all_behind, changed_by, made_for, sent_for, watched_behind, with_sight}
 use Rattle.spec_push.specs.StateChanges.{state_call, told_of}
 use Rattle.spec_push.specs.declared.watched.Watched.{Watched}
 use Rattle.state_watch.specs.declared.watch.Looked.{Looked}
@@ -39,17 +39,17 @@ module _ (moment : ℤ) where
 
   module _ (watch watch' : List Watched) (l : Look) (u v : Shown) where
     -- the look came to the end, and what is watched behind it is what its calls show
-    pub record IsWhole : Type 0 where
+    pub record IsWholeLook : Type 0 where
       pub whole : LooksWhole watch moment l
       pub same : v ≡ u
       pub noted : watch' ≡ all_behind l.sights
 
     abbrev pub SeeHow : Result Seen DeskError → Type 0
-    SeeHow (Ok seen) = IsWhole × (seen.changed ≡ changed_by l.sights) × (seen.calls ≡ length (made_for l.sights))
+    SeeHow (Ok seen) = IsWholeLook × (seen.changed ≡ changed_by l.sights) × (seen.calls ≡ length (made_for l.sights))
     SeeHow (Err e) = LooksInPart watch moment l e u v
 
     abbrev pub LookHow : Result Looked DeskError → Type 0
-    LookHow (Ok looked) = IsWhole × (texts_in looked.told ≡ told_by l.sights) × (looked.calls ≡ length (made_for l.sights))
+    LookHow (Ok looked) = IsWholeLook × (texts_in looked.told ≡ sent_for l.sights) × (looked.calls ≡ length (made_for l.sights))
     LookHow (Err e) = LooksInPart watch moment l e u v
 
   pub record SeesSo (watch watch' : List Watched) (d d' : Shown) (r : Result Seen DeskError) : Type 0 where

@@ -4,7 +4,7 @@ ghost use Rattle.spec_json.specs.Data.{text};
 ghost use Rattle.spec_json.specs.Edit.{with_pair};
 ghost use Rattle.spec_json.specs.Json.{text_of};
 ghost use Rattle.spec_push.specs.StateChanges.{state_change, states_of, told_of, with_state};
-ghost use Rattle.spec_push.specs.Watching.{type_name};
+ghost use Rattle.spec_push.specs.Watching.{data_type_name};
 ghost use Rattle.state_watch.specs.Looking.{texts_in};
 
 use json_edge::write::tree_text;
@@ -23,7 +23,12 @@ pub(crate) fn put_state(
 ) -> Result<(), AllocError>
     ensures { OnOk result (changed.new ≡ with_state watched.now state.now changed.old) }
 {
-    let states = with_type(alloc, states_of(alloc, changed, &watched.id)?, watched.kind, state)?;
+    let states = with_type(
+        alloc,
+        states_of(alloc, changed, &watched.id)?,
+        watched.kind,
+        state,
+    )?;
     changed.put(watched.id.copy()?, Tree::Object(states))
 }
 
@@ -34,10 +39,13 @@ fn with_type(
     kind: Kind,
     state: &Text,
 ) -> Result<TreeObject, AllocError>
-    ensures { IfOk result (λ all. all ≡ with_pair (type_name kind) (text state.now) states) }
+    ensures { IfOk result (λ all. all ≡ with_pair (data_type_name kind) (text state.now) states) }
 {
     let mut states = states;
-    states.put(Text::from_str(alloc, type_name(kind))?, Tree::Text(state.copy()?))?;
+    states.put(
+        Text::from_str(alloc, data_type_name(kind))?,
+        Tree::Text(state.copy()?),
+    )?;
     Ok(states)
 }
 
@@ -51,8 +59,8 @@ fn states_of(alloc: Global, changed: &TreeObject, id: &Text) -> Result<TreeObjec
     }
 }
 
-fn type_name(kind: Kind) -> &'static str
-    ensures { result.now ≡ type_name kind }
+fn data_type_name(kind: Kind) -> &'static str
+    ensures { result.now ≡ data_type_name kind }
 {
     match kind {
         Kind::Calendar => "Calendar",
@@ -61,10 +69,7 @@ fn type_name(kind: Kind) -> &'static str
 }
 
 /// The text of the `StateChange` that tells these states, where there are any. Takes memory for it.
-pub(crate) fn change_text(
-    alloc: Global,
-    changed: TreeObject,
-) -> Result<Option<Vec<u8>>, AllocError>
+pub(crate) fn change_text(alloc: Global, changed: TreeObject) -> Result<Option<Vec<u8>>, AllocError>
     ensures { IfOk result (λ told. texts_in told ≡ told_of changed) }
 {
     if changed.members().is_empty() {

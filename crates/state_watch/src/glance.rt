@@ -2,7 +2,7 @@
 ghost use Rattle.std.specs.Prelude.{◌≡◌, ◌<◌, IfOk, OnOk, option_map};
 ghost use Rattle.spec_batch.specs.Chain.{Called};
 ghost use Rattle.spec_json.specs.TreeData.{data_of};
-ghost use Rattle.spec_push.specs.StateChanges.{is_told, news_in, noted, state_call, with_news};
+ghost use Rattle.spec_push.specs.StateChanges.{is_told, news_in, once_told, state_call, with_news};
 ghost use Rattle.state_watch.specs.Looking.{IsSeen};
 
 use crate::change::put_state;
@@ -74,7 +74,7 @@ fn note(
     reply: Reply,
     changed: &mut TreeObject,
 ) -> Result<bool, AllocError>
-    ensures watched { OnOk result (watched.new ≡ noted watched.old reply) }
+    ensures watched { OnOk result (watched.new ≡ once_told watched.old reply) }
     ensures changed { OnOk result (changed.new ≡ with_news watched.old reply changed.old) }
 {
     let place = Some(reply.place);

@@ -1,6 +1,6 @@
 //! States that are watched, and looks at them.
 ghost use Rattle.std.specs.Prelude.{◌≡◌, ◌<◌, ◌++◌, [], All, IfOk, OnOk, length};
-ghost use Rattle.spec_push.specs.Watching.{untold, untold_if, watched_in, watched_for};
+ghost use Rattle.spec_push.specs.Watching.{watched_anew, watched_anew_if, watched_in, watched_for};
 ghost use Rattle.state_watch.specs.Looking.{IsTold, LooksSo, SeesSo};
 
 use crate::change::change_text;
@@ -157,16 +157,16 @@ fn watch_if(
     grant: &Grant,
     kind: Kind,
 ) -> Result<(), AllocError>
-    ensures { OnOk result (states.new.items ≡ states.old.items ++ untold_if wanted grant.now kind) }
+    ensures { OnOk result (states.new.items ≡ states.old.items ++ watched_anew_if wanted grant.now kind) }
 {
     if wanted {
-        states.push(untold(grant, kind)?)?;
+        states.push(watched_anew(grant, kind)?)?;
     }
     Ok(())
 }
 
-fn untold(grant: &Grant, kind: Kind) -> Result<Watched, AllocError>
-    ensures { IfOk result (λ watched. watched ≡ untold grant.now kind) }
+fn watched_anew(grant: &Grant, kind: Kind) -> Result<Watched, AllocError>
+    ensures { IfOk result (λ watched. watched ≡ watched_anew grant.now kind) }
 {
     Ok(Watched {
         account: grant.account,

@@ -9,7 +9,7 @@ use Rattle.spec_site.specs.Configuration.{Site, user_at}
 use Rattle.spec_history.specs.MostTurns.{most_turns}
 use Rattle.spec_core.specs.declared.user.User.{User}
 use Rattle.spec_sockets.specs.Serving.{ServesSocket, SocketSetting}
-use Rattle.spec_sockets.specs.Turns.{Turn, made_by, made_for_text, made_for_texts, made_in, watched_behind_all}
+use Rattle.spec_sockets.specs.Turns.{Turn, made_by, made_for_text, made_for_texts, made_in_turns, watched_behind_all}
 use Rattle.spec_sockets.specs.declared.served.TheConstants.{MAX_TEXTS}
 use Rattle.spec_sockets.specs.declared.served.WsEnd.TheVariants as end
 use Rattle.spec_sockets.specs.declared.served.WsServed.{WsServed}
@@ -19,7 +19,7 @@ use Rattle.ws_serve.proofs.Completeness.{How, spent}
 use Rattle.ws_serve.proofs.HistoryLemmas.{sockets_stand}
 
 each_stands : (site : Site) (t u : SocketTools) (vs : List SocketVisit) → ServesEachSocket site t u vs
-    → (turns : List Turn) × Summary t.desk u.desk (made_in turns) × (map front_of (made_for_texts turns) ≡ flat_map (λ (v : SocketVisit). v.back.served.fronts.items) vs) × (u.desk.turns ≤ t.desk.turns + MAX_SOCKET_CALLS * length vs)
+    → (turns : List Turn) × Summary t.desk u.desk (made_in_turns turns) × (map front_of (made_for_texts turns) ≡ flat_map (λ (v : SocketVisit). v.back.served.fronts.items) vs) × (u.desk.turns ≤ t.desk.turns + MAX_SOCKET_CALLS * length vs)
 each_stands site t u [] e = (
   [],
   subst (λ (y : SocketTools). Summary t.desk y.desk []) (sym e) (nothing_done t.desk),
@@ -32,7 +32,7 @@ each_stands site t u (v ∷ vs) e =
     let rest = each_stands site s u vs e.3 in
     let all = e.2.turns ++ e.2.unfinished in (
       all ++ rest.0,
-      subst (Summary t.desk u.desk) (sym (flat_map-append made_by all rest.0)) (summaries_join t.desk s.desk u.desk (made_in all) (made_in rest.0) first.0 rest.1),
+      subst (Summary t.desk u.desk) (sym (flat_map-append made_by all rest.0)) (summaries_join t.desk s.desk u.desk (made_in_turns all) (made_in_turns rest.0) first.0 rest.1),
       ap (map front_of) (flat_map-append made_for_text all rest.0) ∙ (map-append front_of (made_for_texts all) (made_for_texts rest.0) ∙ (λ k. first.1 k ++ rest.2 k)),
       (let one = first.2 in let more = rest.3 in omega (arith, one, more)),
     )

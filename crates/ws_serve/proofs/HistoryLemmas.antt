@@ -21,7 +21,7 @@ use Rattle.spec_push.specs.Looks.{AsksForNext, Look, LooksInPart}
 use Rattle.spec_push.specs.declared.watched.Watched.{Watched}
 use Rattle.spec_sockets.specs.Exchanges.{TextBegun, TextExchange, TextFits}
 use Rattle.spec_sockets.specs.Serving.{SocketRests, ServesSocket, SocketSetting}
-use Rattle.spec_sockets.specs.Turns.{AllTurnsFit, Turn, TurnBegun, TurnFits, look_size, looked, made_by, made_for_text, made_for_texts, made_in, made_in_look, made_in_looks, replied, replies_in, reply_of, switched, watched_after, watched_behind_all}
+use Rattle.spec_sockets.specs.Turns.{AllTurnsFit, Turn, TurnBegun, TurnFits, look_size, looked, made_by, made_for_text, made_for_texts, made_in_turns, made_in_look, made_in_looks, replied, replies_in, reply_of, switched, watched_after, watched_behind_all}
 use Rattle.spec_sockets.specs.Texts.{marked_by_reading, asked_in_text, is_marked}
 use Rattle.spec_sockets.specs.declared.served.WsEnd.{WsEnd}
 use Rattle.spec_sockets.specs.declared.served.WsEnd.TheVariants as end
@@ -78,10 +78,10 @@ turns_few user watch (t ∷ ts) fit = (
     omega (arith, one, rest, made, replies)
     )
 
-both_parts : (ts : List Turn) → length (made_in ts) ≡ length (made_for_texts ts) + length (made_in_looks ts)
+both_parts : (ts : List Turn) → length (made_in_turns ts) ≡ length (made_for_texts ts) + length (made_in_looks ts)
 both_parts [] = refl
 both_parts (t ∷ ts) = (
-    let all = length-append (made_by t) (made_in ts) in
+    let all = length-append (made_by t) (made_in_turns ts) in
     let one = length-append (made_for_text t) (made_in_look t) in
     let texts = length-append (made_for_text t) (made_for_texts ts) in
     let looks = length-append (made_in_look t) (made_in_looks ts) in
@@ -94,12 +94,12 @@ both_parts (t ∷ ts) = (
 -- the desk added nothing more, and with its last call it made no more than these turns may have
 record Leaves (u v : Shown) (unfinished : List Turn) : Type 0 where
   pub adds : Summary u v []
-  pub turns : v.turns + length (made_in unfinished) ≤ u.turns + (MAX_CALLS_IN_REQUEST * length (replies_in unfinished) + sum_by look_size unfinished)
+  pub turns : v.turns + length (made_in_turns unfinished) ≤ u.turns + (MAX_CALLS_IN_REQUEST * length (replies_in unfinished) + sum_by look_size unfinished)
 
 leaves_none : {u v : Shown} {unfinished : List Turn} → v ≡ u → unfinished ≡ [] → Leaves u v unfinished
 leaves_none {u} {v} {unfinished} same none = record {
   adds = subst (λ (x : Shown). Summary u x []) (sym same) (nothing_done u);
-  turns = (let turns = ap (λ (x : Shown). x.turns) same in let made = ap (λ (ts : List Turn). length (made_in ts)) none in omega (arith, turns, made));
+  turns = (let turns = ap (λ (x : Shown). x.turns) same in let made = ap (λ (ts : List Turn). length (made_in_turns ts)) none in omega (arith, turns, made));
 }
 
 -- what is left of one turn
@@ -107,7 +107,7 @@ leaves_turn : {u v : Shown} {unfinished : List Turn} (t : Turn) → unfinished �
 leaves_turn {u} {v} {unfinished} t one adds few = record {
   adds = adds;
   turns = (
-      let made = ap (λ (ts : List Turn). length (made_in ts)) one ∙ (ap length (append-nil (made_by t)) ∙ length-append (made_for_text t) (made_in_look t)) in
+      let made = ap (λ (ts : List Turn). length (made_in_turns ts)) one ∙ (ap length (append-nil (made_by t)) ∙ length-append (made_for_text t) (made_in_look t)) in
       let replies = ap (λ (ts : List Turn). length (replies_in ts)) one ∙ ap length (append-nil (reply_of t)) in
       let size = ap (sum_by look_size) one in
       omega (arith, made, replies, size, few)
@@ -132,21 +132,21 @@ module _ (user : User) where
   leaves_text {e} {u} {v} {unfinished} t one (inr r) =
       let these = NextMeans user r.request (clamped t.moment) r.steps r.rest in
       leaves_turn (replied t) one (stop_adds_nothing these (clamped t.moment) e u v r.stops) (
-          let few = few_in t.asking r.request r.is_request in
-          let more = few_stopped user r.request (clamped t.moment) r.steps u v r.rest e r.invoked r.stops in
-          let calls = ap length r.made_is in
-          omega (arith, few, more, calls)
-          )
+      let few = few_in t.asking r.request r.is_request in
+      let more = few_stopped user r.request (clamped t.moment) r.steps u v r.rest e r.invoked r.stops in
+      let calls = ap length r.made_is in
+      omega (arith, few, more, calls)
+      )
 
   leaves_look : (e : DeskError) {u v : Shown} {unfinished : List Turn} (watch : List Watched) (l : Look) (moment : ℤ) → unfinished ≡ looked l moment ∷ [] → LooksInPart watch (clamped moment) l e u v → Leaves u v unfinished
   leaves_look e {u} {v} watch l moment one (h, inl idle) = leaves_idle (looked l moment) idle.1 one (omega arith)
   leaves_look e {u} {v} watch l moment one (h, inr next) =
       leaves_turn (looked l moment) one (stop_adds_nothing (AsksForNext l.rest) (clamped moment) e u v (inr next)) (
-          let once = called_once e u v next.0 next.1 (clamped moment) next.3 in
-          let left = some_left l.rest next.0 next.1 next.2 in
-          let made = made_for_few l.sights in
-          omega (arith, once, left, made)
-          )
+      let once = called_once e u v next.0 next.1 (clamped moment) next.3 in
+      let left = some_left l.rest next.0 next.1 next.2 in
+      let made = made_for_few l.sights in
+      omega (arith, once, left, made)
+      )
 
   leaves_begun : (e : DeskError) {u v : Shown} {unfinished : List Turn} (watch : List Watched) (t : Turn) → unfinished ≡ t ∷ [] → TurnBegun user watch e u v t → Leaves u v unfinished
   leaves_begun e watch (replied t) one begun = leaves_text t one begun
@@ -166,14 +166,14 @@ module _ (user : User) where
 
 pub sockets_stand : SocketsStandInHistories
 sockets_stand user most x x' served s =
-    let made = made_in (s.turns ++ s.unfinished) in
+    let made = made_in_turns (s.turns ++ s.unfinished) in
     let left = leaves_at user s served.end s.rests s.how in
     let all = summaries_join x.desk s.desk x'.desk made [] (summary x.desk s.desk made s.told.chain) left.adds in (
       subst (Summary x.desk x'.desk) (append-nil made) all,
       sym s.told.added,
       (
           let turns = turns_counted x.desk s.desk made s.told.chain in
-          let parts = ap length (flat_map-append made_by s.turns s.unfinished) ∙ length-append (made_in s.turns) (made_in s.unfinished) in
+          let parts = ap length (flat_map-append made_by s.turns s.unfinished) ∙ length-append (made_in_turns s.turns) (made_in_turns s.unfinished) in
           let kinds = both_parts s.turns in
           let few = turns_few user [] s.turns s.fit in
           let last = left.turns in

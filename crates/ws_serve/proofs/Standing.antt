@@ -27,7 +27,7 @@ use Rattle.ws_serve.proofs.TurnLemmas.{Sends-nil, Sends-trans, Takes-nil, Takes-
 use Rattle.ws_serve.proofs.Unsaid.{unsaid_turn}
 use Rattle.ws_serve.proofs.Watching.{watched_within}
 use Rattle.ws_serve.specs.Ending.{IsNextText, end_of_link}
-use Rattle.ws_serve.specs.Turning.{HasTurn, as_messages, replies_said, texts_said}
+use Rattle.ws_serve.specs.Turning.{TakesTurn, as_messages, replies_said, texts_said}
 use Rattle.ws_serve.specs.declared.push.Push.{Push}
 use Rattle.ws_serve.specs.declared.turn.Said.{Said}
 
@@ -195,7 +195,7 @@ module _ {user : User} {most : ℕ} where
         (less : replies < most) (few : push.calls + length push.watch ≤ MAX_LOOK_CALLS)
         (took : TakesMessages y.link.left l.left (as_messages text)) (same : l.sent ≡ y.link.sent) (later : y.link.faults ≤ l.faults) where
       -- the desk answered no more
-      pub stopped : (e : DeskError) → HasTurn user text push push' y.clock c f f' y.desk d (Err e) → Ends user most x (setting l c d) f' replies (end_of_desk e)
+      pub stopped : (e : DeskError) → TakesTurn user text push push' y.clock c f f' y.desk d (Err e) → Ends user most x (setting l c d) f' replies (end_of_desk e)
       stopped reason.PassSpent h =
           finish (h.turn ∷ []) (after_taking text took same later) v.replied h.told (one_room h.turn less) (one_look h.turn few h.size)
           ((h.turn, refl, begun_here reason.PassSpent h.turn h.desk d h.how), pushed v.turns h.turn text h.takes) tt
@@ -203,7 +203,7 @@ module _ {user : User} {most : ℕ} where
           finish (h.turn ∷ []) (after_taking text took same later) v.replied h.told (one_room h.turn less) (one_look h.turn few h.size)
           (inr (h.turn, refl, begun_here reason.NoMemory h.turn h.desk d h.how), pushed v.turns h.turn text h.takes) tt
 
-      module _ (said : Said) (h : HasTurn user text push push' y.clock c f f' y.desk d (Ok said)) where
+      module _ (said : Said) (h : TakesTurn user text push push' y.clock c f f' y.desk d (Ok said)) where
         -- what the turn sends wasn't sent
         pub unsent : {k : LinkShown} (e : LinkError) → k.left ≡ l.left → k.sent ≡ l.sent → l.faults ≤ k.faults → (e ≡ fault.Failed → Rose l.faults k.faults) → (texts_said said ≡ [] → ⊥)
             → Ends user most x (setting k c d) f' replies (end_of_link e)

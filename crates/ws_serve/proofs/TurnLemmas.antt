@@ -13,7 +13,7 @@ use Rattle.spec_core.specs.declared.user.User.{User}
 use Rattle.state_watch.proofs.Seeing.{made_for_few}
 use Rattle.spec_push.specs.declared.watched.Watched.{Watched}
 use Rattle.spec_sockets.specs.Links.{SendsTexts, TakesMessages}
-use Rattle.spec_sockets.specs.Turns.{AllTurnsFit, Turn, TurnFits, TurnsTold, look_size, looked, made_by, made_for_text, made_for_texts, made_in, made_in_look, moment_of, moments_in, replied, reply_of, switched, watched_after}
+use Rattle.spec_sockets.specs.Turns.{AllTurnsFit, Turn, TurnFits, TurnsTold, look_size, looked, made_by, made_for_text, made_for_texts, made_in_turns, made_in_look, moment_of, moments_in, replied, reply_of, switched, watched_after}
 use Rattle.spec_sockets.specs.declared.message.WsMessage.{WsMessage}
 use Rattle.std.specs.Prelude.{fold}
 
@@ -25,7 +25,7 @@ told_join c0 c1 c2 f0 f1 f2 d0 d1 d2 ts us h g = record {
   ticked = subst (Ticked c0 c2) (sym (map-append moment_of ts us)) (ticked_join c0 c1 c2 (moments_in ts) (moments_in us) h.ticked g.ticked);
   added = g.added ∙ (ap (λ (l : List Front). l ++ map front_of (made_for_texts us)) h.added ∙ (append_assoc f0 (map front_of (made_for_texts ts)) (map front_of (made_for_texts us))
       ∙ ap (λ (l : List Front). f0 ++ l) (sym (ap (map front_of) (flat_map-append made_for_text ts us) ∙ map-append front_of (made_for_texts ts) (made_for_texts us)))));
-  chain = subst (Chain d0 d2) (sym (flat_map-append made_by ts us)) (join d0 d1 d2 (made_in ts) (made_in us) h.chain g.chain);
+  chain = subst (Chain d0 d2) (sym (flat_map-append made_by ts us)) (join d0 d1 d2 (made_in_turns ts) (made_in_turns us) h.chain g.chain);
 }
 
 -- one turn, at one moment

@@ -25,7 +25,7 @@ use Rattle.state_watch.specs.declared.watch.Looked.{Looked}
 use Rattle.ws_serve.proofs.Replying.{no_answer}
 use Rattle.ws_serve.proofs.TurnLemmas.{told_one}
 use Rattle.ws_serve.specs.Answering.{IsTextAnswered}
-use Rattle.ws_serve.specs.Turning.{HasTurn, IsLookHad, IsTextHad, as_messages, replies_said, texts_said}
+use Rattle.ws_serve.specs.Turning.{TakesTurn, IsLookHad, IsTextHad, as_messages, replies_said, texts_said}
 use Rattle.ws_serve.specs.Valued.{IsAnsweredAs}
 use Rattle.ws_serve.specs.declared.push.Push.{Push}
 use Rattle.ws_serve.specs.declared.turn.Said.{Said}
@@ -33,7 +33,7 @@ use Rattle.ws_serve.specs.declared.turn.Said.TheVariants.{Change, Nothing, Reply
 
 module _ (user : User) (asking : List ℕ) (p p' : Push) (c0 c1 : Option (ℕ → ℤ)) (f0 f1 : List Front) (d0 d1 : Shown) where
   -- a text was taken, at the moment that the clock told
-  text_at_moment : (told : ℤ) (r : Result Said DeskError) → Ticks c0 c1 told → IsTextHad (clamped told) p p' user asking f0 f1 d0 d1 r → HasTurn user (Some asking) p p' c0 c1 f0 f1 d0 d1 r
+  text_at_moment : (told : ℤ) (r : Result Said DeskError) → Ticks c0 c1 told → IsTextHad (clamped told) p p' user asking f0 f1 d0 d1 r → TakesTurn user (Some asking) p p' c0 c1 f0 f1 d0 d1 r
   text_at_moment told (Ok (Reply bytes)) ticks h =
       let a : IsAnsweredAs user (clamped told) (asked_in_text asking) (id_in_text asking) f0 f1 d0 d1 (Ok bytes) = h.1 in
       let t : TextExchange = record { asking = asking; moment = told; made = a.made; reply = bytes.items } in
@@ -54,13 +54,16 @@ module _ (user : User) (asking : List ℕ) (p p' : Push) (c0 c1 : Option (ℕ �
         size = omega arith;
         desk = d0;
         told = told_one (switched asking told) ticks (fronts ∙ sym (append-nil f0)) (still d0);
-        how = (record {
-          fit = (h.0, h.1);
-          says = refl;
-          replies = refl;
-          watch = h.4 ∙ sym (ap (λ (o : Option Switch). option_map_or (watched_by user) o p.watch) h.1);
-          calls = (let calls = h.5 in omega (arith, calls));
-        }, same);
+        how = (
+          record {
+            fit = (h.0, h.1);
+            says = refl;
+            replies = refl;
+            watch = h.4 ∙ sym (ap (λ (o : Option Switch). option_map_or (watched_by user) o p.watch) h.1);
+            calls = (let calls = h.5 in omega (arith, calls));
+          },
+          same,
+        );
       }
   text_at_moment told (Ok (Change bytes)) ticks h = absurd h
   text_at_moment told (Err e) ticks a =
@@ -74,14 +77,14 @@ module _ (user : User) (asking : List ℕ) (p p' : Push) (c0 c1 : Option (ℕ �
         how = a.how;
       }
 
-  pub text_had : (told w : ℤ) (r : Result Said DeskError) → Ticks c0 c1 told → w ≡ clamped told → IsTextHad w p p' user asking f0 f1 d0 d1 r → HasTurn user (Some asking) p p' c0 c1 f0 f1 d0 d1 r
+  pub text_had : (told w : ℤ) (r : Result Said DeskError) → Ticks c0 c1 told → w ≡ clamped told → IsTextHad w p p' user asking f0 f1 d0 d1 r → TakesTurn user (Some asking) p p' c0 c1 f0 f1 d0 d1 r
   text_had told w r ticks clamps h = text_at_moment told r ticks (subst (λ (y : ℤ). IsTextHad y p p' user asking f0 f1 d0 d1 r) clamps h)
 
 look_within : (watch : List Watched) (moment : ℤ) (l : Look) → IsLook watch moment l → length l.sights + length l.rest ≤ length watch
 look_within watch moment l h = (let all = ap length h.over ∙ length-append (watched_of l.sights) l.rest in let as_many = length-map l.sights (λ (s : Sight). s.watched) in omega (arith, all, as_many))
 
 module _ (user : User) (p p' : Push) (c0 c1 : Option (ℕ → ℤ)) (f : List Front) (d0 d1 : Shown) where
-  look_at_moment : (told : ℤ) (r : Result Said DeskError) → Ticks c0 c1 told → IsLookHad (clamped told) p p' d0 d1 r → HasTurn user None p p' c0 c1 f f d0 d1 r
+  look_at_moment : (told : ℤ) (r : Result Said DeskError) → Ticks c0 c1 told → IsLookHad (clamped told) p p' d0 d1 r → TakesTurn user None p p' c0 c1 f f d0 d1 r
   look_at_moment told (Ok said) ticks h = record {
     turn = looked h.look told;
     takes = refl;
@@ -99,7 +102,7 @@ module _ (user : User) (p p' : Push) (c0 c1 : Option (ℕ → ℤ)) (f : List Fr
     how = h.how;
   }
 
-  pub look_had : (told w : ℤ) (r : Result Said DeskError) → Ticks c0 c1 told → w ≡ clamped told → IsLookHad w p p' d0 d1 r → HasTurn user None p p' c0 c1 f f d0 d1 r
+  pub look_had : (told w : ℤ) (r : Result Said DeskError) → Ticks c0 c1 told → w ≡ clamped told → IsLookHad w p p' d0 d1 r → TakesTurn user None p p' c0 c1 f f d0 d1 r
   look_had told w r ticks clamps h = look_at_moment told r ticks (subst (λ (y : ℤ). IsLookHad y p p' d0 d1 r) clamps h)
 
 -- what is watched couldn't be noted, and nothing was asked

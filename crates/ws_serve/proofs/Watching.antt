@@ -9,8 +9,8 @@ use Rattle.spec_core.specs.declared.user.User.{User}
 use Rattle.spec_history.specs.declared.entry.Kind.{Kind}
 use Rattle.spec_history.specs.declared.entry.Kind.TheVariants.{Calendar, Event}
 use Rattle.spec_push.specs.Looks.{Sight, all_behind, watched_behind, watched_of}
-use Rattle.spec_push.specs.StateChanges.{noted}
-use Rattle.spec_push.specs.Watching.{untold, untold_if, watched_in}
+use Rattle.spec_push.specs.StateChanges.{once_told}
+use Rattle.spec_push.specs.Watching.{watched_anew, watched_anew_if, watched_in}
 use Rattle.spec_push.specs.declared.data_types.DataTypes.{DataTypes}
 use Rattle.spec_push.specs.declared.watched.Watched.{Watched}
 use Rattle.spec_sockets.specs.Switches.{switch_in_text}
@@ -25,8 +25,8 @@ module _ (n : ℕ) where
   abbrev Within : List Watched → Type 0
   Within ws = All IsWithin ws
 
-  if_within : (wanted : Bool) (g : Grant) (kind : Kind) → g.account < n → Within (untold_if wanted g kind)
-  if_within true g kind h = All-cons IsWithin (untold g kind) [] h (All-nil IsWithin)
+  if_within : (wanted : Bool) (g : Grant) (kind : Kind) → g.account < n → Within (watched_anew_if wanted g kind)
+  if_within true g kind h = All-cons IsWithin (watched_anew g kind) [] h (All-nil IsWithin)
   if_within false g kind h = All-nil IsWithin
 
   for_grants : (types : DataTypes) (gs : List Grant) → All (λ (g : Grant). g.account < n) gs → Within (flat_map (watched_in types) gs)
@@ -34,14 +34,14 @@ module _ (n : ℕ) where
   for_grants types (g ∷ gs) h =
       let here : g.account < n = All-head (λ (x : Grant). x.account < n) g gs h in
       All-append IsWithin (watched_in types g) (flat_map (watched_in types) gs)
-      (All-append IsWithin (untold_if types.calendars g Calendar) (untold_if types.events g Event) (if_within types.calendars g Calendar here) (if_within types.events g Event here))
+      (All-append IsWithin (watched_anew_if types.calendars g Calendar) (watched_anew_if types.events g Event) (if_within types.calendars g Calendar here) (if_within types.events g Event here))
       (for_grants types gs (All-tail (λ (x : Grant). x.account < n) g gs h))
 
   by_switch : (user : User) (s : Switch) → All (λ (g : Grant). g.account < n) user.grants → Within (watched_by user s)
   by_switch user (Enable types) h = for_grants types user.grants h
   by_switch user Disable h = All-nil IsWithin
 
-  one_behind : (w : Watched) (made : Option Made) → w.account < n → (option_map_or (λ (m : Made). noted w m.reply) made w).account < n
+  one_behind : (w : Watched) (made : Option Made) → w.account < n → (option_map_or (λ (m : Made). once_told w m.reply) made w).account < n
   one_behind w None h = h
   one_behind w (Some m) h = h
 

@@ -4,7 +4,7 @@ use Rattle.spec_history.specs.MostTurns.{most_turns}
 use Rattle.spec_batch.specs.Chain.{Summary, front_of}
 use Rattle.spec_core.specs.declared.limits.TheConstants.{MAX_CALLS_IN_REQUEST}
 use Rattle.spec_site.specs.Configuration.{Site}
-use Rattle.spec_sockets.specs.Turns.{Turn, made_for_texts, made_in}
+use Rattle.spec_sockets.specs.Turns.{Turn, made_for_texts, made_in_turns}
 use Rattle.spec_sockets.specs.declared.served.TheConstants.{MAX_LOOK_CALLS, MAX_TEXTS}
 use Rattle.spec_sockets.specs.declared.served.WsEnd.TheVariants as end
 use Rattle.ws_edge.specs.Accepting.{AcceptShown}
@@ -19,7 +19,7 @@ MAX_SOCKET_CALLS = MAX_CALLS_IN_REQUEST * MAX_TEXTS + MAX_LOOK_CALLS
 -- The fronts of those for texts, joined in order, are those of the sockets, and the desk made no more calls than so many sockets may.
 abbrev pub HostsStandInHistories : Type 0
 HostsStandInHistories = (site : Site) (handshakes : ℕ) (a a' : AcceptShown) (t u : SocketTools) (e : HostEnd) (h : HostsSockets site handshakes a a' t u e)
-    → (turns : List Turn) × Summary t.desk u.desk (made_in turns) × (map front_of (made_for_texts turns) ≡ flat_map (λ v. v.back.served.fronts.items) h.visits) × (u.desk.turns ≤ t.desk.turns + MAX_SOCKET_CALLS * length h.visits)
+    → (turns : List Turn) × Summary t.desk u.desk (made_in_turns turns) × (map front_of (made_for_texts turns) ≡ flat_map (λ v. v.back.served.fronts.items) h.visits) × (u.desk.turns ≤ t.desk.turns + MAX_SOCKET_CALLS * length h.visits)
 
 -- the desk answered all that it was asked on these sockets, where memory sufficed
 abbrev pub NoneIsSpent : List SocketVisit → Type 0

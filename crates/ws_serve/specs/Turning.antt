@@ -4,7 +4,7 @@ use Rattle.spec_batch.specs.Chain.{Chain, Shown}
 use Rattle.spec_batch.specs.declared.desk.DeskError.{DeskError}
 use Rattle.spec_batch.specs.declared.desk.Front.{Front}
 use Rattle.spec_core.specs.declared.user.User.{User}
-use Rattle.spec_push.specs.Looks.{Look, LooksInPart, LooksWhole, all_behind, made_for, told_by}
+use Rattle.spec_push.specs.Looks.{Look, LooksInPart, LooksWhole, all_behind, made_for, sent_for}
 use Rattle.spec_sockets.specs.Switches.{switch_in_text}
 use Rattle.spec_sockets.specs.Texts.{asked_in_text, id_in_text}
 use Rattle.spec_sockets.specs.Turns.{Turn, TurnBegun, TurnFits, TurnsTold, look_size, made_in_look, reply_of, sent_by, taken_by_turn, watched_after, watched_by}
@@ -48,7 +48,7 @@ module _ (moment : ℤ) (p p' : Push) where
   module _ (l : Look) (u v : Shown) where
     abbrev pub LookHadHow : Result Said DeskError → Type 0
     LookHadHow (Ok said) =
-        LooksWhole p.watch moment l × (v ≡ u) × (p'.watch ≡ all_behind l.sights) × (texts_said said ≡ told_by l.sights) × (replies_said said ≡ []) × (p'.calls ≡ p.calls + length (made_for l.sights))
+        LooksWhole p.watch moment l × (v ≡ u) × (p'.watch ≡ all_behind l.sights) × (texts_said said ≡ sent_for l.sights) × (replies_said said ≡ []) × (p'.calls ≡ p.calls + length (made_for l.sights))
     LookHadHow (Err e) = LooksInPart p.watch moment l e u v
 
   -- the states were looked at
@@ -74,7 +74,7 @@ module _ (user : User) (p p' : Push) (t : Turn) where
   TurnHow u v (Err e) = TurnBegun user p.watch e u v t
 
 -- what was made of a text, or without one, with what clock, fronts and desk were before and after
-pub record HasTurn (user : User) (text : Option (List ℕ)) (p p' : Push) (clock clock' : Option (ℕ → ℤ)) (fronts fronts' : List Front) (d d' : Shown) (r : Result Said DeskError) : Type 0 where
+pub record TakesTurn (user : User) (text : Option (List ℕ)) (p p' : Push) (clock clock' : Option (ℕ → ℤ)) (fronts fronts' : List Front) (d d' : Shown) (r : Result Said DeskError) : Type 0 where
   pub turn : Turn
   pub takes : taken_by_turn turn ≡ as_messages text
   pub size : look_size turn ≤ length p.watch

@@ -1,7 +1,7 @@
 //! One turn of a socket.
 ghost use Rattle.std.specs.Prelude.{◌<◌, ◌≤◌, ◌+◌, All, length, option_map};
 ghost use Rattle.spec_sockets.specs.declared.served.TheConstants.{MAX_LOOK_CALLS};
-ghost use Rattle.ws_serve.specs.Turning.{HasTurn, IsLookHad, IsTextHad};
+ghost use Rattle.ws_serve.specs.Turning.{TakesTurn, IsLookHad, IsTextHad};
 
 use crate::push::Push;
 use crate::reply::{TextAnswer, ws_reply};
@@ -37,7 +37,7 @@ pub(crate) fn have_turn<D: Desk, C: Clock>(
     requires accounts { All (λ g. g.account < (D.shown desk.old).accounts) user.now.grants }
     requires watched { All (λ w. w.account < (D.shown desk.old).accounts) push.old.watch }
     requires calls { push.old.calls + length push.old.watch ≤ MAX_LOOK_CALLS }
-    ensures { HasTurn user.now text push.old push.new (C.moments clock.old) (C.moments clock.new) fronts.old.items fronts.new.items (D.shown desk.old) (D.shown desk.new) result }
+    ensures { TakesTurn user.now text push.old push.new (C.moments clock.old) (C.moments clock.new) fronts.old.items fronts.new.items (D.shown desk.old) (D.shown desk.new) result }
 {
     let moment = Moment::clamped(clock.now());
     match text {

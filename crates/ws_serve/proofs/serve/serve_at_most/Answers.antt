@@ -9,7 +9,7 @@ loop-turn-init g c = serving_start _ _ c.new-fronts.ensures.items c.off-push.ens
 
 pub returns-then-replies-most : goal.returns-then-replies-most
 returns-then-replies-most g c = elim c.then-replies-most.branch [
-  then-replies-most-via-then-replies-most w ↦ texts_spent c.loop-turn.invariant w.if-replies-most.true _ c.served.ensures.fronts c.served.ensures.replies c.served.ensures.end
+  | then-replies-most-via-then-replies-most w ↦ texts_spent c.loop-turn.invariant w.if-replies-most.true _ c.served.ensures.fronts c.served.ensures.replies c.served.ensures.end
   | then-replies-most-via-else-replies-most+then-is_spent w ↦ looks_spent c.loop-turn.invariant (over_of w.is_spent.result _ _ w.is_spent.ensures w.if-is_spent.true) _ c.served.ensures.fronts c.served.ensures.replies c.served.ensures.end
 ]
 
