@@ -31,11 +31,7 @@ pub(crate) fn go_through<'a, R: Wait>(
 }
 
 // Waits until this is the first of those who wait.
-fn be_first<'a, R: Wait>(
-    rt: &R,
-    first: &'a Mutex<()>,
-    second: &Mutex<()>,
-) -> MutexGuard<'a, ()> {
+fn be_first<'a, R: Wait>(rt: &R, first: &'a Mutex<()>, second: &Mutex<()>) -> MutexGuard<'a, ()> {
     let _second = second.lock(rt);
     for _ in 0..LOOKS_BEHIND {
         if let Some(is_first) = first.try_lock() {

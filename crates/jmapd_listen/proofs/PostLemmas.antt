@@ -45,17 +45,17 @@ module _ {L A : Type 0} (listener : L → ListenerShown) (accepter : A → Accep
   abbrev kind : Post L A → Bool
   kind post = is_for_sockets (post_shown listener accepter post)
 
-  pub kinds_of : (posts : List (Post L A)) (ls : List L) (as : List A) (n m : ℕ) → posts ≡ map Connections ls ++ map Sockets as → length ls ≡ n → length as ≡ m → map kind posts ≡ replicate n false ++ replicate m true
-  kinds_of posts ls as n m are these those =
+  pub kinds_of : (posts : List (Post L A)) (ls : List L) (bs : List A) (n m : ℕ) → posts ≡ map Connections ls ++ map Sockets bs → length ls ≡ n → length bs ≡ m → map kind posts ≡ replicate n false ++ replicate m true
+  kinds_of posts ls bs n m are these those =
       ap (map kind) are
-      ∙ (map-append kind (map Connections ls) (map Sockets as)
+      ∙ (map-append kind (map Connections ls) (map Sockets bs)
       ∙ (λ i. (map-map kind Connections ls ∙ (all_same (λ (x : L). kind (Connections x)) false (λ x. refl) ls ∙ ap (λ (k : ℕ). replicate k false) these)) i
-      ++ (map-map kind Sockets as ∙ (all_same (λ (x : A). kind (Sockets x)) true (λ x. refl) as ∙ ap (λ (k : ℕ). replicate k true) those)) i))
+      ++ (map-map kind Sockets bs ∙ (all_same (λ (x : A). kind (Sockets x)) true (λ x. refl) bs ∙ ap (λ (k : ℕ). replicate k true) those)) i))
 
-  pub count_of : (posts : List (Post L A)) (ls : List L) (as : List A) (n m : ℕ) → posts ≡ map Connections ls ++ map Sockets as → length ls ≡ n → length as ≡ m → length posts ≡ n + m
-  count_of posts ls as n m are these those =
+  pub count_of : (posts : List (Post L A)) (ls : List L) (bs : List A) (n m : ℕ) → posts ≡ map Connections ls ++ map Sockets bs → length ls ≡ n → length bs ≡ m → length posts ≡ n + m
+  count_of posts ls bs n m are these those =
       let all = ap length are in
-      let parts = length-append (map Connections ls) (map Sockets as) in
+      let parts = length-append (map Connections ls) (map Sockets bs) in
       let left = length-map ls Connections in
-      let right = length-map as Sockets in
+      let right = length-map bs Sockets in
       omega (arith, all, parts, left, right, these, those)

@@ -30,8 +30,8 @@ impl Model for Num {
     ghost use Rattle.spec_json.specs.WholeNumber.{distance_back, sign_back};
 
     ghost inverse_ok = { λ a h i. record {
-        is_negative = sign_back a.is_negative a.distance i;
-        distance = distance_back a.is_negative a.distance i
+      is_negative = sign_back a.is_negative a.distance i;
+      distance = distance_back a.is_negative a.distance i;
     } };
 }
 
