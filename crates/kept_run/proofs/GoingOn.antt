@@ -30,9 +30,9 @@ use Rattle.spec_core.specs.Id.{is_id}
 use Rattle.spec_json.specs.Data.{Data, list, null, object, text, truth, whole}
 use Rattle.spec_json.specs.Json.{Reading, not_json, not_whole, reading, value}
 use Rattle.spec_json.specs.Parts.{list_at}
-use Rattle.spec_site.specs.Configuration.{Fault, Site, SiteAccount, account_in, account_text, accounts_in, and_then, base_url_in, configured, field_name, generation_in, has_account, is_good_account, passing, read_behind, read_list, site_in, site_read, users_in, zones_in}
+use Rattle.spec_site.specs.Configuration.{Fault, Site, SiteAccount, account_in, account_text, accounts_in, and_then, base_url_in, configured, field_name, generation_in, has_account, is_good_account, passing, read_behind, read_list, site_in, site_read, users_in, web_socket_url_in, zones_in}
 use Rattle.spec_site.specs.declared.field.Field.{Field}
-use Rattle.spec_site.specs.declared.field.Field.TheVariants.{Accounts as AccountsField, BaseUrl, Generation, Json, Users, Zones}
+use Rattle.spec_site.specs.declared.field.Field.TheVariants.{Accounts as AccountsField, BaseUrl, Generation, Json, Users, WebSocketUrl, Zones}
 use Rattle.spec_site.specs.declared.limits.TheConstants.{MAX_ACCOUNTS, MAX_CONFIGURATION_BYTES}
 use Rattle.kept_run.specs.Steps.{account_base}
 use Rattle.std.proofs.lemmas.Option.{same_Some}
@@ -108,7 +108,8 @@ site_apart d site is =
     let c = went_on Users (users_in b.0 d) _ site b.2 in
     let e = went_on Zones (zones_in d) _ site c.2 in
     let f = went_on Generation (generation_in d) _ site e.2 in
-    let same : b.0 ≡ site.accounts = ap (λ (s : Site). s.accounts) (same_Ok refl f.2) in
+    let g = went_on WebSocketUrl (web_socket_url_in d) _ site f.2 in
+    let same : b.0 ≡ site.accounts = ap (λ (s : Site). s.accounts) (same_Ok refl g.2) in
     subst AreApart same (listed_apart 1 MAX_ACCOUNTS (list_at (field_name AccountsField) d) b.0 b.1)
 
 read_site : (r : Reading) (site : Site) → site_read r ≡ Ok site → AreApart site.accounts
