@@ -58,6 +58,9 @@ pub trait AccountLock: Drop + Sized {
         ensures is { result ≡ (state pass.now).turns }
         ensures few { result ≤ most_turns };
 
+    /// How many entries the book's history has, as far as that is seen without a turn: a hint, of which nothing is promised. Takes no memory, and waits for nobody.
+    fn place_now(&self) -> u64;
+
     /// Calls the book at a moment, when the turn of a pass of this lock has come, for which it waits.
     /// Takes what memory the book takes for its call.
     fn call<W: Wait>(
@@ -98,6 +101,10 @@ impl AccountLock for Locked<Account> {
 
     fn turns(pass: &Pass<Account>) -> u64 {
         pass.turns()
+    }
+
+    fn place_now(&self) -> u64 {
+        Locked::place_now(self)
     }
 
     fn call<W: Wait>(

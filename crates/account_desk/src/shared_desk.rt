@@ -74,6 +74,13 @@ impl<W: Wait, L: AccountLock> Desk for SharedDesk<W, L> {
         self.passes.len() as u32
     }
 
+    fn place_now(&self, account: u32) -> u64 {
+        match self.accounts.get(account as usize) {
+            Some(lock) => lock.place_now(),
+            None => 0,
+        }
+    }
+
     fn call(&mut self, account: u32, call: &Call, moment: Moment) -> Result<Reply, DeskError> {
         if self.turns == MAX_TURNS {
             return Err(DeskError::PassSpent);

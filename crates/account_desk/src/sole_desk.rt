@@ -96,6 +96,13 @@ impl Desk for SoleDesk {
         self.accounts.len() as u32
     }
 
+    fn place_now(&self, account: u32) -> u64 {
+        match self.accounts.get(account as usize) {
+            Some(account) => account.count(),
+            None => 0,
+        }
+    }
+
     fn call(&mut self, account: u32, call: &Call, moment: Moment) -> Result<Reply, DeskError> {
         if self.turns == MAX_TURNS {
             return Err(DeskError::PassSpent);

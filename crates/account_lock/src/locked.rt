@@ -12,8 +12,8 @@ use crate::door::go_through;
 use crate::pass::Pass;
 use crate::rule::LockRule;
 use crate::steps::{
-    Board, PassSeat, add_entries, await_turn, give_turn, read_history, return_book, split_pass,
-    take_book, take_ticket,
+    Board, PassSeat, add_entries, await_turn, give_turn, peek_history, read_history, return_book,
+    split_pass, take_book, take_ticket,
 };
 use crate::view::View;
 use atomic_table::Table;
@@ -90,6 +90,11 @@ impl<B: Book> Locked<B> {
             second,
         };
         Ok((lock, all))
+    }
+
+    /// How many entries the history has, as far as that is seen without a turn: a hint, of which nothing is promised. Takes no memory, and waits for nobody.
+    pub fn place_now(&self) -> u64 {
+        peek_history(&self.table.shared)
     }
 
     /// Calls the book at a moment, when the pass's turn has come, for which it waits.

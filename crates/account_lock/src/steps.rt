@@ -85,6 +85,13 @@ pub(crate) fn read_history<B: Book>(board: &Board<B>, seat: &mut PassSeat<B>) ->
     board.load::<ReadCount>(seat, COUNT)
 }
 
+/// How long the history is, as far as that is seen without a seat.
+pub(crate) fn peek_history<B: Book>(board: &Board<B>) -> u64
+    requires { board.now.table_id.words ≡ 3 }
+{
+    board.peek(COUNT)
+}
+
 /// Adds the entries of a call, `count` of them, to the history.
 pub(crate) fn add_entries<B: Book, G: Growth>(
     board: &Board<B>,

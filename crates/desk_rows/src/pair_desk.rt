@@ -49,6 +49,13 @@ impl Desk for PairDesk {
         2
     }
 
+    fn place_now(&self, account: u32) -> u64 {
+        match account {
+            0 => self.first.count(),
+            _ => self.second.count(),
+        }
+    }
+
     fn call(&mut self, account: u32, call: &Call, moment: Moment) -> Result<Reply, DeskError> {
         if self.calls_left == 0 {
             return Err(DeskError::PassSpent);

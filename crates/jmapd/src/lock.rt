@@ -50,6 +50,10 @@ impl AccountLock for FileLock {
         pass.turns()
     }
 
+    fn place_now(&self) -> u64 {
+        self.locked.place_now()
+    }
+
     fn call<W: Wait>(
         &self,
         runtime: &W,

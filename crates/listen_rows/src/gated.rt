@@ -108,6 +108,10 @@ impl AccountLock for GatedLock {
         pass.turns()
     }
 
+    fn place_now(&self) -> u64 {
+        self.locked.place_now()
+    }
+
     fn call<W: Wait>(
         &self,
         runtime: &W,

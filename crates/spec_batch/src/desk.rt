@@ -34,6 +34,10 @@ pub trait Desk {
     fn accounts(&self) -> u32
         ensures { result ≡ (shown self.now).accounts };
 
+    /// The place at which a call on an account would be answered if it came now, as far as that is seen without a call: a hint, of which nothing is promised. 0 where there is no
+    /// such account. Takes no memory, and waits for nobody.
+    fn place_now(&self, account: u32) -> u64;
+
     /// Answers a call on an account, at a moment.
     ///
     /// PassSpent comes exactly where 2^40 calls were made, and changes nothing. After running out of memory nothing of this call

@@ -7,7 +7,7 @@ use spec_batch::desk::{DeskError, Front};
 /// The most texts of a socket that are answered.
 pub const MAX_TEXTS: u64 = 10_000;
 
-/// The most calls that are made on a socket to look at states: some five days of two calls a second.
+/// The most calls that are made on a socket to look at states: some five days in which an account changes twice a second.
 pub const MAX_LOOK_CALLS: u64 = 800_000;
 
 /// The most turns of a socket, of which an idle one has two a second.

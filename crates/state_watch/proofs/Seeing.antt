@@ -1,6 +1,6 @@
 -- States that are looked at, one after the other.
 use Rattle.std.proofs.Common.{◌≡◌, ℕ, ℤ, suc, ◌+◌, ◌<◌, ◌≤◌, List, [], ◌∷◌, ◌++◌, Option, Some, None, Ok, Err, Result, Vec, inl, inr, refl, sym, ap, ◌∙◌, subst, length, length-append, map, flat_map, fold, take, append-nil, append_assoc, arith}
-use Rattle.std.specs.Prelude.{◌⊎◌, All, Bool, slice_index_or, slice_set}
+use Rattle.std.specs.Prelude.{◌⊎◌, All, ⊤, slice_index_or, slice_set}
 use Rattle.std.specs.declared.alloc.Global.{Global}
 use Rattle.std.proofs.lemmas.Grind.{flat_map-append, fold-append}
 use Rattle.std.proofs.lemmas.List.{length-map, map-append, take_more}
@@ -173,8 +173,8 @@ stopped_at {moment} {all} {now} {i} {d} {d1} {d2} {changed} {calls} {watch'} s l
 
 -- the next state was looked at
 pub seen_more : {moment : ℤ} {all now now' : List Watched} {i : ℕ} {d d1 d2 : Shown} {changed changed' : List Pair} {calls calls' : ℕ} (s : Seeing moment all now i d d1 changed calls) (less : i < length now)
-    (w w' : Watched) → w ≡ slice_index_or now i w → (b : Bool) → IsSeen moment w w' changed changed' d1 d2 (Ok b) → now' ≡ slice_set now i w' → calls' ≡ calls + 1 → Seeing moment all now' (i + 1) d d2 changed' calls'
-seen_more {moment} {all} {now} {now'} {i} {d} {d1} {d2} {changed} {changed'} {calls} {calls'} s less w w' at b (x, g, noted, changes) set one =
+    (w w' : Watched) → w ≡ slice_index_or now i w → (u : ⊤) → IsSeen moment w w' changed changed' d1 d2 (Ok u) → now' ≡ slice_set now i w' → calls' ≡ calls + 1 → Seeing moment all now' (i + 1) d d2 changed' calls'
+seen_more {moment} {all} {now} {now'} {i} {d} {d1} {d2} {changed} {changed'} {calls} {calls'} s less w w' at u (x, g, noted, changes) set one =
     let n = next_left s less in
     more s x n.1 (n.2 ∙ ap (λ (y : Watched). y ∷ n.1) (sym (next_is s less w at) ∙ sym g.is)) g.fit g.chain
     (set ∙ (ap (slice_set now i) noted ∙ set_is s less (watched_behind x))) changes (one ∙ ap (λ (k : ℕ). calls + k) (sym g.one))

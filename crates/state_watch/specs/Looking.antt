@@ -1,5 +1,5 @@
 -- What a look at states does to a watch and a desk, at a moment.
-use Rattle.std.specs.Prelude.{◌≡◌, ◌⊎◌, ℕ, ℤ, List, [], ◌∷◌, Bool, Option, Some, None, Result, Ok, Err, Vec, length}
+use Rattle.std.specs.Prelude.{◌≡◌, ◌⊎◌, ℕ, ℤ, List, [], ◌∷◌, ⊤, Option, Some, None, Result, Ok, Err, Vec, length}
 use Rattle.std.specs.declared.alloc.Global.{Global}
 use Rattle.spec_batch.specs.Chain.{Called, Chain, Made, Shown}
 use Rattle.spec_batch.specs.declared.desk.DeskError.{DeskError}
@@ -31,8 +31,8 @@ module _ (moment : ℤ) where
     pub fit : SightFits moment s
     pub chain : Chain d d' (made_for (s ∷ []))
 
-  abbrev pub IsSeen : Watched → Watched → List Pair → List Pair → Shown → Shown → Result Bool DeskError → Type 0
-  IsSeen w w' changed changed' d d' (Ok has_grown) = (s : Sight) × IsGlance w d d' s × (w' ≡ watched_behind s) × (changed' ≡ with_sight changed s)
+  abbrev pub IsSeen : Watched → Watched → List Pair → List Pair → Shown → Shown → Result ⊤ DeskError → Type 0
+  IsSeen w w' changed changed' d d' (Ok done) = (s : Sight) × IsGlance w d d' s × (w' ≡ watched_behind s) × (changed' ≡ with_sight changed s)
   IsSeen w w' changed changed' d d' (Err e) = Called d d' w.account (state_call w.kind) moment (Err e) ⊎ ((e ≡ NoMemory) × (s : Sight) × IsGlance w d d' s)
 
   -- ---- all that is watched

@@ -16,7 +16,7 @@ use spec_push::watched::Watched;
 use spec_time::moment::Moment;
 use std::alloc::{AllocError, Global};
 
-/// Looks at one state: puts it into `changed` where it is news, and notes that it was told. Tells whether the account's history has grown since it was last looked at, or was never.
+/// Looks at one state: puts it into `changed` where it is news, and notes that it was told.
 ///
 /// At an error that comes behind the call, the call stands. Takes memory for the reply and the state.
 pub(crate) fn glance<D: Desk>(
@@ -25,7 +25,7 @@ pub(crate) fn glance<D: Desk>(
     desk: &mut D,
     moment: Moment,
     changed: &mut TreeObject,
-) -> Result<bool, DeskError>
+) -> Result<(), DeskError>
     requires { watched.old.account < (D.shown desk.old).accounts }
     ensures { IsSeen moment watched.old watched.new changed.old changed.new (D.shown desk.old) (D.shown desk.new) result }
 {
@@ -34,7 +34,7 @@ pub(crate) fn glance<D: Desk>(
         Err(error) => return Err(error),
     };
     match note(alloc, watched, reply, changed) {
-        Ok(has_grown) => Ok(has_grown),
+        Ok(()) => Ok(()),
         Err(_) => Err(DeskError::NoMemory),
     }
 }
@@ -73,18 +73,17 @@ fn note(
     watched: &mut Watched,
     reply: Reply,
     changed: &mut TreeObject,
-) -> Result<bool, AllocError>
+) -> Result<(), AllocError>
     ensures watched { OnOk result (watched.new ≡ once_told watched.old reply) }
     ensures changed { OnOk result (changed.new ≡ with_news watched.old reply changed.old) }
 {
-    let place = Some(reply.place);
-    let has_grown = watched.place != place;
+    let place = reply.place;
     if let Some(state) = news_in(watched, reply) {
         put_state(alloc, changed, watched, &state)?;
         watched.told = Some(state);
     }
-    watched.place = place;
-    Ok(has_grown)
+    watched.place = Some(place);
+    Ok(())
 }
 
 // The state that a reply shows, where it isn't the one that was told last.

@@ -19,8 +19,6 @@ use std::marker::Model;
 #[derive(Drop)]
 pub struct Watch {
     states: Vec<Watched>,
-    // the place of the first state of the account whose turn it is; none where all are to be looked at
-    next: Option<usize>,
 }
 
 impl Model for Watch {
@@ -48,7 +46,6 @@ impl Watch {
     {
         Watch {
             states: Vec::new(alloc),
-            next: None,
         }
     }
 
@@ -60,7 +57,7 @@ impl Watch {
         for grant in user.grants.items() {
             watch_account(&mut states, grant, types)?;
         }
-        Ok(Watch { states, next: None })
+        Ok(Watch { states })
     }
 
     /// The number of states that are watched, which is the most calls that a look makes. Takes no memory.
@@ -70,8 +67,7 @@ impl Watch {
         self.states.len()
     }
 
-    /// Looks at states, and tells what is news: at all of them the first time; and then at those of the next account, where its history has grown since it was last looked at, of
-    /// which the first state's call tells.
+    /// Looks at states, and tells what is news: at all of them the first time, and then at those of the accounts whose history has grown since, as far as that is seen without a call.
     ///
     /// At each error the calls that were answered stand. Takes memory for a reply at a time, and for what is told.
     pub fn look<D: Desk>(
@@ -83,11 +79,10 @@ impl Watch {
         requires { All (λ w. w.account < (D.shown desk.old).accounts) self.old }
         ensures { LooksSo moment self.old self.new (D.shown desk.old) (D.shown desk.new) result }
     {
-        let seen = match see_all(alloc, &mut self.states, self.next, desk, moment) {
+        let seen = match see_all(alloc, &mut self.states, desk, moment) {
             Ok(seen) => seen,
             Err(error) => return Err(error),
         };
-        self.next = Some(behind(&self.states, self.next));
         tell(alloc, seen)
     }
 }
@@ -101,11 +96,10 @@ struct Seen {
     calls: usize,
 }
 
-// Looks at the states whose turn it is.
+// Looks at the states of which there may be news.
 fn see_all<D: Desk>(
     alloc: Global,
     states: &mut Vec<Watched>,
-    next: Option<usize>,
     desk: &mut D,
     moment: Moment,
 ) -> Result<Seen, DeskError>
@@ -114,16 +108,14 @@ fn see_all<D: Desk>(
 {
     let mut changed = TreeObject::new(Vec::new(alloc));
     let mut calls = 0;
-    let mut has_grown = false;
     for i in 0..states.len() {
-        if !is_due(states, next, i, has_grown) {
+        if !may_be_news(&states[i], desk) {
             continue;
         }
-        has_grown = match glance(alloc, &mut states[i], desk, moment, &mut changed) {
-            Ok(is_longer) => is_longer,
+        match glance(alloc, &mut states[i], desk, moment, &mut changed) {
+            Ok(()) => calls += 1,
             Err(error) => return Err(error),
-        };
-        calls += 1;
+        }
     }
     Ok(Seen { changed, calls })
 }
@@ -177,28 +169,7 @@ fn watched_anew(grant: &Grant, kind: Kind) -> Result<Watched, AllocError>
     })
 }
 
-// Whether a state is looked at, where `next` is the first one of the account whose turn it is, and that account's history is known to have grown or not.
-fn is_due(states: &[Watched], next: Option<usize>, i: usize, has_grown: bool) -> bool {
-    let Some(first) = next else {
-        return true;
-    };
-    i == first || (has_grown && account_at(states, i) == account_at(states, first))
-}
-
-fn account_at(states: &[Watched], i: usize) -> Option<u32> {
-    Some(states.get(i)?.account)
-}
-
-// The place of the first state of the account behind the one whose turn it was, or of the first of all.
-fn behind(states: &[Watched], next: Option<usize>) -> usize {
-    let Some(first) = next else {
-        return 0;
-    };
-    let account = account_at(states, first);
-    for i in first..states.len() {
-        if account_at(states, i) != account {
-            return i;
-        }
-    }
-    0
+// Whether the history of a state's account may have grown since the state was last looked at, or the state never was.
+fn may_be_news<D: Desk>(watched: &Watched, desk: &D) -> bool {
+    watched.place != Some(desk.place_now(watched.account))
 }
