@@ -37,15 +37,15 @@ sockets_end most done Whole is how = inl (is, how)
 sockets_end most done AcceptFault is how = inr is
 sockets_end most done PassSpent is how = absurd how
 
-pub whole : {site : Site} {most : ℕ} {t u : Tools} {done : WorkerDone} (p p' : PostShown) → t.desk.turns ≡ 0 → most ≤ MAX_CONNECTIONS → WorksAt site most p p' t u done → WorksWhole site most p p' t u done
-whole {site} {most} {t} {u} {done} (connections l) (connections l') none few w =
+pub whole : (site : Site) (most : ℕ) (t u : Tools) (done : WorkerDone) (p p' : PostShown) → t.desk.turns ≡ 0 → most ≤ MAX_CONNECTIONS → WorksAt site most p p' t u done → WorksWhole site most p p' t u done
+whole site most t u done (connections l) (connections l') none few w =
     let made = each_turns site t u w.visits w.serves in
     let count = ap (λ (n : ℕ). MAX_CALLS * n) w.count in
     let turns : u.desk.turns ≤ MAX_CALLS * done.served = omega (arith, made, none, count) in
     (w, ends_so most l l' u done done.end refl few turns w.how)
-whole {site} {most} {t} {u} {done} (sockets a) (sockets a') none few w = (w, sockets_end most done done.end refl w.how)
-whole (connections l) (sockets a') none few w = absurd w
-whole (sockets a) (connections l') none few w = absurd w
+whole site most t u done (sockets a) (sockets a') none few w = (w, sockets_end most done done.end refl w.how)
+whole site most t u done (connections l) (sockets a') none few w = absurd w
+whole site most t u done (sockets a) (connections l') none few w = absurd w
 
 -- a desk over the accounts of the same site
 pub unused_of_same : {site site' : Site} (desk : Shown) → site' ≡ site → IsUnused site desk → IsUnused site' desk

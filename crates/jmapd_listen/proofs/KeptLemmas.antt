@@ -10,7 +10,7 @@ use Rattle.account_desk.specs.FreshDesk.{bases, kept_rules}
 use Rattle.account_desk.specs.SharedDesk.{shown_by_passes}
 use Rattle.account_lock.specs.Passes.{PassState}
 use Rattle.cal_model.specs.Sound.{unsound_place}
-use Rattle.command_line.specs.Commands.{Listen, listen}
+use Rattle.command_line.specs.Commands.{Listen, all_workers, listen}
 use Rattle.io_edge.specs.Outside.{OpenerShown}
 use Rattle.jmapd_listen.proofs.DeskLemmas.{are_desks_at}
 use Rattle.jmapd_listen.specs.Hosts.{HostsShown}
@@ -75,5 +75,5 @@ module _ (o o' : OpenerShown) (l : Listen) where
     none_opened h s status refused = inl (workers_for l site, (refl, loaded), inl (refused, refl, refl))
 
     -- the workers serve the users of the site
-    pub kept_served : (h h' : HostsShown) (s s' : SpawnerShown) (desks : List Shown) → AreKeptDesks site f.told l.workers desks → (e : Status) → ServesSite site desks l h h' s s' e → ListensKept f f' h h' s s' o o' l (Plain e)
+    pub kept_served : (h h' : HostsShown) (s s' : SpawnerShown) (desks : List Shown) → AreKeptDesks site f.told (all_workers l) desks → (e : Status) → ServesSite site desks l h h' s s' e → ListensKept f f' h h' s s' o o' l (Plain e)
     kept_served h h' s s' desks kept e serves = inl (workers_for l site, (refl, loaded), inr (record { desks = desks; kept = kept; plainly = e; status_is = refl; serves = serves }))

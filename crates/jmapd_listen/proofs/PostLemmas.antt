@@ -1,5 +1,5 @@
 -- The posts of workers: what the hosts are asked for, and which serve sockets.
-use Rattle.std.proofs.Common.{◌≡◌, ℕ, ◌+◌, ◌≤◌, ◌++◌, Bool, true, false, List, [], ◌∷◌, Err, length, map, refl, sym, ap, ◌∙◌, arith, length-append}
+use Rattle.std.proofs.Common.{◌≡◌, ℕ, ◌+◌, ◌≤◌, ◌++◌, Bool, true, false, List, [], ◌∷◌, Err, None, Option, Some, append-nil, length, map, option_map, refl, sym, ap, ◌∙◌, arith, length-append}
 use Rattle.std.proofs.lemmas.List.{length-map, map-append}
 use Rattle.std.specs.Prelude.{replicate}
 use mathlib.Core.List.{map-map}
@@ -34,6 +34,11 @@ module _ (l : Listen) (h h1 g : HostShown) (P : Type 0) where
     -- both made all of theirs, and there is no memory for the list of them
     pub no_list : AskedFor g g1 (socket_port l.sockets) (socket_workers l.sockets) → OpensPosts l (record { connections = h; sockets = g }) (record { connections = h1; sockets = g1 }) {P = P} (Err NoMemory)
     no_list these = inr (asked, (socket_workers l.sockets, omega arith, these))
+
+-- where there are no workers of sockets, nothing is asked for
+pub none_asked : (asked : Option (List (ℕ × ℕ))) → asked ≡ option_map (λ pairs. pairs ++ []) asked
+none_asked None = refl
+none_asked (Some pairs) = ap Some (sym (append-nil pairs))
 
 -- ---- which serve sockets
 

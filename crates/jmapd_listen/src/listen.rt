@@ -167,6 +167,7 @@ fn open_posts<H: Host, G: SocketHost>(
 }
 
 // What hands out links to those who serve sockets.
+#[tactic(auto, using(crate::proofs::PostLemmas::none_asked))]
 fn open_sockets<G: SocketHost>(
     alloc: Global,
     host: &mut G,

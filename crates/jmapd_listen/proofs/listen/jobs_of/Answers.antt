@@ -36,19 +36,19 @@ loop-post-preserved g c =
     let items = c.push_reserved.ensures.items in
     let pushed = ap length items in
     let longer = length-append c.loop-post.yielded ((c.in-Some.post, c.in-Some.desk) ∷ []) in
-    let P : Type 0 = Post g.row.L.Denot g.row.A.Denot in
+    let Q : Type 0 = Post g.row.L.Denot g.row.A.Denot in
     let Job : Type 0 = WorkerJob g.row.L.Denot g.row.A.Denot g.row.C.Denot g.row.D.Denot g.D.Desk in
-    let post_of : Job → P = λ job. job.post in
+    let post_of : Job → Q = λ job. job.post in
     let desk_of : Job → g.row.D.Denot = λ job. job.desk in
     let P : Job → Type 0 = λ job. (job.connections ≡ c.args.connections) × (arc_value job.site ≡ c.args.site) in
     let site : arc_value c.in_ok-try_clone.field-0 ≡ c.args.site = search rules in
     record {
       posts =
-          ap (map post_of) items ∙ (map-append post_of c.loop-post.jobs.items _ ∙ (ap (λ (ps : List P). ps ++ c.in-Some.post ∷ []) i.posts
-          ∙ sym (map-append (λ (p : P × g.row.D.Denot). p.0) c.loop-post.yielded ((c.in-Some.post, c.in-Some.desk) ∷ []))));
+          ap (map post_of) items ∙ (map-append post_of c.loop-post.jobs.items _ ∙ (ap (λ (qs : List Q). qs ++ c.in-Some.post ∷ []) i.posts
+          ∙ sym (map-append (λ (p : Q × g.row.D.Denot). p.0) c.loop-post.yielded ((c.in-Some.post, c.in-Some.desk) ∷ []))));
       desks =
           ap (map desk_of) items ∙ (map-append desk_of c.loop-post.jobs.items _ ∙ (ap (λ (ds : List g.row.D.Denot). ds ++ c.in-Some.desk ∷ []) i.desks
-          ∙ sym (map-append (λ (p : Post g.row.L.Denot g.row.A.Denot × g.row.D.Denot). p.1) c.loop-post.yielded ((c.in-Some.post, c.in-Some.desk) ∷ []))));
+          ∙ sym (map-append (λ (p : Q × g.row.D.Denot). p.1) c.loop-post.yielded ((c.in-Some.post, c.in-Some.desk) ∷ []))));
       count = search rules;
       room = search rules;
       all = subst (All P) (sym items) (All-push P c.loop-post.jobs.items _ i.all (refl, site));

@@ -21,4 +21,4 @@ returns g c =
     let t : Tools = record { clock = g.C.Clock.moments job.clock; desk = g.D.Desk.shown job.desk } in
     let u : Tools = record { clock = g.C.Clock.moments c.work-done.new.clock; desk = g.D.Desk.shown c.work-done.new.desk } in
     let site_is : c.deref.result.now ≡ arc_value job.site = search rules in
-    whole p p' job.unused.1 job.within.1 (subst (λ (s : Site). WorksAt s job.connections p p' t u c.work-done.result) site_is c.work-done.ensures)
+    whole (arc_value job.site) job.connections t u c.work-done.result p p' job.unused.1 job.within.1 (subst (λ (s : Site). WorksAt s job.connections p p' t u c.work-done.result) site_is c.work-done.ensures)
