@@ -13,15 +13,16 @@ use Rattle.listen_edge.specs.declared.job.WorkerDone.{WorkerDone}
 use Rattle.listen_workers.proofs.ChainLemmas.{workers_stand}
 use Rattle.listen_workers.proofs.HandLemmas.{some_at}
 use Rattle.listen_workers.specs.Joined.{ArePassesOf, HistoriesAreOfCalls, IsOfCalls, ShareAccount}
-use Rattle.listen_workers.specs.Posts.{EndedWorker, PostShown, WorksAt, connections, fronts_at, fronts_of, sockets}
+use Rattle.listen_workers.specs.Posts.{AreCallsAt, AreCallsOf, EndedWorker, PostShown, WorksAt, connections, fronts_at, sockets}
 use Rattle.listen_workers.specs.SocketWork.{socket_tools}
 use Rattle.listen_workers.specs.Working.{Tools}
 use Rattle.spec_batch.proofs.Chains.{summaries_join}
-use Rattle.spec_batch.specs.Chain.{Made, Rules, Shown, Summary, SummaryOn, front_of, on}
+use Rattle.spec_batch.specs.Chain.{Made, Rules, Shown, Summary, SummaryOn, on}
 use Rattle.spec_history.specs.Base.{Base}
 use Rattle.spec_history.specs.Signed.{written_by}
 use Rattle.spec_history.specs.declared.entry.Entry.{Entry}
 use Rattle.spec_site.specs.Configuration.{Site}
+use Rattle.spec_sockets.specs.Turns.{made_in_turns}
 use Rattle.ws_serve.proofs.ChainLemmas.{hosts_stand}
 use Rattle.ws_serve.specs.declared.host.HostEnd.TheVariants as end
 
@@ -61,13 +62,13 @@ in_history s t made m k rest others =
 -- ---- the calls of a worker
 
 module _ {site : Site} {most : ℕ} where
-  stand_at : (p p' : PostShown) (t u : Tools) (done : WorkerDone) (w : WorksAt site most p p' t u done) → (made : List Made) × Summary t.desk u.desk made × (map front_of made ≡ fronts_at p p' w)
+  stand_at : (p p' : PostShown) (t u : Tools) (done : WorkerDone) (w : WorksAt site most p p' t u done) → (made : List Made) × Summary t.desk u.desk made × AreCallsAt p (fronts_at p p' w) made
   stand_at (connections l) (connections l') t u done w = (let s = workers_stand site most l l' t u done w in (s.0, s.1, s.2))
-  stand_at (sockets a) (sockets a') t u done w = (let s = hosts_stand site done.served a a' (socket_tools t) (socket_tools u) end.All w.hosts in (s.0, s.1, s.2))
+  stand_at (sockets a) (sockets a') t u done w = (let s = hosts_stand site done.served a a' (socket_tools t) (socket_tools u) end.All w.hosts in (made_in_turns s.0, s.1, (s.0, refl, s.2)))
   stand_at (connections l) (sockets a') t u done w = absurd w
   stand_at (sockets a) (connections l') t u done w = absurd w
 
-  abbrev stand : (w : EndedWorker site most) → (made : List Made) × Summary w.tools.desk w.tools'.desk made × (map front_of made ≡ fronts_of w)
+  abbrev stand : (w : EndedWorker site most) → (made : List Made) × Summary w.tools.desk w.tools'.desk made × AreCallsOf w made
   stand w = stand_at w.post w.post' w.tools w.tools' w.done w.works
 
   abbrev calls_of : EndedWorker site most → List Made
@@ -76,9 +77,9 @@ module _ {site : Site} {most : ℕ} where
   calls_stand : (w : EndedWorker site most) → Summary w.tools.desk w.tools'.desk (calls_of w)
   calls_stand w = (stand w).1
 
-  fronts_are : (ws : List (EndedWorker site most)) → AllZip (λ (w : EndedWorker site most) (made : List Made). map front_of made ≡ fronts_of w) ws (map calls_of ws)
-  fronts_are [] = tt
-  fronts_are (w ∷ ws) = ((stand w).2, fronts_are ws)
+  calls_are : (ws : List (EndedWorker site most)) → AllZip (λ (w : EndedWorker site most) (made : List Made). AreCallsOf w made) ws (map calls_of ws)
+  calls_are [] = tt
+  calls_are (w ∷ ws) = ((stand w).2, calls_are ws)
 
 -- ---- one lock
 
@@ -150,4 +151,4 @@ module _ {site : Site} {most : ℕ} (workers : List (EndedWorker site most)) (k 
 
 pub histories_are_of_calls : {B : Type 0} (entries : B → List Entry) (base_of : B → Base) → HistoriesAreOfCalls entries base_of
 histories_are_of_calls entries base_of site most workers =
-    (map calls_of workers, fronts_are workers, λ k rules base opened l lock share passes. of_calls workers k rules base opened entries base_of l lock share passes)
+    (map calls_of workers, calls_are workers, λ k rules base opened l lock share passes. of_calls workers k rules base opened entries base_of l lock share passes)

@@ -2,8 +2,8 @@
 use Rattle.std.specs.Prelude.{◌≡◌, ◌<◌, ◌++◌, ℕ, List, All, Some, length, map, slice_get}
 use Rattle.std.specs.List.{AllZip}
 use Rattle.account_lock.specs.Lock.{IsTicketLock, PassView, TicketLock}
-use Rattle.listen_workers.specs.Posts.{EndedWorker, fronts_of}
-use Rattle.spec_batch.specs.Chain.{Made, Rules, SummaryOn, front_of, on}
+use Rattle.listen_workers.specs.Posts.{AreCallsOf, EndedWorker}
+use Rattle.spec_batch.specs.Chain.{Made, Rules, SummaryOn, on}
 use Rattle.spec_history.specs.Base.{Base}
 use Rattle.spec_history.specs.declared.entry.Entry.{Entry}
 use Rattle.spec_site.specs.Configuration.{Site}
@@ -27,10 +27,10 @@ module _ {site : Site} {most : ℕ} (workers : List (EndedWorker site most)) (k 
   ArePassesOf views = (length views ≡ length workers) × ((n : ℕ) (v : PassView) (w : EndedWorker site most) → slice_get views n ≡ Some v → slice_get workers n ≡ Some w
       → (v.number ≡ n) × (v.seen ≡ w.tools'.desk.seen k))
 
--- Whatever workers ended, of connections and of sockets, there are calls of each, whose fronts are those of its connections or of its sockets. In any state of an account's lock in which the passes are those that the workers left,
+-- Whatever workers ended, of connections and of sockets, there are calls of each, with the fronts of its connections or of its sockets. In any state of an account's lock in which the passes are those that the workers left,
 -- the account's history is that of just these calls.
 abbrev pub HistoriesAreOfCalls : {B : Type 0} → (B → List Entry) → (B → Base) → Type 0
 HistoriesAreOfCalls {B} entries base_of = (site : Site) (most : ℕ) (workers : List (EndedWorker site most))
-    → (calls : List (List Made)) × AllZip (λ w made. map front_of made ≡ fronts_of w) workers calls
+    → (calls : List (List Made)) × AllZip (λ w made. AreCallsOf w made) workers calls
     × ((k : ℕ) (rules : Rules) (base : Base) (opened : List Entry) (l : TicketLock B) (lock : IsTicketLock entries base_of opened base l)
     → ShareAccount workers k rules base opened → ArePassesOf workers k l.views → IsOfCalls rules base opened lock.history (map (on k) calls))

@@ -1,11 +1,13 @@
 -- Workers of either kind: each stands at a listener of connections, or at what hands out links of sockets.
-use Rattle.std.specs.Prelude.{ℕ, List, [], Bool, true, false, flat_map}
+use Rattle.std.specs.Prelude.{◌≡◌, ℕ, List, [], Bool, true, false, flat_map, map}
 use Rattle.listen_edge.specs.Listening.{ListenerShown}
 use Rattle.listen_edge.specs.declared.job.WorkerDone.{WorkerDone}
 use Rattle.listen_workers.specs.SocketWork.{WorksOnSockets}
 use Rattle.listen_workers.specs.Working.{Tools, Works}
+use Rattle.spec_batch.specs.Chain.{Made, front_of}
 use Rattle.spec_batch.specs.declared.desk.Front.{Front}
 use Rattle.spec_site.specs.Configuration.{Site}
+use Rattle.spec_sockets.specs.Turns.{Turn, made_for_texts, made_in_turns}
 use Rattle.ws_edge.specs.Accepting.{AcceptShown}
 
 -- what is shown of where a worker stands
@@ -31,6 +33,11 @@ fronts_at (sockets a) (sockets a') w = flat_map (λ v. v.back.served.fronts.item
 fronts_at (connections l) (sockets a') w = []
 fronts_at (sockets a) (connections l') w = []
 
+-- Calls with these fronts: all calls on connections have one; of the calls of the turns of sockets those for texts have, and those of looks have none.
+abbrev pub AreCallsAt : PostShown → List Front → List Made → Type 0
+AreCallsAt (connections l) fronts made = map front_of made ≡ fronts
+AreCallsAt (sockets a) fronts made = (turns : List Turn) × (made ≡ made_in_turns turns) × (map front_of (made_for_texts turns) ≡ fronts)
+
 -- a worker that ended: what is shown of its post, and of its clock and desk, before and after
 pub record EndedWorker (site : Site) (most : ℕ) : Type 0 where
   pub post : PostShown
@@ -42,3 +49,7 @@ pub record EndedWorker (site : Site) (most : ℕ) : Type 0 where
 
 abbrev pub fronts_of : {site : Site} {most : ℕ} → EndedWorker site most → List Front
 fronts_of w = fronts_at w.post w.post' w.works
+
+-- calls with the fronts of its connections, or of its sockets
+abbrev pub AreCallsOf : {site : Site} {most : ℕ} → EndedWorker site most → List Made → Type 0
+AreCallsOf w made = AreCallsAt w.post (fronts_of w) made
