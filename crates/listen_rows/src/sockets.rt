@@ -38,7 +38,7 @@ fn socket_of(alloc: Global, item: &Tree) -> Result<Option<MemSocket>, AllocError
     let mut messages = Vec::new(alloc);
     for text in texts {
         if let Tree::Text(text) = text {
-            messages.push(WsMessage::Text(text.copy()?))?;
+            messages.push(Some(WsMessage::Text(text.copy()?)))?;
         }
     }
     let link = MemLink::new(alloc, messages, Vec::new(alloc), Vec::new(alloc));
