@@ -18,15 +18,15 @@ use Rattle.ws_edge.specs.Accepting.{AcceptShown}
 
 -- ---- what the hosts are asked for
 
-module _ (l : Listen) (h h1 g : HostShown) (P : Type 0) where
+module _ (l : Listen) (h h1 g : HostShown) (L P : Type 0) where
   -- the host of connections made no listener for a worker
-  pub no_listener : (e : HostError) → OpensHow {L = ℕ} l.port l.workers h h1 (Err e) → OpensPosts l (record { connections = h; sockets = g }) (record { connections = h1; sockets = g }) {P = P} (Err e)
+  pub no_listener : (e : HostError) → OpensHow {L = L} l.port l.workers h h1 (Err e) → OpensPosts l (record { connections = h; sockets = g }) (record { connections = h1; sockets = g }) {P = P} (Err e)
   no_listener Failed how = inl (how.0, how.1, refl)
   no_listener NoMemory how = inl (how, refl)
 
   module _ (g1 : HostShown) (asked : AskedFor h h1 l.port l.workers) where
     -- it made all of them, and that of sockets made nothing for a worker
-    pub no_accepter : (e : HostError) → OpensHow {L = ℕ} (socket_port l.sockets) (socket_workers l.sockets) g g1 (Err e)
+    pub no_accepter : (e : HostError) → OpensHow {L = L} (socket_port l.sockets) (socket_workers l.sockets) g g1 (Err e)
         → OpensPosts l (record { connections = h; sockets = g }) (record { connections = h1; sockets = g1 }) {P = P} (Err e)
     no_accepter Failed how = inr (asked, how.0, how.1)
     no_accepter NoMemory how = inr (asked, how)
@@ -61,6 +61,6 @@ module _ {L A : Type 0} (listener : L → ListenerShown) (accepter : A → Accep
   count_of posts ls bs n m are these those =
       let all = ap length are in
       let parts = length-append (map Connections ls) (map Sockets bs) in
-      let left = length-map ls Connections in
-      let right = length-map bs Sockets in
+      let left = length-map {B = Post L A} ls Connections in
+      let right = length-map {B = Post L A} bs Sockets in
       omega (arith, all, parts, left, right, these, those)
