@@ -13,5 +13,6 @@ pub mod LiveEvents
 pub mod InUse
 pub mod AskedLemmas
 pub mod FoundLemmas
+pub mod FewChanges
 pub mod KeptLemmas
 pub mod SlotLemmas

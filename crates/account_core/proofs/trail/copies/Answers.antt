@@ -1,4 +1,4 @@
-use Rattle.std.proofs.Common.{◌+◌, ℕ, List, [], ◌∷◌, ap, arith, length, length-append, refl, take, ◌∙◌}
+use Rattle.std.proofs.Common.{◌+◌, ℕ, List, [], ◌∷◌, ap, arith, get_or, length, length-append, refl, take, ◌∙◌}
 use Rattle.std.proofs.lemmas.List.{take_all, take_more}
 use Rattle.account_core.proofs.Committing.{one_copied}
 use Rattle.cal_model.specs.Answer.{entries_from}
@@ -21,7 +21,7 @@ loop-change-preserved c =
     let more = ap length (take_more cs i c.change-item.result c.loop-change-test.true) in
     record {
       part = ap (λ (n : ℕ). n + 1) c.loop-change.invariant.part;
-      upto = omega (arith, more, length-append (take i cs) (_ ∷ []), c.loop-change.invariant.upto);
+      upto = omega (arith, more, length-append (take i cs) (get_or cs i c.change-item.result ∷ []), c.loop-change.invariant.upto);
       copied = one_copied c.args.stamp.now cs i c.change-item.result c.in_ok-change.change c.loop-change.part c.loop-change.entries.items c.push.new.self.items c.loop-change-test.true c.change-item.is c.loop-change.invariant.upto
           c.loop-change.invariant.part c.in_ok-change.ensures c.loop-change.invariant.copied c.in_ok-push.ensures.items;
     }

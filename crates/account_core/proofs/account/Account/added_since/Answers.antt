@@ -18,4 +18,4 @@ returns-in-Some c =
     let h = ledger_entries c.self.inside.ledger in
     let es = c.self.inside.trail.entries.items in
     let are : AreFrom (Some c.in-Some.first) es h = subst (λ (o : Option ℕ). AreFrom o es h) c.in-Some.is c.self.invariant.1 in
-    c.since.ensures ∙ from_place c.in-Some.first c.args.place es h are c.if-first-le-place.true ∙ ap (λ (v : Base × List Entry). drop c.args.place v.1) c.self.view_is
+    c.since.ensures ∙ from_place c.in-Some.first c.args.place es h are c.if-first-place.true ∙ ap (λ (v : Base × List Entry). drop c.args.place v.1) c.self.view_is

@@ -7,15 +7,15 @@ use Rattle.account_core.proofs.trail.TrailEntryKeeper.keep.Goals as goal
 pub returns-in_err-add-in-Some-clause-not_kept : goal.returns-in_err-add-in-Some-clause-not_kept
 returns-in_err-add-in-Some-clause-not_kept c =
     let passed = err_from_is_err_and c.from_residual.result c.from_residual.ensures.1 in
-    rw (passed.1, passed.2) (λ base h sound has. has_same c.args.self.now c.add.new.self h c.in_err-add-in-Some.ensures.first c.in_err-add-in-Some.ensures.err has)
+    rw passed.1 (λ base h sound has. has_same c.args.self.now c.add.new.self h c.in_err-add-in-Some.ensures.first c.in_err-add-in-Some.ensures.err has)
 
 pub returns-in_err-add-in-Some-clause-told : goal.returns-in_err-add-in-Some-clause-told
 returns-in_err-add-in-Some-clause-told c =
     let passed = err_from_is_err_and c.from_residual.result c.from_residual.ensures.1 in
     rw (passed.1, passed.2) (λ e. absurd (cc e))
 
-pub returns-in-Some-clause-kept : goal.returns-in-Some-clause-kept
-returns-in-Some-clause-kept c = λ base h sound has.
+pub returns-in_ok-add-in-Some-clause-kept : goal.returns-in_ok-add-in-Some-clause-kept
+returns-in_ok-add-in-Some-clause-kept c = λ base h sound has.
     has_more c.args.self.now c.add.new.self h (entries_from c.args.stamp.now 0 c.args.changes.now) c.in_ok-add-in-Some.ensures.first c.in_ok-add-in-Some.ensures.ok has
 
 pub returns-in-None-clause-kept : goal.returns-in-None-clause-kept
