@@ -88,14 +88,17 @@ fn found_now(log: &ObjectLog<u64>, load: Load) -> u64 {
 
 fn found_then(log: &ObjectLog<u64>, load: Load, calls: u64) -> u64 {
     let mut found: u64 = 0;
-    if log.retained(load.state()) {
-        for call in 0..calls {
-            if log.get_at(load.scattered(call), load.state()).is_some() {
-                found = found.wrapping_add(1);
-            }
+    for call in 0..calls {
+        if was_live(log, load.scattered(call), load.state()) {
+            found = found.wrapping_add(1);
         }
     }
     found
+}
+
+// Whether an id had an object at a state, where that is retained.
+fn was_live(log: &ObjectLog<u64>, id: u64, state: u64) -> bool {
+    log.retained(state) && log.get_at(id, state).is_some()
 }
 
 fn time_get(rt: &HostRuntime, load: Load) -> io::Result<(Duration, u64)> {
