@@ -34,25 +34,24 @@ fn event_occurrence(alloc: Global, store: &Store, id: &Text) -> Result<Option<Tr
     ensures { IfOk result (λ o. o ≡ occurrence_named (changes_of (entries store.now)) event_kind id.now) }
 {
     match read_occurrence_id(id.as_str().as_bytes()) {
-        Some((number, rid)) => occurrence_numbered(alloc, store, number, rid),
+        Some(named) => occurrence_numbered(alloc, store, named),
         None => Ok(None),
     }
 }
 
-// The occurrence of the live event of this number with this recurrence id.
+// The occurrence of the live event of a number with a recurrence id.
 fn occurrence_numbered(
     alloc: Global,
     store: &Store,
-    number: u64,
-    rid: Wall,
+    named: (u64, Wall),
 ) -> Result<Option<Tree>, AllocError>
-    requires { is_in_years rid ≡ true }
-    ensures { IfOk result (λ o. o ≡ occurrence_numbered (changes_of (entries store.now)) (number, rid)) }
+    requires { is_in_years named.1 ≡ true }
+    ensures { IfOk result (λ o. o ≡ occurrence_numbered (changes_of (entries store.now)) named) }
 {
-    let Some(event) = store.object(Kind::Event, number) else {
+    let Some(event) = store.object(Kind::Event, named.0) else {
         return Ok(None);
     };
-    match occurrence(alloc, number, event, rid)? {
+    match occurrence(alloc, named.0, event, named.1)? {
         Some(members) => Ok(Some(Tree::Object(members))),
         None => Ok(None),
     }
