@@ -1,4 +1,4 @@
-use Rattle.std.proofs.Common.{◌≡◌, map, sym, ap, ◌∙◌}
+use Rattle.std.proofs.Common.{◌≡◌, map, refl, sym, ap, ◌∙◌}
 use Rattle.std.proofs.lemmas.List.{length-map}
 use Rattle.std.specs.Arc.{arc_value}
 use Rattle.std.specs.List.{list_all}
@@ -8,7 +8,7 @@ use denote.Param.Send.{arg_send, param_send}
 use Rattle.command_line.specs.Shown.{listen_shown}
 use Rattle.jmapd_listen.proofs.EndedLemmas.{have_ended}
 use Rattle.jmapd_listen.proofs.Sending.{back_sent, job_sent}
-use Rattle.jmapd_listen.proofs.ServeLemmas.{all_served, not_all}
+use Rattle.jmapd_listen.proofs.ServeLemmas.{all_served, not_all, wanting}
 use Rattle.jmapd_listen.specs.Hosts.{HostsShown}
 use Rattle.jmapd_listen.specs.Listens.{SpawnerShown}
 use Rattle.jmapd_listen.specs.declared.job.WorkerBack.{WorkerBack}
@@ -26,6 +26,22 @@ run_all-requires-send-J g c κs within =
 pub run_all-requires-send-J-Back : goal.run_all-requires-send-J-Back
 run_all-requires-send-J-Back g c κs within =
     param_send _ _ (arg_send _ no _ (back_sent _ _ _ _ c.type_bounds.send-H-L c.type_bounds.send-G-A c.type_bounds.send-C c.type_bounds.send-D))
+
+pub returns-in_default : goal.returns-in_default
+returns-in_default g c =
+    let h : HostsShown = record { connections = g.H.Host.shown c.args.host.now; sockets = g.G.SocketHost.shown c.args.socket_host.now } in
+    let h' : HostsShown = record { connections = g.H.Host.shown c.open_posts.new.host; sockets = g.G.SocketHost.shown c.open_posts.new.socket_host } in
+    let s : SpawnerShown = record { faults = g.S.Spawner.faults c.args.spawner.now; served = g.S.Spawner.served c.args.spawner.now } in
+    wanting c.args.site (map g.D.Desk.shown c.args.desks.items) (listen_shown c.args.asked.now) h h' c.in-Ok.ensures.how s s refl
+
+pub returns-in_default-run_all : goal.returns-in_default-run_all
+returns-in_default-run_all g c =
+    let h : HostsShown = record { connections = g.H.Host.shown c.args.host.now; sockets = g.G.SocketHost.shown c.args.socket_host.now } in
+    let h' : HostsShown = record { connections = g.H.Host.shown c.open_posts.new.host; sockets = g.G.SocketHost.shown c.open_posts.new.socket_host } in
+    let s : SpawnerShown = record { faults = g.S.Spawner.faults c.args.spawner.now; served = g.S.Spawner.served c.args.spawner.now } in
+    let s' : SpawnerShown = record { faults = g.S.Spawner.faults c.run_all.new.spawner; served = g.S.Spawner.served c.run_all.new.spawner } in
+    let none = c.in_default-run_all.ensures.none in
+    wanting c.args.site (map g.D.Desk.shown c.args.desks.items) (listen_shown c.args.asked.now) h h' c.in-Ok.ensures.how s s' (λ i. record { faults = none.0 i; served = none.1 i })
 
 pub returns-then-all_served : goal.returns-then-all_served
 returns-then-all_served g c =
