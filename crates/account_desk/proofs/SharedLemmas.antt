@@ -1,5 +1,5 @@
 -- A call through a pass of a shared account is a call on a desk.
-use Rattle.std.proofs.Common.{◌≡◌, ◌≢◌, ℕ, ℤ, zero, suc, ◌+◌, ◌<◌, ◌≤◌, ◌^◌, List, [], ◌∷◌, ◌++◌, All, Result, Ok, Err, Option, Some, None, IfOk, IfErr, length, map, slice_get, refl, option_map, sym, ap, ◌∙◌, subst, arith, get_or, max, take, set}
+use Rattle.std.proofs.Common.{◌≡◌, ◌≢◌, ℕ, ℤ, zero, suc, ◌+◌, ◌<◌, ◌≤◌, ◌^◌, List, [], ◌∷◌, ◌++◌, All, Result, Ok, Err, Option, Some, IfOk, IfErr, length, map, slice_get, refl, option_map, sym, ap, ◌∙◌, subst, arith, get_or, max, take, set}
 use Rattle.std.proofs.lemmas.List.{length-set, take_all, take_more}
 use Rattle.std.specs.List.{AllByRecursion as ByRecursion}
 use Rattle.std.proofs.lemmas.Option.{get_or_from_slice_get, same_Some, slice_get-map, slice_get_within}
