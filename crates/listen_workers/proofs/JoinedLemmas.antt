@@ -61,15 +61,16 @@ in_history s t made m k rest others =
 
 -- ---- the calls of a worker
 
-module _ {site : Site} {most : ℕ} where
-  stand_at : (p p' : PostShown) (t u : Tools) (done : WorkerDone) (w : WorksAt site most p p' t u done) → (made : List Made) × Summary t.desk u.desk made × AreCallsAt p (fronts_at p p' w) made
+module _ (site : Site) (most : ℕ) where
+  stand_at : (p p' : PostShown) (t u : Tools) (done : WorkerDone) (w : WorksAt site most p p' t u done) → (made : List Made) × Summary t.desk u.desk made × AreCallsAt p (fronts_at site most p p' t u done w) made
   stand_at (connections l) (connections l') t u done w = (let s = workers_stand site most l l' t u done w in (s.0, s.1, s.2))
   stand_at (sockets a) (sockets a') t u done w = (let s = hosts_stand site done.served a a' (socket_tools t) (socket_tools u) end.All w.hosts in (made_in_turns s.0, s.1, (s.0, refl, s.2)))
   stand_at (connections l) (sockets a') t u done w = absurd w
   stand_at (sockets a) (connections l') t u done w = absurd w
 
+module _ {site : Site} {most : ℕ} where
   abbrev stand : (w : EndedWorker site most) → (made : List Made) × Summary w.tools.desk w.tools'.desk made × AreCallsOf w made
-  stand w = stand_at w.post w.post' w.tools w.tools' w.done w.works
+  stand w = stand_at site most w.post w.post' w.tools w.tools' w.done w.works
 
   abbrev calls_of : EndedWorker site most → List Made
   calls_of w = (stand w).0

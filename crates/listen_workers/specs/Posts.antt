@@ -27,11 +27,11 @@ WorksAt site most (connections l) (sockets a') t u done = ⊥
 WorksAt site most (sockets a) (connections l') t u done = ⊥
 
 -- the fronts of its connections, or of its sockets, joined in order
-abbrev pub fronts_at : {site : Site} {most : ℕ} {t u : Tools} {done : WorkerDone} (p p' : PostShown) → WorksAt site most p p' t u done → List Front
-fronts_at (connections l) (connections l') w = flat_map (λ v. v.back.served.fronts.items) w.visits
-fronts_at (sockets a) (sockets a') w = flat_map (λ v. v.back.served.fronts.items) w.hosts.visits
-fronts_at (connections l) (sockets a') w = []
-fronts_at (sockets a) (connections l') w = []
+abbrev pub fronts_at : (site : Site) (most : ℕ) (p p' : PostShown) (t u : Tools) (done : WorkerDone) → WorksAt site most p p' t u done → List Front
+fronts_at site most (connections l) (connections l') t u done w = flat_map (λ v. v.back.served.fronts.items) w.visits
+fronts_at site most (sockets a) (sockets a') t u done w = flat_map (λ v. v.back.served.fronts.items) w.hosts.visits
+fronts_at site most (connections l) (sockets a') t u done w = absurd w
+fronts_at site most (sockets a) (connections l') t u done w = absurd w
 
 -- Calls with these fronts: all calls on connections have one; of the calls of the turns of sockets those for texts have, and those of looks have none.
 abbrev pub AreCallsAt : PostShown → List Front → List Made → Type 0
@@ -48,7 +48,7 @@ pub record EndedWorker (site : Site) (most : ℕ) : Type 0 where
   pub works : WorksAt site most post post' tools tools' done
 
 abbrev pub fronts_of : {site : Site} {most : ℕ} → EndedWorker site most → List Front
-fronts_of w = fronts_at w.post w.post' w.works
+fronts_of {site} {most} w = fronts_at site most w.post w.post' w.tools w.tools' w.done w.works
 
 -- calls with the fronts of its connections, or of its sockets
 abbrev pub AreCallsOf : {site : Site} {most : ℕ} → EndedWorker site most → List Made → Type 0
