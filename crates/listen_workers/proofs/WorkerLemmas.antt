@@ -1,7 +1,6 @@
 -- A worker's connections, one after the other.
-use Rattle.std.proofs.Common.{◌≡◌, ℕ, ℤ, ◌+◌, ◌*◌, ◌<◌, ◌≤◌, List, [], ◌∷◌, ◌++◌, Bool, Option, Some, None, length, map, option_map, refl, sym, ap, ◌∙◌, subst, arith, append_assoc, append-nil}
+use Rattle.std.proofs.Common.{◌≡◌, ℕ, ◌+◌, ◌*◌, ◌<◌, ◌≤◌, List, [], ◌∷◌, ◌++◌, Option, Some, None, length, map, option_map, refl, sym, ap, ◌∙◌, subst, arith, append_assoc, append-nil}
 use Rattle.std.proofs.lemmas.List.{length-append, map-append}
-use mathlib.Core.Logic.{inl, inr}
 use Rattle.conn_serve.proofs.Completeness.{How, spent_turns}
 use Rattle.conn_serve.proofs.HistoryLemmas.{connections_stand}
 use Rattle.io_edge.specs.Outside.{Rose, SinkShown, SourceShown}
@@ -10,7 +9,6 @@ use Rattle.listen_edge.specs.declared.job.WorkerEnd.{WorkerEnd}
 use Rattle.listen_edge.specs.declared.job.WorkerEnd.TheVariants.{AcceptFault}
 use Rattle.spec_batch.specs.Chain.{Made, Summary, front_of}
 use Rattle.spec_connection.specs.Serving.{Serves, Setting}
-use Rattle.spec_connection.specs.declared.served.ConnEnd.{ConnEnd}
 use Rattle.spec_connection.specs.declared.served.ConnEnd.TheVariants as end
 use Rattle.spec_connection.specs.declared.served.Served.{Served}
 use Rattle.spec_connection.specs.declared.served.TheConstants.{MAX_MESSAGES}

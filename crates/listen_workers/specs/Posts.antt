@@ -1,5 +1,5 @@
 -- Workers of either kind: each stands at a listener of connections, or at what hands out links of sockets.
-use Rattle.std.specs.Prelude.{◌≡◌, ℕ, List, [], Bool, true, false, flat_map, map}
+use Rattle.std.specs.Prelude.{◌≡◌, ℕ, List, Bool, true, false, flat_map, map}
 use Rattle.listen_edge.specs.Listening.{ListenerShown}
 use Rattle.listen_edge.specs.declared.job.WorkerDone.{WorkerDone}
 use Rattle.listen_workers.specs.SocketWork.{WorksOnSockets}

@@ -1,6 +1,4 @@
-use Rattle.std.proofs.Common.{◌≡◌, ◌∙◌, ◌++◌, ◌∷◌, [], ap, append_assoc, map, rules, sym}
-use Rattle.std.proofs.lemmas.Iterator.Adapters.{YieldsList-from_vec}
-use Rattle.std.proofs.lemmas.Iterator.Consumers.{YieldsList-end}
+use Rattle.std.proofs.Common.{◌∙◌, ◌++◌, ◌∷◌, [], ap, append_assoc, map, sym}
 use Rattle.std.proofs.lemmas.List.{map-append}
 use Rattle.listen_workers.specs.declared.post.Post.TheVariants.{Connections}
 use Rattle.listen_workers.proofs.post.add_listeners.Goals as goal
