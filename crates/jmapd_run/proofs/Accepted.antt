@@ -1,5 +1,5 @@
 -- A configuration that is accepted comes to its site.
-use Rattle.std.proofs.Common.{◌≡◌, ◌+◌, ℕ, List, Option, Some, None, Result, Ok, Err, sym, ap, ◌∙◌, subst, take, option_map}
+use Rattle.std.proofs.Common.{◌≡◌, ◌+◌, ℕ, List, Some, None, Result, Ok, Err, sym, ap, ◌∙◌, subst, take, option_map}
 use Rattle.std.proofs.lemmas.Option.{same_Some}
 use Rattle.std.specs.Prelude.{IfSome}
 use Rattle.io_edge.specs.Outside.{IsMissing, OpenerShown, file_named}

@@ -7,7 +7,7 @@ use Rattle.jmapd_run.specs.declared.status.Status.{Status}
 use Rattle.jmapd_run.specs.declared.status.Status.TheVariants.{Config, Cut, Done, NoMemory, OpenFault, ReadFault, Refused, Usage, WriteFault}
 use Rattle.jmapd_run.specs.Headline.{Surroundings}
 use Rattle.jmapd_run.specs.Runs.{Runs}
-use Rattle.jmapd_run.specs.Shown.{BatchHow, LoadHow, SiteHow, StartHow, start_shown}
+use Rattle.jmapd_run.specs.Shown.{BatchHow, LoadHow, SiteHow, StartHow}
 use Rattle.jmapd_run.specs.declared.start.Start.{Start}
 use Rattle.jmapd_run.specs.Starts.{IsSite, IsStart, misconfigured, not_opened, usage}
 
