@@ -77,5 +77,5 @@ module _ (asked : KeptCommand) (o o' : OpenerShown) (x : KeptSetting) where
       })
 
 -- each account that a user is granted is open
-pub all_open : (site : Site) (accounts : List (Base × List Entry)) (n : ℕ) (grants : List Grant) → length accounts ≡ n → All (λ (g : Grant). g.account < n) grants → All (λ (g : Grant). g.account < length accounts) grants
-all_open site accounts n grants count granted = subst (λ (m : ℕ). All (λ (g : Grant). g.account < m) grants) (sym count) granted
+pub all_open : (accounts : List (Base × List Entry)) (n : ℕ) (grants : List Grant) → length accounts ≡ n → All (λ (g : Grant). g.account < n) grants → All (λ (g : Grant). g.account < length accounts) grants
+all_open accounts n grants count granted = subst (λ (m : ℕ). All (λ (g : Grant). g.account < m) grants) (sym count) granted
