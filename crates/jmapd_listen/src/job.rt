@@ -13,7 +13,7 @@ use session_doc::Site;
 use spec_batch::desk::Desk;
 use std::alloc::Global;
 use std::sync::Arc;
-use ws_edge::accept::WsAccept;
+use ws_edge::accept::ThreadAccept;
 
 /// A worker that is to take so many connections, or handshakes of sockets, at its post, by its desk.
 ///
@@ -41,7 +41,7 @@ pub struct WorkerBack<L, A, C, D> {
 
 impl<
     L: ThreadListener,
-    A: WsAccept + Send + Drop + 'static,
+    A: ThreadAccept,
     C: Clock + Send + Drop + 'static,
     D: Desk + Send + Drop + 'static,
 > Finished for WorkerBack<L, A, C, D> {
@@ -54,7 +54,7 @@ impl<
 
 impl<
     L: ThreadListener,
-    A: WsAccept + Send + Drop + 'static,
+    A: ThreadAccept,
     C: Clock + Send + Drop + 'static,
     D: Desk + Send + Drop + 'static,
 > Job for WorkerJob<L, A, C, D> {

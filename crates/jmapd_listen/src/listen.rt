@@ -35,7 +35,7 @@ use session_doc::Site;
 use spec_batch::desk::Desk;
 use std::alloc::{AllocError, Global};
 use std::sync::{Arc, Wait};
-use ws_edge::accept::WsAccept;
+use ws_edge::accept::ThreadAccept;
 use ws_edge::socket_host::SocketHost;
 
 /// Runs the command `listen`: workers share the accounts of a site. Each serves one connection of its listener after the other, or one socket of what hands out links to it, until it
@@ -193,7 +193,7 @@ type Jobs<L, A, C, D> = Vec<WorkerJob<L, A, C, D>>;
 // The workers, each with its post and its desk.
 fn jobs_of<
     L: ThreadListener,
-    A: WsAccept + Send + Drop + 'static,
+    A: ThreadAccept,
     C: Clock + Copy + Send + Drop + 'static,
     D: Desk + Send + Drop + 'static,
 >(

@@ -51,3 +51,6 @@ pub trait WsAccept {
     // No more links came back than were handed out.
     ghost balanced: { (a : Self) → HasNoMoreBack (shown a) };
 }
+
+/// What hands out links, and may move to another thread.
+pub trait ThreadAccept: WsAccept + Send + Drop + 'static {}

@@ -2,7 +2,7 @@
 ghost use Rattle.std.specs.Prelude.{◌≡◌, ◌+◌, [], IfOk, None, Some};
 ghost use Rattle.io_edge.specs.FailingCalls.{faults_of};
 
-use crate::accept::WsAccept;
+use crate::accept::{ThreadAccept, WsAccept};
 use crate::link::LinkError;
 use crate::memory_accept::MemSocket;
 use crate::memory_link::MemLink;
@@ -72,6 +72,8 @@ impl<W: Wait + Send + Drop + 'static> WsAccept for ShelfAccept<W> {
 
     ghost balanced = { λ a. tt };
 }
+
+impl<W: Wait + Send + Drop + 'static> ThreadAccept for ShelfAccept<W> {}
 
 /// Makes accepters of its sockets, those of the first accepter first, and tells what it was asked for. It fails at the calls that it lists.
 #[derive(Drop)]

@@ -3,13 +3,13 @@ ghost use Rattle.std.specs.Prelude.{◌≡◌, ◌⊎◌, ◌≤◌, Err, OnOk};
 ghost use Rattle.io_edge.specs.Outside.{Rose};
 ghost use Rattle.listen_edge.specs.Listening.{Asks, HostShown};
 
-use crate::accept::WsAccept;
+use crate::accept::ThreadAccept;
 use listen_edge::host::HostError;
 
 /// Makes what hands out the links of a port, one for each worker.
 pub trait SocketHost {
     /// What it makes.
-    type A: WsAccept + Send + Drop + 'static;
+    type A: ThreadAccept;
 
     /// What contracts see of the host.
     ghost shown: { Self → HostShown };

@@ -2,7 +2,7 @@
 ghost use Rattle.std.specs.Prelude.{◌≡◌, ◌≤◌, ◌<◌, None, IfSome, length};
 ghost use Rattle.io_edge.specs.Outside.{Rose};
 
-use crate::accept::WsAccept;
+use crate::accept::{ThreadAccept, WsAccept};
 use crate::handshake::shake_hands;
 use crate::link::LinkError;
 use crate::socket_link::SocketLink;
@@ -156,3 +156,8 @@ impl<R: Net + Clock + Copy + Drop> WsAccept for TcpAccept<R> {
 
     ghost balanced = { λ a. tt };
 }
+
+impl<R: Net + Clock + Copy + Send + Drop + 'static> ThreadAccept for TcpAccept<R>
+where
+    R::Listener: Send + 'static,
+{}
