@@ -52,5 +52,5 @@ pub trait WsAccept {
     ghost balanced: { (a : Self) → HasNoMoreBack (shown a) };
 }
 
-/// What hands out links, and may move to another thread.
-pub trait ThreadAccept: WsAccept + Send + Drop + 'static {}
+/// What hands out links, and may move to another thread with them.
+pub trait ThreadAccept: WsAccept<Link: Send> + Send + Drop + 'static {}

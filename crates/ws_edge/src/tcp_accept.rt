@@ -160,4 +160,5 @@ impl<R: Net + Clock + Copy + Drop> WsAccept for TcpAccept<R> {
 impl<R: Net + Clock + Copy + Send + Drop + 'static> ThreadAccept for TcpAccept<R>
 where
     R::Listener: Send + 'static,
+    R::Stream: Send,
 {}

@@ -56,6 +56,7 @@ impl<R: Net> TcpSocketHost<R> {
 impl<R: Net + Wait + Clock + Copy + Send + Drop + 'static> SocketHost for TcpSocketHost<R>
 where
     R::Listener: Send + 'static,
+    R::Stream: Send,
 {
     type A = TcpAccept<R>;
 
