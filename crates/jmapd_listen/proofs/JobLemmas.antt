@@ -1,5 +1,5 @@
 -- A worker whose desk has made no calls has calls enough for all its connections.
-use Rattle.std.proofs.Common.{◌≡◌, ℕ, List, ◌*◌, ◌≤◌, ◌<◌, length, refl, sym, ap, ◌∙◌, subst, arith}
+use Rattle.std.proofs.Common.{◌≡◌, ℕ, List, ◌*◌, ◌≤◌, length, refl, sym, ap, ◌∙◌, subst, arith}
 use Rattle.std.proofs.lemmas.Option.{slice_get-get_or}
 use Rattle.std.specs.Prelude.{All}
 use mathlib.Core.Logic.{inl, inr}
@@ -13,7 +13,7 @@ use Rattle.listen_workers.proofs.PassLemmas.{passes_count}
 use Rattle.listen_workers.proofs.WorkerLemmas.{each_turns}
 use Rattle.listen_workers.specs.Posts.{PostShown, WorksAt, connections, sockets}
 use Rattle.listen_workers.specs.SocketWork.{SocketWorkHow}
-use Rattle.listen_workers.specs.Working.{MAX_CALLS, Tools, WorkerHow, Works}
+use Rattle.listen_workers.specs.Working.{MAX_CALLS, Tools, WorkerHow}
 use Rattle.jmapd_listen.specs.Listens.{IsUnused, WorksWhole}
 use Rattle.listen_edge.specs.Listening.{ListenerShown}
 use Rattle.listen_edge.specs.declared.job.WorkerDone.{WorkerDone}
@@ -23,7 +23,7 @@ use Rattle.spec_batch.specs.Chain.{Rules, Shown}
 use Rattle.spec_history.specs.Base.{Base}
 use Rattle.spec_history.specs.declared.entry.Entry.{Entry}
 use Rattle.spec_site.specs.Configuration.{Site}
-use Rattle.listen_workers.specs.Passes.{ShareAccounts, fresh_passes}
+use Rattle.listen_workers.specs.Passes.{ShareAccounts}
 use Rattle.listen_workers.specs.Crew.{Ends}
 
 ends_so : (most : ℕ) (l l' : ListenerShown) (u : Tools) (done : WorkerDone) (e : WorkerEnd) → done.end ≡ e → most ≤ MAX_CONNECTIONS → u.desk.turns ≤ MAX_CALLS * done.served

@@ -1,11 +1,11 @@
 -- The posts of workers: what the hosts are asked for, and which serve sockets.
-use Rattle.std.proofs.Common.{◌≡◌, ℕ, ◌+◌, ◌≤◌, ◌++◌, Bool, true, false, List, [], ◌∷◌, Err, None, Option, Some, append-nil, length, map, option_map, refl, sym, ap, ◌∙◌, arith, length-append}
+use Rattle.std.proofs.Common.{◌≡◌, ℕ, ◌+◌, ◌++◌, Bool, true, false, List, [], ◌∷◌, Err, None, Option, Some, append-nil, length, map, option_map, refl, sym, ap, ◌∙◌, arith, length-append}
 use Rattle.std.proofs.lemmas.List.{length-map, map-append}
 use Rattle.std.specs.Prelude.{replicate}
 use mathlib.Core.List.{map-map}
 use mathlib.Core.Logic.{inl, inr}
 use Rattle.command_line.specs.Commands.{Listen, socket_port, socket_workers}
-use Rattle.jmapd_listen.specs.Hosts.{HostsShown, OpensPosts}
+use Rattle.jmapd_listen.specs.Hosts.{OpensPosts}
 use Rattle.listen_edge.specs.Listening.{HostShown, ListenerShown}
 use Rattle.listen_edge.specs.declared.host.HostError.{HostError}
 use Rattle.listen_edge.specs.declared.host.HostError.TheVariants.{Failed, NoMemory}

@@ -1,8 +1,8 @@
 -- What comes of the workers of a site.
-use Rattle.std.proofs.Common.{◌≡◌, ℕ, ◌*◌, ◌≤◌, ◌++◌, Bool, true, false, List, Result, Ok, Err, length, map, sym, ap, ◌∙◌, arith}
+use Rattle.std.proofs.Common.{◌≡◌, ℕ, ◌*◌, true, false, List, length, sym, ap, ◌∙◌, arith}
 use Rattle.std.proofs.lemmas.List.{length-map}
 use Rattle.std.specs.List.{list_all}
-use mathlib.Core.Logic.{inl, inr}
+use mathlib.Core.Logic.{inr}
 use Rattle.command_line.specs.Commands.{Listen, all_workers, socket_workers}
 use Rattle.jmapd_listen.proofs.EndedLemmas.{all_whole, one_failed}
 use Rattle.jmapd_listen.specs.Hosts.{AskedForAll, HostsShown, serving_sockets}

@@ -1,5 +1,5 @@
 -- What contracts see of an office, and the desks over the accounts that it opens.
-use Rattle.std.specs.Prelude.{◌≡◌, ◌<◌, ℕ, List, All, Option, Some, None, length, map, slice_index_or, ⊤}
+use Rattle.std.specs.Prelude.{◌≡◌, ℕ, List, All, Option, Some, None, map, ⊤}
 use Rattle.account_desk.specs.FreshDesk.{bases, kept_rules}
 use Rattle.account_desk.specs.SoleDesk.{account_at}
 use Rattle.cal_model.specs.Sound.{unsound_place}

@@ -1,5 +1,5 @@
-use Rattle.std.proofs.Common.{◌≡◌, refl, sym, ap, ◌∙◌, map}
-use Rattle.std.specs.Prelude.{option_map, string_bytes}
+use Rattle.std.proofs.Common.{refl, sym, ap, ◌∙◌}
+use Rattle.std.specs.Prelude.{option_map}
 use Rattle.command_line.specs.Shown.{command_shown, listen_shown}
 use Rattle.jmapd_listen.proofs.ProgramLemmas.{listens, of_listen, of_run, streamed_all}
 use Rattle.jmapd_listen.proofs.program.run_program.Goals as goal
