@@ -1,6 +1,6 @@
 #!/usr/bin/env bash
 # Puts nginx before `jmapd listen`, with examples/nginx.conf and a certificate of its own, and has curl send the requests of examples/over_http.sh over TLS. The answers are compared with
-# examples/over_http.answers. Then a handshake of a WebSocket goes the same way, to the port of sockets. Skipped with a line where nginx, openssl or curl isn't there.
+# examples/over_http.answers. Then a handshake of a WebSocket and a stream of events go the same way, to the port of sockets. Skipped with a line where nginx, openssl or curl isn't there.
 #
 #     examples/behind_nginx.sh [PATH_OF_THE_PROGRAM]
 set -u
@@ -56,5 +56,13 @@ if grep -qi '^sec-websocket-accept: s3pPLMBiTxaQ9kYGzzhZRbK+xOo=' <<<"$head"; th
     echo "$me: a WebSocket is opened"
 else
     printf '%s\n' "$me: no WebSocket is opened" "$head"
+    exit 1
+fi
+# The stream stays open too: its first event comes at once, and curl gives up behind it.
+events=$(curl --silent --no-buffer --cacert "$folder/certificate.pem" --max-time 3 -H 'Authorization: Bearer t-ann' "https://localhost:$tls_port/events?types=*&closeafter=no&ping=300")
+if grep -q '^data: {"@type":"StateChange",' <<<"$events"; then
+    echo "$me: a stream of events is opened"
+else
+    printf '%s\n' "$me: no stream of events is opened" "$events"
     exit 1
 fi

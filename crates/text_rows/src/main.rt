@@ -1,9 +1,10 @@
-//! Tries what reads and writes texts on the rows of tables: JSON, numbers of dates and of congruences, patches, messages of HTTP, and the configuration of a
+//! Tries what reads and writes texts on the rows of tables: JSON, numbers of dates and of congruences, patches, messages of HTTP, streams of events, and the configuration of a
 //! site. Given a number of rounds, it times one patch.
 #![tactic(auto)]
 
 ghost use Rattle.std.specs.Prelude.{◌≡◌, ◌||◌, IfOk, IsNone, bytes_eq, codes, false};
 
+mod events;
 mod json_texts;
 mod messages;
 mod numbers;
@@ -26,7 +27,7 @@ struct TextRows {
 impl Trial for TextRows {
     ghost use Rattle.std.specs.Prelude.{◌||◌, bytes_eq, codes};
 
-    ghost knows = { λ name. bytes_eq name (codes "json") || bytes_eq name (codes "numbers") || bytes_eq name (codes "patches") || bytes_eq name (codes "messages") || bytes_eq name (codes "sites") };
+    ghost knows = { λ name. bytes_eq name (codes "json") || bytes_eq name (codes "numbers") || bytes_eq name (codes "patches") || bytes_eq name (codes "messages") || bytes_eq name (codes "events") || bytes_eq name (codes "sites") };
 
     fn other_than(
         &mut self,
@@ -43,13 +44,14 @@ impl Trial for TextRows {
     }
 }
 
-/// What comes of a question of dates and congruences, or of patches, none where it can't be read.
+/// What comes of a question of dates and congruences, of patches, or of streams of events, none where it can't be read.
 fn came(alloc: Global, table: &str, asked: &str) -> Result<Option<String>, AllocError>
-    ensures { (bytes_eq table.now (codes "numbers") || bytes_eq table.now (codes "patches")) ≡ false → IfOk result (λ came. IsNone came) }
+    ensures { (bytes_eq table.now (codes "numbers") || bytes_eq table.now (codes "patches") || bytes_eq table.now (codes "events")) ≡ false → IfOk result (λ came. IsNone came) }
 {
     match table {
         "numbers" => numbers::came(alloc, asked),
         "patches" => patches::came(alloc, asked),
+        "events" => events::came(alloc, asked),
         _ => Ok(None),
     }
 }

@@ -1,3 +1,4 @@
 pub mod Taking
 pub mod Accepting
 pub mod MemoryForms
+pub mod Linking

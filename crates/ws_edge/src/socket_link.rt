@@ -3,9 +3,10 @@ ghost use Rattle.std.specs.Prelude.{◌≡◌, ◌≤◌, Err, IfOk, None};
 ghost use Rattle.io_edge.specs.Outside.{Rose};
 
 use crate::link::{LinkError, WsIn, WsLink};
+use crate::silence::is_silence;
 use spec_json::text::Text;
 use std::alloc::Global;
-use std::io::{ErrorKind, Read, Write};
+use std::io::{Read, Write};
 use tungstenite::{
     Bytes, CloseCode, CloseFrame, Error, Message, NoMask, Role, Utf8Bytes, WebSocket,
     WebSocketConfig,
@@ -93,9 +94,9 @@ impl<S: Read + Write + Drop> SocketLink<S> {
 }
 
 // Whether the stream waited in vain for as long as it may.
-fn is_silence(error: &Error) -> bool {
+fn is_quiet(error: &Error) -> bool {
     match error {
-        Error::Io(cause) => matches!(cause.kind(), ErrorKind::WouldBlock | ErrorKind::TimedOut),
+        Error::Io(cause) => is_silence(cause),
         _ => false,
     }
 }
@@ -106,7 +107,7 @@ impl<S: Read + Write + Drop> WsLink for SocketLink<S> {
     fn next(&mut self) -> Result<WsIn, LinkError> {
         let message = match self.socket.read() {
             Ok(message) => message,
-            Err(error) if is_silence(&error) => return self.note_silence(),
+            Err(error) if is_quiet(&error) => return self.note_silence(),
             Err(error) => return Err(self.refuse(error)),
         };
         self.silent = 0;

@@ -1,6 +1,7 @@
 //! The server's end of a TCP connection.
 
-use std::io::{self, ErrorKind, Read, Write};
+use std::alloc::Global;
+use std::io::{self, Cursor, ErrorKind, Read, Write};
 use std::net::{OpenStream, Shutdown};
 use std::time::{Clock, Duration};
 
@@ -13,22 +14,29 @@ const WRITE_SLICE_SECONDS: u64 = 1;
 /// How many reads in a row may wait in vain; the next one that does is told that the connection is aborted.
 const SILENT_READS: u32 = 119;
 
-/// A stream that waits for its peer only so long: all its reads together until a deadline, or each read; and each write.
+/// A stream that waits for its peer only so long: all its reads together until a deadline, or each read; and each write. Bytes that were taken of it may be put back.
 #[derive(Drop)]
 pub struct TcpEnd<S, R> {
     stream: S,
     runtime: R,
+    // bytes that were put back
+    back: Cursor<Vec<u8>>,
     // until when all reads together may wait
     deadline: Option<Duration>,
-    // how many reads in a row have waited in vain, where each may wait for itself
-    silent: u32,
+    // how many reads in a row have waited in vain, where each may wait for itself; none where they aren't counted
+    silent: Option<u32>,
     // how long a peer may take nothing of a write
     patience: Duration,
 }
 
 impl<S: Read + OpenStream, R: Clock> TcpEnd<S, R> {
     /// A stream all of whose reads together wait for so long. So does each write. Takes no memory.
-    pub fn until(stream: S, runtime: R, patience: Duration) -> io::Result<TcpEnd<S, R>>
+    pub fn until(
+        alloc: Global,
+        stream: S,
+        runtime: R,
+        patience: Duration,
+    ) -> io::Result<TcpEnd<S, R>>
     where
         S: Drop,
         R: Drop,
@@ -39,10 +47,21 @@ impl<S: Read + OpenStream, R: Clock> TcpEnd<S, R> {
         Ok(TcpEnd {
             stream,
             runtime,
+            back: Cursor::new(Vec::new(alloc)),
             deadline: Some(deadline),
-            silent: 0,
+            silent: Some(0),
             patience,
         })
+    }
+
+    /// Has these bytes read again before any others. Takes no memory.
+    pub fn put_back(&mut self, bytes: Vec<u8>) {
+        self.back = Cursor::new(bytes);
+    }
+
+    /// Has a peer be silent for as long as it likes, where each read waits for itself. Takes no memory.
+    pub fn allow_silence(&mut self) {
+        self.silent = None;
     }
 
     /// Has each read wait for so long from now on, and the connection aborted where 120 in a row wait in vain. Takes no memory.
@@ -74,10 +93,13 @@ impl<S: Read + OpenStream, R: Clock> TcpEnd<S, R> {
         if self.deadline.is_some() || !is_for_later(&error) {
             return error;
         }
-        if self.silent >= SILENT_READS {
-            return io::Error::from(ErrorKind::ConnectionAborted);
+        match self.silent {
+            Some(silent) if silent >= SILENT_READS => {
+                return io::Error::from(ErrorKind::ConnectionAborted);
+            }
+            Some(silent) => self.silent = Some(silent.saturating_add(1)),
+            None => {}
         }
-        self.silent = self.silent.saturating_add(1);
         error
     }
 
@@ -94,6 +116,10 @@ impl<S: Read + OpenStream, R: Clock> TcpEnd<S, R> {
 impl<S: Read + OpenStream, R: Clock> Read for TcpEnd<S, R> {
     // A read that a signal interrupts is made again.
     fn read(&mut self, buf: &mut [u8]) -> io::Result<usize> {
+        let again = self.back.read(buf)?;
+        if again > 0 {
+            return Ok(again);
+        }
         for _ in 0..u64::MAX {
             if let Some(deadline) = self.deadline {
                 self.set_patience(deadline)?;
@@ -102,7 +128,7 @@ impl<S: Read + OpenStream, R: Clock> Read for TcpEnd<S, R> {
                 Err(error) if error.kind() == ErrorKind::Interrupted => {}
                 Err(error) => return Err(self.noted(error)),
                 Ok(count) => {
-                    self.silent = 0;
+                    self.silent = self.silent.and(Some(0));
                     return Ok(count);
                 }
             }

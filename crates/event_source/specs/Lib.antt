@@ -1,0 +1,2 @@
+pub mod StreamQueries
+pub mod EventStreams
