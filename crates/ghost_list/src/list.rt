@@ -29,6 +29,14 @@ impl<A> GhostList<A> {
         GhostList { of: PhantomData }
     }
 
+    /// The list of these items, whichever they are. Takes no memory.
+    pub fn of() -> GhostList<A>
+        ghost all: { List A }
+        ensures { result.items ≡ all }
+    {
+        GhostList { of: PhantomData }
+    }
+
     /// The list with one item more at its end. Takes no memory.
     pub fn and(&self, item: &A) -> GhostList<A>
         ensures { result.items ≡ self.now.items ++ item.now ∷ [] }

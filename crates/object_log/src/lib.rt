@@ -19,4 +19,5 @@ pub use laws::{
 pub use log::ObjectLog;
 pub use page::Page;
 pub use put::Put;
+pub use slots::IdSlot;
 pub use window::{WINDOW, WINDOW_BYTES};

@@ -3,10 +3,10 @@ ghost use Rattle.std.specs.Prelude.{◌≡◌, ◌<◌, ◌≤◌, ◌+◌, ◌+
 ghost use Rattle.std.specs.List.{range_with_len};
 ghost use Rattle.object_log.specs.Pasts.{pasts};
 ghost use Rattle.object_log.specs.Puts.{ids_put, is_known, may_come, latest, ids_with_object, latest_at};
-ghost use Rattle.object_log.specs.Slots.{object_in};
+ghost use Rattle.object_log.specs.Slots.{object_in, rises};
 
 use crate::put::Put;
-use crate::slots::Slots;
+use crate::slots::{IdSlot, Slots};
 use crate::window::{Past, Window};
 use ghost_list::GhostList;
 use std::alloc::{AllocError, Global};
@@ -42,6 +42,31 @@ impl<T: Drop> ObjectLog<T> {
             window: Window::new(alloc),
             first: 0,
             told: GhostList::new(),
+        }
+    }
+
+    /// A log that goes on from a state, which these were all changes up to. They gave so many ids, and left the objects in these slots; nothing is answered from a state
+    /// before it. Takes no memory.
+    pub fn open(
+        alloc: Global,
+        told: GhostList<Put<T>>,
+        state: u64,
+        created: u64,
+        slots: Vec<IdSlot<T>>,
+    ) -> ObjectLog<T>
+        requires state { length told.items ≡ state }
+        requires few { state ≤ 2 ^ 40 }
+        requires numbered { ids_put told.items ≡ range_with_len 1 created }
+        requires rising { rises 0 (suc created) slots.items ≡ true }
+        requires standing { (id : ℕ) → object_in slots.items id ≡ latest told.items id }
+        ensures puts { puts result ≡ told.items }
+        ensures first { first result ≡ state }
+    {
+        ObjectLog {
+            slots: Slots::of(created, slots),
+            window: Window::new(alloc),
+            first: state,
+            told,
         }
     }
 

@@ -11,7 +11,7 @@ const SPARE_SLOTS: usize = 1024;
 
 /// What an id has.
 #[derive(Drop)]
-pub(crate) struct IdSlot<T> {
+pub struct IdSlot<T> {
     /// The id.
     pub id: u64,
     /// Its object, or `None` where it was removed.
@@ -41,6 +41,20 @@ impl<T: Drop> Slots<T> {
             items: Vec::new(alloc),
             created: 0,
             compacted: 0,
+        }
+    }
+
+    /// Slots of ids that were given up to `created`. Takes no memory.
+    pub(crate) fn of(created: u64, items: Vec<IdSlot<T>>) -> Slots<T>
+        requires { rises 0 (suc created) items.items ≡ true }
+        ensures items { result.items.items ≡ items.items }
+        ensures created { result.created ≡ created }
+    {
+        let compacted = items.len();
+        Slots {
+            items,
+            created,
+            compacted,
         }
     }
 
