@@ -29,10 +29,10 @@ impl<A> GhostList<A> {
         GhostList { of: PhantomData }
     }
 
-    /// The list of these items, whichever they are. Takes no memory.
-    pub fn of() -> GhostList<A>
-        ghost all: { List A }
-        ensures { result.items ≡ all }
+    /// The list that something tells, as a proof says. Takes no memory.
+    pub fn of<B>(shown: &B) -> GhostList<A>
+        ghost told: { B → List A }
+        ensures { result.items ≡ told shown.now }
     {
         GhostList { of: PhantomData }
     }

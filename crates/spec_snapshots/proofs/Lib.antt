@@ -1,2 +1,4 @@
 pub mod MadeUp
+pub mod NumberedPast
+pub mod MadeUpHistory
 pub mod Forgotten

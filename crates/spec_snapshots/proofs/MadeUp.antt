@@ -33,13 +33,13 @@ same a b h = grind (arith, nat_tests)
 other : (a b : ℕ) → (b == a) ≡ false → a ≤ b → a < b
 other a b h low = grind (arith, nat_tests)
 
-itself : (a : ℕ) → (a == a) ≡ true
+pub itself : (a : ℕ) → (a == a) ≡ true
 itself a = grind (arith, nat_tests)
 
-abbrev one_if : Bool → ℕ
+abbrev pub one_if : Bool → ℕ
 one_if b = if b then 1 else 0
 
-own_kind : (q : Kind) → is_kind q q ≡ true
+pub own_kind : (q : Kind) → is_kind q q ≡ true
 own_kind Calendar = refl
 own_kind Event = refl
 
@@ -72,7 +72,7 @@ none_below low most (l ∷ ls) id h up =
 -- ---- The changes of one kind.
 
 module _ (kind : Kind) where
-  abbrev step : ℕ → Option Tree → Change
+  abbrev pub step : ℕ → Option Tree → Change
   step id o = record { kind = kind; id = id; object = o }
 
   -- of so many numbers from n on, in order, a put of what is live of each, or of something, which is then removed
@@ -86,7 +86,7 @@ module _ (kind : Kind) where
   named : (id n : ℕ) (o : Option Tree) → names kind id (step n o) ≡ (id == n)
   named id n o = ap (λ b. b && (id == n)) (own_kind kind)
 
-  put_one : (id n : ℕ) (o before : Option Tree) (cs : List Change) → object_from before (step n o ∷ cs) kind id ≡ object_from (if id == n then o else before) cs kind id
+  pub put_one : (id n : ℕ) (o before : Option Tree) (cs : List Change) → object_from before (step n o ∷ cs) kind id ≡ object_from (if id == n then o else before) cs kind id
   put_one id n o before cs = ap (λ b. object_from (if b then o else before) cs kind id) (named id n o)
 
   put_gone : (id n : ℕ) (before : Option Tree) (cs : List Change) → object_from before (step n (Some Null) ∷ step n None ∷ cs) kind id ≡ object_from (if id == n then None else before) cs kind id
@@ -157,16 +157,16 @@ module _ (kind : Kind) where
   last_one : (k : ℕ) → range_with_len 1 (suc k) ≡ range_with_len 1 k ++ suc k ∷ []
   last_one k = one_more 1 k ∙ ap (λ n. range_with_len 1 k ++ n ∷ []) (omega arith)
 
-  put_next : (k : ℕ) → with_id (range_with_len 1 k) (suc k) ≡ range_with_len 1 (suc k)
+  pub put_next : (k : ℕ) → with_id (range_with_len 1 k) (suc k) ≡ range_with_len 1 (suc k)
   put_next k = ap (λ b. if b then range_with_len 1 k else (range_with_len 1 k ++ suc k ∷ [])) (unknown 1 k (suc k) (omega arith)) ∙ sym (last_one k)
 
   there : (k : ℕ) → is_in (range_with_len 1 (suc k)) (suc k) ≡ true
   there k = ap (λ ns. is_in ns (suc k)) (last_one k) ∙ list_any-append (λ n. n == suc k) (range_with_len 1 k) (suc k ∷ []) ∙ rw (itself (suc k), unknown 1 k (suc k) (omega arith)) refl
 
-  put_again : (k : ℕ) → with_id (range_with_len 1 (suc k)) (suc k) ≡ range_with_len 1 (suc k)
+  pub put_again : (k : ℕ) → with_id (range_with_len 1 (suc k)) (suc k) ≡ range_with_len 1 (suc k)
   put_again k = ap (λ b. if b then range_with_len 1 (suc k) else (range_with_len 1 (suc k) ++ suc k ∷ [])) (there k)
 
-  number_one : (ids : List ℕ) (n : ℕ) (o : Option Tree) (cs : List Change) → ids_from ids (step n o ∷ cs) kind ≡ ids_from (with_id ids n) cs kind
+  pub number_one : (ids : List ℕ) (n : ℕ) (o : Option Tree) (cs : List Change) → ids_from ids (step n o ∷ cs) kind ≡ ids_from (with_id ids n) cs kind
   number_one ids n o cs = ap (λ b. ids_from (if b then with_id ids n else ids) cs kind) (own_kind kind)
 
   gone_numbers : (m k : ℕ) (cs : List Change) → ids_from (range_with_len 1 (suc k)) cs kind ≡ range_with_len 1 (suc k + m)
@@ -216,11 +216,11 @@ module _ (kind : Kind) where
 
   -- ---- As many as the state says: the first is made again and again.
 
-  abbrev pads : ℕ → Change → List Change → List Change
+  abbrev pub pads : ℕ → Change → List Change → List Change
   pads zero c cs = cs
   pads (suc n) c cs = c ∷ pads n c cs
 
-  abbrev padded : ℕ → List Change → List Change
+  abbrev pub padded : ℕ → List Change → List Change
   padded n [] = []
   padded n (c ∷ cs) = pads n c (c ∷ cs)
 
@@ -297,7 +297,7 @@ module _ (kind : Kind) where
   -- ---- Changes that leave a floor.
 
   module _ (f : KindFloor) (is : is_floor f ≡ true) where
-    abbrev once : List Change
+    abbrev pub once : List Change
     once = past f.created 1 f.live.items
 
     abbrev pub floor_past : List Change
@@ -338,74 +338,3 @@ module _ (kind : Kind) where
       rising = rising;
       live = λ id. sym (object_padded (f.state - length once) once id ∙ live_past f.created 1 f.created f.live.items id (omega arith) rising);
     }
-
--- ---- Changes of both kinds.
-
-module _ (kind q : Kind) (apart : is_kind kind q ≡ false) where
-  -- those of the other kind say nothing
-  other_objects : (cs : List Change) (id : ℕ) (before : Option Tree) → AreOfKind q cs → object_from before cs kind id ≡ before
-  other_objects [] id before of = refl
-  other_objects (c ∷ cs) id before of = ap (λ b. object_from (if b && (id == c.id) then c.object else before) cs kind id) (ap (is_kind kind) of.0 ∙ apart) ∙ other_objects cs id before of.1
-
-  other_numbers : (cs : List Change) (ids : List ℕ) → AreOfKind q cs → ids_from ids cs kind ≡ ids
-  other_numbers [] ids of = refl
-  other_numbers (c ∷ cs) ids of = ap (λ b. ids_from (if b then with_id ids c.id else ids) cs kind) (ap (is_kind kind) of.0 ∙ apart) ∙ other_numbers cs ids of.1
-
-  none_counted : (cs : List Change) → AreOfKind q cs → count_of_kind cs kind ≡ 0
-  none_counted [] of = refl
-  none_counted (c ∷ cs) of =
-      let here : one_if (is_kind kind c.kind) ≡ 0 = ap one_if (ap (is_kind kind) of.0 ∙ apart) in
-      omega (arith, sum_by-cons (λ (d : Change). one_if (is_kind kind d.kind)) c cs, here, none_counted cs of.1)
-
-  objects_behind : (cs ds : List Change) (id : ℕ) (before : Option Tree) → object_from before (cs ++ ds) kind id ≡ object_from (object_from before cs kind id) ds kind id
-  objects_behind [] ds id before = refl
-  objects_behind (c ∷ cs) ds id before = objects_behind cs ds id (if names kind id c then c.object else before)
-
-  numbers_behind : (cs ds : List Change) (ids : List ℕ) → ids_from ids (cs ++ ds) kind ≡ ids_from (ids_from ids cs kind) ds kind
-  numbers_behind [] ds ids = refl
-  numbers_behind (c ∷ cs) ds ids = numbers_behind cs ds (if is_kind kind c.kind then with_id ids c.id else ids)
-
-  counts_behind : (cs ds : List Change) → count_of_kind (cs ++ ds) kind ≡ count_of_kind cs kind + count_of_kind ds kind
-  counts_behind cs ds = sum_by-append (λ (d : Change). one_if (is_kind kind d.kind)) cs ds
-
-  -- a floor of one kind, with changes of the other behind it, or in front of it
-  pub floor_behind : (f : KindFloor) (cs ds : List Change) → IsFloor cs kind f → AreOfKind q ds → IsFloor (cs ++ ds) kind f
-  floor_behind f cs ds h of = record {
-    state = h.state ∙ omega (arith, counts_behind cs ds, none_counted ds of);
-    numbers = numbers_behind cs ds [] ∙ other_numbers ds (ids_at cs kind) of ∙ h.numbers;
-    rising = h.rising;
-    live = λ id. h.live id ∙ sym (objects_behind cs ds id None ∙ other_objects ds id (live_object cs kind id) of);
-  }
-
-  pub floor_in_front : (f : KindFloor) (cs ds : List Change) → IsFloor ds kind f → AreOfKind q cs → IsFloor (cs ++ ds) kind f
-  floor_in_front f cs ds h of = record {
-    state = h.state ∙ omega (arith, counts_behind cs ds, none_counted cs of);
-    numbers = numbers_behind cs ds [] ∙ ap (λ ids. ids_from ids ds kind) (other_numbers cs [] of) ∙ h.numbers;
-    rising = h.rising;
-    live = λ id. h.live id ∙ sym (objects_behind cs ds id None ∙ ap (λ o. object_from o ds kind id) (other_objects cs id None of));
-  }
-
--- ---- A history that leaves what is kept.
-
--- an entry of nobody in particular
-abbrev of_nobody : Change → Entry
-of_nobody c = record { author = 0; turn = 0; part = 0; moment = pos 0; change = c }
-
-changes_back : (cs : List Change) → changes_of (map of_nobody cs) ≡ cs
-changes_back [] = refl
-changes_back (c ∷ cs) = ap (λ ds. c ∷ ds) (changes_back cs)
-
-module _ (k : KeptHistory) (calendars : is_floor k.calendars ≡ true) (events : is_floor k.events ≡ true) where
-  abbrev both : List Change
-  both = floor_past Calendar k.calendars calendars ++ floor_past Event k.events events
-
-  abbrev pub entries_past : List Entry
-  entries_past = map of_nobody both
-
-  pub calendars_past : IsFloor (changes_of entries_past) Calendar k.calendars
-  calendars_past = subst (λ (cs : List Change). IsFloor cs Calendar k.calendars) (sym (changes_back both))
-      (floor_behind Calendar Event refl k.calendars (floor_past Calendar k.calendars calendars) (floor_past Event k.events events) (past_leaves Calendar k.calendars calendars) (past_of_kind Event k.events events))
-
-  pub events_past : IsFloor (changes_of entries_past) Event k.events
-  events_past = subst (λ (cs : List Change). IsFloor cs Event k.events) (sym (changes_back both))
-      (floor_in_front Event Calendar refl k.events (floor_past Calendar k.calendars calendars) (floor_past Event k.events events) (past_leaves Event k.events events) (past_of_kind Calendar k.calendars calendars))

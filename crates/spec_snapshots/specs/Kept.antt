@@ -8,6 +8,7 @@ use Rattle.spec_history.specs.declared.entry.Kind.{Kind}
 use Rattle.spec_history.specs.declared.entry.Kind.TheVariants.{Calendar, Event}
 use Rattle.spec_json.specs.declared.tree.Tree.{Tree}
 use Rattle.spec_sizes.specs.Sizes.{is_answered_from}
+use Rattle.spec_snapshots.specs.Numbered.{are_numbered}
 use Rattle.spec_snapshots.specs.declared.kept.KeptHistory.{KeptHistory}
 use Rattle.spec_snapshots.specs.declared.kept.KindFloor.{KindFloor}
 use Rattle.spec_snapshots.specs.declared.kept.LiveObject.{LiveObject}
@@ -32,11 +33,12 @@ abbrev pub floor_of : KeptHistory → Kind → KindFloor
 floor_of k Calendar = k.calendars
 floor_of k Event = k.events
 
--- This is kept of the history: what its first entries left of each kind, and all entries behind them. No state up to there is answered from any more (RFC 8620
--- section 5.2), unless there was none.
+-- This is kept of the history: what its first entries left of each kind, and all entries behind them. The first gave the numbers of objects in order. No state up to
+-- there is answered from any more (RFC 8620 section 5.2), unless there was none.
 pub record IsKeptFrom (h : List Entry) (k : KeptHistory) : Type 0 where
   pub past : List Entry
   pub whole : h ≡ past ++ k.behind.items
+  pub numbered : are_numbered [] (changes_of past) ≡ true
   pub floors : (kind : Kind) → IsFloor (changes_of past) kind (floor_of k kind)
   pub forgotten : (kind : Kind) → ((floor_of k kind).state ≡ 0) ⊎ (is_answered_from kind (changes_of h) (floor_of k kind).state ≡ false)
 
