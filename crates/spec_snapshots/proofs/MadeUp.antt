@@ -296,23 +296,26 @@ module _ (kind : Kind) where
 
   -- ---- Changes that leave a floor.
 
+  abbrev pub once : KindFloor → List Change
+  once f = past f.created 1 f.live.items
+
+  abbrev pub floor_past : KindFloor → List Change
+  floor_past f = padded (f.state - length (once f)) (once f)
+
+  pub past_of_kind : (f : KindFloor) → AreOfKind (floor_past f)
+  past_of_kind f = of_kind_padded (f.state - length (once f)) (once f) (of_kind_past f.created 1 f.live.items)
+
   module _ (f : KindFloor) (is : is_floor f ≡ true) where
-    abbrev pub once : List Change
-    once = past f.created 1 f.live.items
-
-    abbrev pub floor_past : List Change
-    floor_past = padded (f.state - length once) once
-
     rising : rise_within 1 f.created f.live.items ≡ true
     rising = (and_parts (rise_within 1 f.created f.live.items) _ is).0
 
     enough : (nat_le (f.created + (f.created - length f.live.items)) f.state ≡ true) × ((not (f.created == 0) || (f.state == 0)) ≡ true)
     enough = and_parts _ _ (and_parts (rise_within 1 f.created f.live.items) _ is).1
 
-    counts : length once ≡ f.created + (f.created - length f.live.items)
+    counts : length (once f) ≡ f.created + (f.created - length f.live.items)
     counts = omega (arith, length_past f.created 1 f.created f.live.items (omega arith) rising, few_live f.created 1 f.created f.live.items (omega arith) rising)
 
-    no_state : length once ≡ 0 → f.state ≡ 0
+    no_state : length (once f) ≡ 0 → f.state ≡ 0
     no_state none = by_tests (f.created == 0) (f.state == 0) refl refl enough.1
       where
         none_made : f.created ≡ 0
@@ -323,18 +326,15 @@ module _ (kind : Kind) where
         by_tests true false e g h = absurd (false≢true h)
         by_tests false false e g h = absurd (false≢true (sym e ∙ ap (λ n. n == 0) none_made))
 
-    past_length : length floor_past ≡ f.state
+    past_length : length (floor_past f) ≡ f.state
     past_length =
-        length_padded (f.state - length once) once (λ none. omega (arith, no_state none))
+        length_padded (f.state - length (once f)) (once f) (λ none. omega (arith, no_state none))
         ∙ omega (arith, counts, leb-true (f.created + (f.created - length f.live.items)) f.state enough.0)
 
-    pub past_of_kind : AreOfKind floor_past
-    past_of_kind = of_kind_padded (f.state - length once) once (of_kind_past f.created 1 f.live.items)
-
-    pub past_leaves : IsFloor floor_past kind f
+    pub past_leaves : IsFloor (floor_past f) kind f
     past_leaves = record {
-      state = sym (all_counted floor_past past_of_kind ∙ past_length);
-      numbers = numbers_padded (f.state - length once) once ∙ numbers_past f.created 0 f.live.items ∙ ap (range_with_len 1) (omega arith);
+      state = sym (all_counted (floor_past f) (past_of_kind f) ∙ past_length);
+      numbers = numbers_padded (f.state - length (once f)) (once f) ∙ numbers_past f.created 0 f.live.items ∙ ap (range_with_len 1) (omega arith);
       rising = rising;
-      live = λ id. sym (object_padded (f.state - length once) once id ∙ live_past f.created 1 f.created f.live.items id (omega arith) rising);
+      live = λ id. sym (object_padded (f.state - length (once f)) (once f) id ∙ live_past f.created 1 f.created f.live.items id (omega arith) rising);
     }

@@ -9,7 +9,7 @@ use Rattle.spec_history.specs.declared.entry.Kind.TheVariants.{Calendar, Event}
 use Rattle.spec_json.specs.declared.tree.Tree.{Tree}
 use Rattle.spec_snapshots.proofs.MadeUp.{AreOfKind, floor_past, one_if, past_leaves, past_of_kind}
 use Rattle.spec_snapshots.proofs.NumberedPast.{At, floor_numbered, join_numbered}
-use Rattle.spec_snapshots.specs.Kept.{IsFloor, is_floor}
+use Rattle.spec_snapshots.specs.Kept.{IsFloor, floor_of, is_floor}
 use Rattle.spec_snapshots.specs.Numbered.{are_numbered}
 use Rattle.spec_snapshots.specs.declared.kept.KeptHistory.{KeptHistory}
 use Rattle.spec_snapshots.specs.declared.kept.KindFloor.{KindFloor}
@@ -70,22 +70,21 @@ changes_back : (cs : List Change) → changes_of (map of_nobody cs) ≡ cs
 changes_back [] = refl
 changes_back (c ∷ cs) = ap (λ ds. c ∷ ds) (changes_back cs)
 
+-- the changes of each kind, one kind behind the other
+abbrev pub both_past : KeptHistory → List Change
+both_past k = floor_past Calendar k.calendars ++ floor_past Event k.events
+
+abbrev pub entries_past : KeptHistory → List Entry
+entries_past k = map of_nobody (both_past k)
+
+pub past_numbered : (k : KeptHistory) → are_numbered [] (changes_of (entries_past k)) ≡ true
+past_numbered k = ap (are_numbered []) (changes_back (both_past k)) ∙ join_numbered [] (floor_past Calendar k.calendars) (floor_past Event k.events)
+    (floor_numbered Calendar k.calendars [] refl)
+    (floor_numbered Event k.events (floor_past Calendar k.calendars) (other_numbers Event Calendar refl (floor_past Calendar k.calendars) [] (past_of_kind Calendar k.calendars)))
+
 module _ (k : KeptHistory) (calendars : is_floor k.calendars ≡ true) (events : is_floor k.events ≡ true) where
-  abbrev both : List Change
-  both = floor_past Calendar k.calendars calendars ++ floor_past Event k.events events
-
-  abbrev pub entries_past : List Entry
-  entries_past = map of_nobody both
-
-  pub calendars_past : IsFloor (changes_of entries_past) Calendar k.calendars
-  calendars_past = subst (λ (cs : List Change). IsFloor cs Calendar k.calendars) (sym (changes_back both))
-      (floor_behind Calendar Event refl k.calendars (floor_past Calendar k.calendars calendars) (floor_past Event k.events events) (past_leaves Calendar k.calendars calendars) (past_of_kind Event k.events events))
-
-  pub events_past : IsFloor (changes_of entries_past) Event k.events
-  events_past = subst (λ (cs : List Change). IsFloor cs Event k.events) (sym (changes_back both))
-      (floor_in_front Event Calendar refl k.events (floor_past Calendar k.calendars calendars) (floor_past Event k.events events) (past_leaves Event k.events events) (past_of_kind Calendar k.calendars calendars))
-
-  pub past_numbered : are_numbered [] (changes_of entries_past) ≡ true
-  past_numbered = ap (are_numbered []) (changes_back both) ∙ join_numbered [] (floor_past Calendar k.calendars calendars) (floor_past Event k.events events)
-      (floor_numbered Calendar k.calendars calendars [] refl)
-      (floor_numbered Event k.events events (floor_past Calendar k.calendars calendars) (other_numbers Event Calendar refl (floor_past Calendar k.calendars calendars) [] (past_of_kind Calendar k.calendars calendars)))
+  pub floors_left : (kind : Kind) → IsFloor (changes_of (entries_past k)) kind (floor_of k kind)
+  floors_left Calendar = subst (λ (cs : List Change). IsFloor cs Calendar k.calendars) (sym (changes_back (both_past k)))
+      (floor_behind Calendar Event refl k.calendars (floor_past Calendar k.calendars) (floor_past Event k.events) (past_leaves Calendar k.calendars calendars) (past_of_kind Event k.events))
+  floors_left Event = subst (λ (cs : List Change). IsFloor cs Event k.events) (sym (changes_back (both_past k)))
+      (floor_in_front Event Calendar refl k.events (floor_past Calendar k.calendars) (floor_past Event k.events) (past_leaves Event k.events events) (past_of_kind Calendar k.calendars))

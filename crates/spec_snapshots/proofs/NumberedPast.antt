@@ -119,5 +119,5 @@ module _ (kind : Kind) where
       by_cases true = numbered_pads n l.object (past kind m 2 ls) cs (λ ds at' live. numbered_past m 1 ls ds at') (next_numbered cs 0 (Some l.object) at) (at_put cs 0 (Some l.object) at)
       by_cases false = numbered_pads n Null (step kind 1 None ∷ past kind m 2 (l ∷ ls)) cs (λ ds at' live. numbered_gone 0 (past kind m 2 (l ∷ ls)) ds at' live (λ bs at''. numbered_past m 1 (l ∷ ls) bs at'')) (next_numbered cs 0 (Some Null) at) (at_put cs 0 (Some Null) at)
 
-  pub floor_numbered : (f : KindFloor) (is : is_floor f ≡ true) (cs : List Change) → At cs 0 → are_numbered cs (floor_past kind f is) ≡ true
-  floor_numbered f is cs at = numbered_padded (f.state - length (once kind f is)) f.created f.live.items cs at
+  pub floor_numbered : (f : KindFloor) (cs : List Change) → At cs 0 → are_numbered cs (floor_past kind f) ≡ true
+  floor_numbered f cs at = numbered_padded (f.state - length (once kind f)) f.created f.live.items cs at
