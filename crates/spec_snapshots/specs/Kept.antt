@@ -1,13 +1,14 @@
 -- What is kept of a history in place of all its entries.
-use Rattle.std.specs.Prelude.{◌≡◌, ◌⊎◌, ℕ, ◌+◌, ◌-◌, suc, List, [], ◌∷◌, ◌++◌, ◌==◌, ◌&&◌, ◌||◌, not, Bool, true, false, Option, Some, None, if◌then◌else◌, length, nat_le}
+use Rattle.std.specs.Prelude.{◌≡◌, ◌⊎◌, ℕ, ◌+◌, ◌-◌, suc, List, [], ◌∷◌, ◌++◌, ◌==◌, ◌&&◌, ◌||◌, not, Bool, true, false, Option, Some, None, if◌then◌else◌, length, nat_le, nat_lt}
 use Rattle.std.specs.List.{range_with_len}
 use Rattle.spec_history.specs.History.{changes_of, count_of_kind, ids_at, live_object}
+use Rattle.spec_history.specs.Pages.{window}
 use Rattle.spec_history.specs.declared.entry.Change.{Change}
 use Rattle.spec_history.specs.declared.entry.Entry.{Entry}
 use Rattle.spec_history.specs.declared.entry.Kind.{Kind}
 use Rattle.spec_history.specs.declared.entry.Kind.TheVariants.{Calendar, Event}
 use Rattle.spec_json.specs.declared.tree.Tree.{Tree}
-use Rattle.spec_sizes.specs.Sizes.{is_answered_from}
+use Rattle.spec_sizes.specs.Sizes.{is_answered_from, of_kind, size_of, window_bytes}
 use Rattle.spec_snapshots.specs.Numbered.{are_numbered}
 use Rattle.spec_snapshots.specs.declared.kept.KeptHistory.{KeptHistory}
 use Rattle.spec_snapshots.specs.declared.kept.KindFloor.{KindFloor}
@@ -45,3 +46,12 @@ pub record IsKeptFrom (h : List Entry) (k : KeptHistory) : Type 0 where
 -- Some changes leave this of a kind: each number up to `created` was put once at least, and what is gone of them was removed.
 abbrev pub is_floor : KindFloor → Bool
 is_floor f = rise_within 1 f.created f.live.items && (nat_le (f.created + (f.created - length f.live.items)) f.state && (not (f.created == 0) || (f.state == 0)))
+
+-- more changes of a kind lie behind its floor than are told from, or more bytes, unless there was nothing up to it
+abbrev pub is_old : Kind → KeptHistory → Bool
+is_old kind k = ((floor_of k kind).state == 0)
+    || (nat_lt window (count_of_kind (changes_of k.behind.items) kind) || nat_lt window_bytes (size_of (of_kind kind (changes_of k.behind.items))))
+
+-- this may be kept of some history
+abbrev pub may_be_kept : KeptHistory → Bool
+may_be_kept k = (is_floor k.calendars && is_floor k.events) && (is_old Calendar k && is_old Event k)

@@ -4,4 +4,4 @@
 pub mod kept;
 mod laws;
 
-pub use laws::{floors_are_left_by_changes, old_floors_are_forgotten};
+pub use laws::some_history_is_kept_so;
