@@ -3,9 +3,10 @@ ghost use Rattle.std.specs.Prelude.{◌≡◌, ◌≢◌, ◌≤◌, Err, IfErr,
 ghost use Rattle.io_edge.specs.Outside.{Rose};
 ghost use Rattle.journal_keeper.specs.EntryText.{IsNoEntryText};
 ghost use Rattle.journal_keeper.specs.Journals.{FailsToKeep, HasDamage, KeeperShown, Keeps, Lists};
+ghost use Rattle.spec_snapshots.specs.Kept.{IsKeptFrom};
 
 use crate::kept_text::KeptText;
-use spec_history::entry::Entry;
+use crate::loaded::Loaded;
 use std::alloc::{AllocError, AllocFailed};
 
 /// Why texts weren't kept.
@@ -28,7 +29,7 @@ impl From<AllocError> for KeepError {
     }
 }
 
-/// Why the list of an account wasn't loaded.
+/// Why the history of an account wasn't loaded.
 #[derive(Drop)]
 pub enum JournalError {
     /// The keeper failed.
@@ -84,10 +85,13 @@ pub trait Keeper: Drop + 'static {
         ensures faults { (shown self.old).faults ≤ (shown self.new).faults }
         ensures damages { (shown self.new).damages ≡ (shown self.old).damages };
 
-    /// The entries of the account of this id, in the order in which they were kept. Takes memory for them, and for one text at a time.
-    fn load(&mut self, account: &str) -> Result<Vec<Entry>, JournalError>
+    /// What it has of the history of the account of this id: what the first entries left, and all entries behind them, in the order in which they were kept.
+    ///
+    /// Takes memory for that, and for one text at a time.
+    fn load(&mut self, account: &str) -> Result<Loaded, JournalError>
         ensures same { (shown self.new).told ≡ (shown self.old).told }
-        ensures list { IfOk result (λ list. Lists (shown self.old).told account.now list.items) }
+        ensures list { IfOk result (λ loaded. Lists (shown self.old).told account.now loaded.told.items) }
+        ensures kept { IfOk result (λ loaded. IsKeptFrom loaded.told.items loaded.kept) }
         ensures first { IfErr result (λ e. (place : _) (text : _) → e ≡ JournalError.Damaged place text → HasDamage (shown self.old).told account.now place text.items) }
         ensures damaged { IfErr result (λ e. (place : _) (text : _) → e ≡ JournalError.Damaged place text → IsNoEntryText text.items) }
         ensures counted { IfErr result (λ e. (place : _) (text : _) → e ≡ JournalError.Damaged place text → Rose (shown self.old).damages (shown self.new).damages) }

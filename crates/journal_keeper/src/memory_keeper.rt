@@ -6,6 +6,7 @@ ghost use Rattle.journal_keeper.specs.Journals.{AreEntriesOf, IsFirstDamaged, se
 
 use crate::keeper::{JournalError, KeepError, Keeper};
 use crate::kept_text::KeptText;
+use crate::loaded::{Loaded, whole_history};
 use crate::texts::take_text;
 use io_edge::failing_calls::FailingCalls;
 use spec_history::entry::Entry;
@@ -61,7 +62,7 @@ impl Keeper for MemKeeper {
         Ok(())
     }
 
-    fn load(&mut self, account: &str) -> Result<Vec<Entry>, JournalError> {
+    fn load(&mut self, account: &str) -> Result<Loaded, JournalError> {
         if self.failing.next_fails() {
             self.faults = self.faults.saturating_add(1);
             return Err(JournalError::Failed);
@@ -71,7 +72,8 @@ impl Keeper for MemKeeper {
                 self.damages = self.damages.saturating_add(1);
                 Err(JournalError::Damaged { place, text })
             }
-            other => other,
+            Err(error) => Err(error),
+            Ok(entries) => Ok(whole_history(self.alloc, entries)),
         }
     }
 }

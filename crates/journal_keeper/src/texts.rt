@@ -5,7 +5,7 @@ ghost use Rattle.journal_keeper.specs.Journals.{AreEntriesOf, AreKeepable, label
 ghost use Rattle.spec_history.specs.declared.entry.Entry.{Entry as AnyEntry};
 
 use crate::keeper::JournalError;
-use crate::kept_text::KeptText;
+use crate::kept_text::{KeptText, Mark};
 use crate::read::{TextError, read_entry};
 use crate::write::entry_text;
 use spec_history::entry::Entry;
@@ -24,7 +24,8 @@ pub fn entry_texts(
 {
     let mut texts = Vec::with_capacity(alloc, entries.len())?;
     for entry in entries {
-        texts.push(KeptText::new(account.copy()?, entry_text(alloc, entry)?))?;
+        let text = entry_text(alloc, entry)?;
+        texts.push(KeptText::new(account.copy()?, Mark::of(&entry.change), text))?;
     }
     Ok(texts)
 }
