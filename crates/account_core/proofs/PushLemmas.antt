@@ -2,8 +2,8 @@
 use Rattle.std.proofs.Common.{◌≡◌, ◌+◌, ◌==◌, ◌&&◌, ◌||◌, ℕ, List, [], ◌∷◌, ◌++◌, Bool, true, false, None, append-nil, append_assoc, drop, get_or, is_some, length, map, add-one, add-zero, refl, sym, ap, ◌∙◌}
 use Rattle.std.proofs.lemmas.Bool.{and_parts}
 use Rattle.std.proofs.lemmas.List.{drop_at, drop-drop, drop-map, get_or-drop}
-use Rattle.account_core.specs.Ledger.{are_numbered}
-use Rattle.account_store.specs.Store.{is_numbered}
+use Rattle.spec_snapshots.specs.Numbered.{are_numbered}
+use Rattle.spec_snapshots.specs.Numbered.{is_numbered}
 use Rattle.cal_model.specs.Sound.{first_unsound, has_number, is_sound, unsound_place}
 use Rattle.object_outcomes.proofs.SoundLemmas.{some_place}
 use Rattle.spec_history.specs.History.{live_object, next_number}

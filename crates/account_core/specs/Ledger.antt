@@ -1,8 +1,8 @@
 -- What a ledger shows.
-use Rattle.std.specs.Prelude.{List, [], ◌∷◌, ◌++◌, ◌&&◌, Bool, true}
+use Rattle.std.specs.Prelude.{List, ◌++◌}
 use Rattle.std.specs.Arc.{arc_value}
 use Rattle.account_core.specs.declared.ledger.Ledger.{Ledger}
-use Rattle.account_store.specs.Store.{entries, is_numbered}
+use Rattle.account_store.specs.Store.{entries}
 use Rattle.spec_history.specs.Base.{Base}
 use Rattle.spec_history.specs.History.{changes_of}
 use Rattle.spec_history.specs.declared.entry.Change.{Change}
@@ -26,8 +26,3 @@ staged l = l.staged.items
 -- the changes of the history and then those that a call makes
 abbrev pub changes : Ledger → List Change
 changes l = history l ++ staged l
-
--- each of these changes creates the next object of its kind, or is of one that is there, behind those before it
-abbrev pub are_numbered : List Change → List Change → Bool
-are_numbered before [] = true
-are_numbered before (c ∷ cs) = is_numbered before c && are_numbered (before ++ c ∷ []) cs

@@ -1,6 +1,6 @@
 //! Staged changes that become entries.
 ghost use Rattle.std.specs.Prelude.{◌≡◌, ◌<◌, ◌≤◌, ◌+◌, ◌^◌, ◌++◌, List, drop, get_or, length, map, true};
-ghost use Rattle.account_core.specs.Ledger.{are_numbered};
+ghost use Rattle.spec_snapshots.specs.Numbered.{are_numbered};
 ghost use Rattle.account_core.specs.declared.reading.Reading.{Reading as AnyReading};
 ghost use Rattle.account_store.specs.Store.{entries, event_puts, spare};
 ghost use Rattle.cal_model.specs.Answer.{entries_from};

@@ -40,11 +40,14 @@ module _ {T : Type 0} (read : T → Tree) (kind : Kind) where
   has_object None = refl
   has_object (Some x) = refl
 
-  -- a change that may come next in the history may in the log
-  pub next_told : (ps : List (Put T)) (p : Put T) (cs : List Change) → Follows read ps kind cs → ((p.id == next_number cs kind) || is_some (live_object cs kind p.id)) ≡ true → may_come ps p ≡ true
-  next_told ps p cs follows next =
+  -- a change may come next in the log where it may in the history
+  pub may_come_told : (ps : List (Put T)) (p : Put T) (cs : List Change) → Follows read ps kind cs → may_come ps p ≡ ((p.id == next_number cs kind) || is_some (live_object cs kind p.id))
+  may_come_told ps p cs follows =
       ap (λ l. (p.id == suc (length l)) || is_some (latest ps p.id)) (shows_ids read ps kind cs follows)
-      ∙ ap (λ b. (p.id == next_number cs kind) || b) (sym (has_object (latest ps p.id)) ∙ ap is_some (shows_object read ps kind cs follows p.id)) ∙ next
+      ∙ ap (λ b. (p.id == next_number cs kind) || b) (sym (has_object (latest ps p.id)) ∙ ap is_some (shows_object read ps kind cs follows p.id))
+
+  pub next_told : (ps : List (Put T)) (p : Put T) (cs : List Change) → Follows read ps kind cs → ((p.id == next_number cs kind) || is_some (live_object cs kind p.id)) ≡ true → may_come ps p ≡ true
+  next_told ps p cs follows next = may_come_told ps p cs follows ∙ next
 
   pub live_shown : (ps : List (Put T)) (cs : List Change) → Follows read ps kind cs → filter (λ id. is_some (latest ps id)) (ids_put ps) ≡ filter (λ id. is_some (live_object cs kind id)) (ids_at cs kind)
   live_shown ps cs follows =
@@ -53,7 +56,7 @@ module _ {T : Type 0} (read : T → Tree) (kind : Kind) where
 
 module _ {T : Type 0} where
   -- a state that isn't answered from any more never is again
-  stays_unknown : (ps : List (Put T)) (p : Put T) (k : ℕ) → k ≤ length ps → is_known ps k ≡ false → is_known (ps ++ p ∷ []) k ≡ false
+  pub stays_unknown : (ps : List (Put T)) (p : Put T) (k : ℕ) → k ≤ length ps → is_known ps k ≡ false → is_known (ps ++ p ∷ []) k ≡ false
   stays_unknown ps p k reached unknown =
       let n = length ps in
       ⊎_elim

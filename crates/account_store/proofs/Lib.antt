@@ -1,4 +1,5 @@
 pub mod FollowLemmas
+pub mod OpeningLemmas
 pub mod ShownLemmas
 pub mod LiveLemmas
 pub mod EarlierLemmas

@@ -2,7 +2,9 @@
 #![tactic(auto)]
 
 mod kept;
+mod opening;
 mod store;
 
 pub use kept::KeptEvent;
+pub use opening::OpeningStore;
 pub use store::Store;

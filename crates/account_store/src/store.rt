@@ -5,6 +5,7 @@ ghost use Rattle.spec_json.specs.DataCode.{data_code};
 ghost use Rattle.spec_history.specs.History.{changes_of, ids_at, live_at, live_object, count_of_kind};
 ghost use Rattle.spec_history.specs.Pages.{mentions};
 ghost use Rattle.spec_sizes.specs.Sizes.{is_answered_from, size_of_object};
+ghost use Rattle.spec_snapshots.specs.Numbered.{is_numbered};
 ghost use Rattle.spec_history.specs.declared.entry.Kind.TheVariants.{Calendar, Event};
 ghost use Rattle.object_log.specs.Histories.{Follows};
 ghost use Rattle.object_log.specs.IsPage.{IsPage};
@@ -41,7 +42,7 @@ pub struct Store {
 }
 
 impl Store {
-    ghost use Rattle.account_store.specs.Store.{entries, event_puts, is_numbered, spare};
+    ghost use Rattle.account_store.specs.Store.{entries, event_puts, spare};
 
     /// A store without entries. Takes no memory.
     pub fn new(alloc: Global) -> Store
@@ -53,6 +54,29 @@ impl Store {
             events: ObjectLog::new(alloc),
             count: 0,
             told: GhostList::new(),
+        }
+    }
+
+    // A store of these entries, whose logs have all their changes, and answer from just the states that are answered from.
+    pub(crate) fn of(
+        calendars: ObjectLog<Tree>,
+        events: ObjectLog<KeptEvent>,
+        count: u64,
+        told: GhostList<Entry>,
+    ) -> Store
+        requires calendars { Follows (λ t. t) (puts calendars) Calendar (changes_of told.items) }
+        requires events { Follows (λ e. e.object) (puts events) Event (changes_of told.items) }
+        requires calendars_known { (k : ℕ) → (nat_le (first calendars) k && nat_le k (length (puts calendars))) ≡ is_known (puts calendars) k }
+        requires events_known { (k : ℕ) → (nat_le (first events) k && nat_le k (length (puts events))) ≡ is_known (puts events) k }
+        requires counted { count ≡ length told.items }
+        ensures entries { entries result ≡ told.items }
+        ensures events { event_puts result ≡ puts events }
+    {
+        Store {
+            calendars,
+            events,
+            count,
+            told,
         }
     }
 

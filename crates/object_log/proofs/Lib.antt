@@ -1,5 +1,6 @@
 pub mod SlotLemmas
 pub mod WindowLemmas
+pub mod KnownLemmas
 pub mod PutLemmas
 pub mod MentionLemmas
 pub mod IdLemmas

@@ -4,6 +4,7 @@ ghost use Rattle.std.specs.List.{range_with_len};
 ghost use Rattle.object_log.specs.Pasts.{pasts};
 ghost use Rattle.object_log.specs.Puts.{ids_put, is_known, may_come, latest, ids_with_object, latest_at};
 ghost use Rattle.object_log.specs.Slots.{object_in, rises};
+ghost use Rattle.object_log.specs.declared.put.Put.{Put as AnyPut};
 
 use crate::put::Put;
 use crate::slots::{IdSlot, Slots};
@@ -108,6 +109,13 @@ impl<T: Drop> ObjectLog<T> {
         ensures { option_copied result ≡ latest (puts self.now) id }
     {
         self.slots.get(id)
+    }
+
+    /// Whether a change of an id may come next: it is the next one, or has an object. Takes no memory.
+    pub fn may_come(&self, id: u64) -> bool
+        ensures { (p : AnyPut T) → p.id ≡ id → result ≡ may_come (puts self.now) p }
+    {
+        id.checked_sub(1) == Some(self.slots.created) || self.get(id).is_some()
     }
 
     /// The object that an id had at state `k`, where it had one. Takes no memory.

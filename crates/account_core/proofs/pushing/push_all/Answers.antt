@@ -6,7 +6,7 @@ use Rattle.account_core.proofs.Committing.{entries_more}
 use Rattle.account_core.proofs.Opened.{behind}
 use Rattle.account_core.proofs.PushLemmas.{left_behind, next_left, numbered_parts, read_next, same_behind}
 use Rattle.account_core.proofs.SeriesRead.{more_read}
-use Rattle.account_core.specs.Ledger.{are_numbered}
+use Rattle.spec_snapshots.specs.Numbered.{are_numbered}
 use Rattle.account_core.specs.declared.reading.Reading.{Reading}
 use Rattle.account_store.specs.Store.{entries, event_puts}
 use Rattle.cal_model.specs.Answer.{entry_of}

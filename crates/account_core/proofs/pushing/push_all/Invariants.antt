@@ -1,5 +1,5 @@
 use Rattle.std.proofs.Common.{◌≡◌, ◌≤◌, ◌+◌, ◌++◌, List, drop, length, map, true}
-use Rattle.account_core.specs.Ledger.{are_numbered}
+use Rattle.spec_snapshots.specs.Numbered.{are_numbered}
 use Rattle.account_store.specs.Store.{entries, event_puts, spare}
 use Rattle.cal_model.specs.Answer.{entries_from}
 use Rattle.event_store.specs.ReadSeries.{AreRead}

@@ -8,7 +8,7 @@ use Rattle.account_core.proofs.Rooms.{none_staged, rooms_committed}
 use Rattle.account_core.proofs.PushLemmas.{numbered_by_sound}
 use Rattle.account_core.proofs.SeriesRead.{none_read}
 use Rattle.account_core.specs.declared.reading.Reading.{Reading}
-use Rattle.account_core.specs.Ledger.{are_numbered}
+use Rattle.spec_snapshots.specs.Numbered.{are_numbered}
 use Rattle.account_core.specs.Tally.{Tallies}
 use Rattle.account_core.specs.Uses.{has_staged_event}
 use Rattle.account_rooms.specs.Rooms.{AreRooms}
