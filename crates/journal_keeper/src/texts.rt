@@ -40,14 +40,26 @@ pub fn take_text(alloc: Global, entries: &mut Vec<Entry>, text: &[u8]) -> Result
     ensures damaged { IfErr result (λ e. (place : _) (bad : _) → e ≡ JournalError.Damaged place bad → IsNoEntryText text.now) }
     ensures other { IfErr result (λ e. e ≢ JournalError.Failed) }
 {
+    let entry = entry_at(alloc, entries.len() as u64, text)?;
+    entries.push(entry)?;
+    Ok(())
+}
+
+/// Reads the text of an account at a place. Takes memory for the entry, and until it returns for a copy.
+///
+/// A text that is no entry's is `Damaged`, and `Failed` never comes.
+pub fn entry_at(alloc: Global, place: u64, text: &[u8]) -> Result<Entry, JournalError>
+    ensures entry { IfOk result (λ e. IsEntryText e text.now) }
+    ensures place { IfErr result (λ e. (at : _) (bad : _) → e ≡ JournalError.Damaged at bad → at ≡ place) }
+    ensures text { IfErr result (λ e. (at : _) (bad : _) → e ≡ JournalError.Damaged at bad → bad.items ≡ text.now) }
+    ensures damaged { IfErr result (λ e. (at : _) (bad : _) → e ≡ JournalError.Damaged at bad → IsNoEntryText text.now) }
+    ensures other { IfErr result (λ e. e ≢ JournalError.Failed) }
+{
     match read_entry(alloc, text) {
-        Ok(entry) => {
-            entries.push(entry)?;
-            Ok(())
-        }
+        Ok(entry) => Ok(entry),
         Err(TextError::NoMemory) => Err(JournalError::NoMemory),
         Err(TextError::BadText) => Err(JournalError::Damaged {
-            place: entries.len() as u64,
+            place,
             text: text.to_vec(alloc)?,
         }),
     }

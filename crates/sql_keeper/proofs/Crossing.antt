@@ -4,7 +4,7 @@ use denote.Param.Send.{IsSend, sendable}
 use Rattle.std.proofs.Crossing.{crosses, frees, send}
 use Rattle.spec_json.proofs.Crossing.{text_sent}
 use Rattle.sql_keeper.specs.contracts.file_keeper.FileKeeper as file_keeper
-use Rattle.sql_keeper.specs.contracts.next_place.NextPlace as next_place
+use Rattle.sql_keeper.specs.contracts.rows.AccountRows as account_rows
 use Rattle.sql_keeper.specs.contracts.sql_keeper.SqlKeeper as sql_keeper
 use Rattle.sqlite.below.sqlite_disk.specs.declared.Disk
 use Rattle.sqlite.below.sqlite_disk.specs.contracts.modelled.Modelled
@@ -47,11 +47,11 @@ connection_sent = connection_crosses.the_send store_row (stored.ghosts file_row 
 statement_sent : IsSend Statement.the_row
 statement_sent = search (crosses, sendable) depth 60 fits 20000
 
-place_sent : IsSend next_place.the_row
-place_sent = search (text_sent, crosses, sendable) depth 60 fits 20000
+rows_sent : IsSend account_rows.the_row
+rows_sent = search (text_sent, crosses, sendable) depth 60 fits 20000
 
 sql_keeper_sent : IsSend sql_keeper_row
-sql_keeper_sent = search (connection_sent, statement_sent, place_sent, crosses, frees, send, sendable) depth 60 fits 20000
+sql_keeper_sent = search (connection_sent, statement_sent, rows_sent, crosses, frees, send, sendable) depth 60 fits 20000
 
 pub file_keeper_sent : IsSend file_keeper.the_row
 file_keeper_sent = search (sql_keeper_sent, crosses, sendable) depth 60 fits 20000

@@ -4,7 +4,7 @@ ghost use Rattle.std.specs.Prelude.{◌≡◌, None};
 use crate::sql_keeper::SqlKeeper;
 use journal_keeper::keeper::{JournalError, KeepError, Keeper};
 use journal_keeper::kept_text::KeptText;
-use spec_history::entry::Entry;
+use journal_keeper::loaded::Loaded;
 use sqlite::{File, FileStore};
 
 /// A keeper over a file. It stands in a box, since what holds one by value is proved with all its parts.
@@ -20,7 +20,7 @@ impl Keeper for FileKeeper {
         self.keeper.keep(texts)
     }
 
-    fn load(&mut self, account: &str) -> Result<Vec<Entry>, JournalError> {
+    fn load(&mut self, account: &str) -> Result<Loaded, JournalError> {
         self.keeper.load(account)
     }
 }

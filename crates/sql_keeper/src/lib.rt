@@ -2,11 +2,13 @@
 #![tactic(auto)]
 
 pub mod file_keeper;
+mod floors;
 mod insert;
-mod next_place;
 pub mod open;
 mod owner;
 mod read_back;
+mod reading;
+mod rows;
 pub mod sql_keeper;
 mod tables;
 #[cfg(test)]

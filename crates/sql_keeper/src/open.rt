@@ -1,9 +1,10 @@
 //! How a keeper is opened.
 
 use crate::file_keeper::FileKeeper;
-use crate::insert::insertion;
+use crate::floors::removal;
+use crate::insert::{Writing, insertion};
 use crate::owner::claim;
-use crate::read_back::reading;
+use crate::read_back::selection;
 use crate::sql_keeper::SqlKeeper;
 use crate::tables::{Found, VERSION, prepare};
 use sqlite::{Alter, Connection, Error, ErrorCode, File, FileStore, Options, Unknown};
@@ -29,7 +30,7 @@ pub enum OpenError {
     OtherProgram,
     /// The file is another account's than it is opened for.
     OtherAccount,
-    /// The file has tables of this version, which this program doesn't know.
+    /// The file has tables of this version, which a later program made.
     OtherVersion(i64),
     /// The database failed.
     Failed(Error),
@@ -60,14 +61,17 @@ pub fn open_keeper<S: Alter + Drop>(
         Found::Journal(version) => return Err(OpenError::OtherVersion(version)),
         Found::Other => return Err(OpenError::OtherProgram),
     }
-    let insertion = insertion(&mut conn)?;
-    let reading = reading(&mut conn)?;
+    let writing = Writing {
+        insertion: insertion(&mut conn)?,
+        removal: removal(&mut conn)?,
+    };
+    let selection = selection(&mut conn)?;
     Ok(SqlKeeper {
         alloc,
         conn,
-        insertion,
-        reading,
-        places: Vec::new(alloc),
+        writing,
+        selection,
+        accounts: Vec::new(alloc),
         is_closed: false,
         faults: 0,
         damages: 0,

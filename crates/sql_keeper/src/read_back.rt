@@ -1,14 +1,19 @@
 //! Entries from the database.
-ghost use Rattle.std.specs.Prelude.{◌≡◌, IfErr};
+ghost use Rattle.std.specs.Prelude.{◌≡◌, IfErr, IfOk};
 ghost use Rattle.journal_keeper.specs.EntryText.{IsNoEntryText};
 ghost use Rattle.journal_keeper.specs.declared.keeper.JournalError.{JournalError as AnyJournalError};
+ghost use Rattle.spec_snapshots.specs.Kept.{IsKeptFrom};
 
+use crate::floors::{floor_of, whole};
+use crate::reading::{Reading, TextRow};
+use crate::rows::AccountRows;
 use journal_keeper::keeper::JournalError;
-use journal_keeper::texts::{missing_text, take_text};
-use spec_history::entry::Entry;
+use journal_keeper::loaded::Loaded;
+use journal_keeper::texts::missing_text;
+use spec_history::entry::Kind;
 use sqlite::types::ValueRef;
 use sqlite::{Alter, Connection, Error, Row, Rows, Statement, params};
-use std::alloc::Global;
+use std::alloc::{AllocError, Global};
 
 /// Why entries weren't read.
 #[derive(Drop)]
@@ -41,59 +46,76 @@ impl From<JournalError> for Trouble {
     }
 }
 
-pub(crate) fn reading<S: Alter>(conn: &mut Connection<S>) -> Result<Statement, Error> {
-    conn.prepare("SELECT place, text FROM entry WHERE account = ?1 ORDER BY rowid")
+impl From<AllocError> for Trouble {
+    ghost use Rattle.std.specs.Prelude.{◌≡◌};
+    ghost use Rattle.journal_keeper.specs.declared.keeper.JournalError.TheVariants.{NoMemory};
+    ghost use Rattle.sql_keeper.specs.declared.read_back.Trouble.TheVariants.{Text};
+
+    ghost from_gives = { λ _ t. t ≡ Text NoMemory };
+
+    fn from(_: AllocError) -> Trouble {
+        Trouble::Text(JournalError::NoMemory)
+    }
 }
 
-/// The entries of an account in the order in which they were kept, at the places 0 and on. One row is held at a time.
+pub(crate) fn selection<S: Alter>(conn: &mut Connection<S>) -> Result<Statement, Error> {
+    conn.prepare("SELECT rowid, place, text FROM entry WHERE account = ?1 ORDER BY rowid")
+}
+
+/// What there is of an account, with its rows: the entries in the order in which they were kept. One row is held at a time.
 pub(crate) fn read_all<S: Alter>(
     alloc: Global,
     conn: &mut Connection<S>,
-    reading: &Statement,
+    selection: &Statement,
     account: &str,
-) -> Result<Vec<Entry>, Trouble>
-    ensures { IfErr result (λ t. (place : _) (text : _) → t ≡ Trouble.Text (AnyJournalError.Damaged place text) → IsNoEntryText text.items) }
+) -> Result<(Loaded, AccountRows), Trouble>
+    ensures kept { IfOk result (λ done. IsKeptFrom done.0.told.items done.0.kept) }
+    ensures damaged { IfErr result (λ t. (place : _) (text : _) → t ≡ Trouble.Text (AnyJournalError.Damaged place text) → IsNoEntryText text.items) }
 {
-    let mut list = Vec::new(alloc);
-    let mut rows = rows_of(conn, reading, account)?;
-    'rows: for place in 0..u64::MAX {
+    let calendars = floor_of(conn, account, Kind::Calendar)?;
+    let events = floor_of(conn, account, Kind::Event)?;
+    let mut reading = Reading::new(alloc, account, calendars, events)?;
+    let mut rows = rows_of(conn, selection, account)?;
+    'rows: for _ in 0..u64::MAX {
         let Some(row) = next_row(&mut rows)? else {
-            return Ok(list);
+            return Ok(reading.finish()?);
         };
-        take_row(alloc, &mut list, row, place)?;
+        take_row(alloc, &mut reading, row)?;
     }
     Err(Trouble::Text(JournalError::Failed))
 }
 
 fn rows_of<'a, S: Alter>(
     conn: &'a mut Connection<S>,
-    reading: &Statement,
+    selection: &Statement,
     account: &str,
 ) -> Result<Rows<'a, S>, Error> {
-    reading.query(conn, params![account])
+    selection.query(conn, params![account])
 }
 
 fn next_row<'a, S: Alter>(rows: &'a mut Rows<'_, S>) -> Result<Option<&'a Row>, Error> {
     rows.next()
 }
 
-// A row at another place than the next one: the account has no text there.
-fn take_row(alloc: Global, list: &mut Vec<Entry>, row: &Row, place: u64) -> Result<(), Trouble>
+// A row whose text is no blob: the account has no text there.
+fn take_row(alloc: Global, reading: &mut Reading, row: &Row) -> Result<(), Trouble>
     ensures { IfErr result (λ t. (place : _) (text : _) → t ≡ Trouble.Text (AnyJournalError.Damaged place text) → IsNoEntryText text.items) }
 {
-    match text_at(row, place) {
-        Some(text) => Ok(take_text(alloc, list, text)?),
-        None => Err(Trouble::Text(missing_text(alloc, place))),
+    match text_in(row) {
+        Some(text) => Ok(reading.take(text)?),
+        None => Err(Trouble::Text(missing_text(alloc, reading.due()))),
     }
 }
 
-fn text_at(row: &Row, place: u64) -> Option<&[u8]> {
-    match (row.get_ref(0), row.get_ref(1)) {
-        (Ok(ValueRef::Int(at)), Ok(ValueRef::Blob(text))) if is_place(at, place) => Some(text),
+fn text_in(row: &Row) -> Option<TextRow<'_>> {
+    match (row.get_ref(0), row.get_ref(1), row.get_ref(2)) {
+        (Ok(ValueRef::Int(rowid)), Ok(ValueRef::Int(place)), Ok(ValueRef::Blob(text))) => {
+            Some(TextRow {
+                rowid,
+                place: whole(place),
+                text,
+            })
+        }
         _ => None,
     }
-}
-
-fn is_place(at: i64, place: u64) -> bool {
-    i128::from(at) == i128::from(place)
 }

@@ -22,8 +22,9 @@ const REMOVAL: &str =
     r#"{"author":0,"id":1,"kind":"calendar","moment":0,"object":null,"part":0,"turn":2}"#;
 
 fn kept(alloc: Global, account: &str, text: &str) -> Result<KeptText, Fail> {
+    let entry = entry_at(alloc, 0, text.as_bytes()).ok().or_fail("no entry's text")?;
     let text = text.as_bytes().to_vec(alloc)?;
-    Ok(KeptText::new(Text::from_str(alloc, account)?, text))
+    Ok(KeptText::new(Text::from_str(alloc, account)?, Mark::of(&entry.change), text))
 }
 
 // Keeps three texts of two accounts in two keeps, and loads them.
@@ -45,9 +46,10 @@ fn loads<K: Keeper>(
     account: &str,
     wanted: &[&str],
 ) -> Result<(), Fail> {
-    let Ok(list) = keeper.load(account) else {
+    let Ok(loaded) = keeper.load(account) else {
         panic!(rt; "no list of {account}");
     };
+    let list = &loaded.kept.behind;
     assert_eq!(rt; list.len(), wanted.len());
     for (entry, wanted) in list.iter().zip(wanted) {
         let text = entry_text(alloc, entry)?;
