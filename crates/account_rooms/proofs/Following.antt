@@ -153,7 +153,7 @@ event_none zones cs id (Some t) fit n gone none =
     rw none
     (booked_by_cases (λ bs. bs ≡ []) zones n id t [] (λ named. absurd (named_is_live cs t n fit.calendars named gone)) refl)
 
-event_follows : (zones : List ZoneText) (cs : List Change) (id : ℕ) (o : Option Tree) (rs : List BookedRoom) → AreRooms zones cs rs → IsObjectFit zones cs Event id o
+pub event_follows : (zones : List ZoneText) (cs : List Change) (id : ℕ) (o : Option Tree) (rs : List BookedRoom) → AreRooms zones cs rs → IsObjectFit zones cs Event id o
     → AreRooms zones (event_after zones cs id o) (map (booked_again id o (put_series zones o)) rs)
 event_follows zones cs id o rs h fit = record {
   rooms = ap (map (booked_again id o (put_series zones o))) h.rooms ∙ event_rooms zones cs id o;
@@ -221,7 +221,7 @@ removed_rooms : (zones : List ZoneText) (cs : List Change) (id : ℕ) → withou
 removed_rooms zones cs id = rooms_without zones cs id (resources_at cs) ∙ sym (calendar_rooms zones cs id None ∙ ap (map (room_at zones cs)) (removed_resources cs id))
 
 -- a number that was not given is of no calendar
-not_live : (cs : List Change) (id : ℕ) → is_in (ids_at cs Calendar) id ≡ false → live_object cs Calendar id ≡ None
+pub not_live : (cs : List Change) (id : ℕ) → is_in (ids_at cs Calendar) id ≡ false → live_object cs Calendar id ≡ None
 not_live cs id new = by_cases (live_object cs Calendar id) refl
   where
     by_cases : (o : Option Tree) → live_object cs Calendar id ≡ o → o ≡ None
@@ -235,7 +235,7 @@ with_room_by : (id : ℕ) (rs : List BookedRoom) (there : Bool) → has_room id 
 with_room_by id rs there h = rw h refl
 
 -- a calendar that is created
-created_rooms : (zones : List ZoneText) (cs : List Change) (id : ℕ) (t : Tree) → bookings_of zones cs id ≡ [] → is_in (ids_at cs Calendar) id ≡ false
+pub created_rooms : (zones : List ZoneText) (cs : List Change) (id : ℕ) (t : Tree) → bookings_of zones cs id ≡ [] → is_in (ids_at cs Calendar) id ≡ false
     → rooms_by Calendar id (Some t) None (rooms_at zones cs) ≡ rooms_at zones (calendar_after cs id (Some t))
 created_rooms zones cs id t none new = by_cases (is_some (zone_of_resource t)) refl ∙ sym (calendar_rooms zones cs id (Some t) ∙ ap (map (room_at zones cs)) listed)
   where

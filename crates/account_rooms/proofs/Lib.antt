@@ -9,3 +9,5 @@ pub mod Seconds
 pub mod Others
 pub mod Resources
 pub mod Outcomes
+pub mod RoomsAgain
+pub mod CalendarsAgain

@@ -5,3 +5,4 @@ pub mod RoomsView
 pub mod Slots
 pub mod Twice
 pub mod Storing
+pub mod PutAgain

@@ -1,13 +1,17 @@
 //! The laws of rooms, the contracts of functions that do nothing.
-ghost use Rattle.std.specs.Prelude.{◌≡◌, ◌∷◌, ◌++◌, [], List, false, map, true, ℕ};
-ghost use Rattle.account_rooms.specs.RoomChanges.{MayChange, rooms_after};
+ghost use Rattle.std.specs.Prelude.{◌≡◌, ◌∷◌, ◌++◌, [], List, None, Some, false, map, true, ℕ};
+ghost use Rattle.account_rooms.specs.PutAgain.{ArePutAgain};
+ghost use Rattle.account_rooms.specs.RoomChanges.{MayChange, rooms_after, rooms_by};
 ghost use Rattle.account_rooms.specs.Covered.{AreCoveredOnce};
 ghost use Rattle.account_rooms.specs.Rooms.{AreFree, AreRooms, BookedRoom, bookings_in, has_room, rooms_at};
-ghost use Rattle.cal_model.specs.Fits.{IsFit};
+ghost use Rattle.cal_model.specs.Fits.{IsEventFit, IsFit};
 ghost use Rattle.spec_history.specs.History.{ids_at, next_number};
 ghost use Rattle.spec_history.specs.Pages.{is_in};
 ghost use Rattle.spec_history.specs.declared.entry.Change.{Change};
-ghost use Rattle.spec_history.specs.declared.entry.Kind.TheVariants.{Calendar};
+ghost use Rattle.spec_history.specs.declared.entry.Kind.TheVariants.{Calendar, Event};
+ghost use Rattle.spec_json.specs.TreeData.{data_of};
+ghost use Rattle.spec_json.specs.declared.tree.Tree.{Tree};
+ghost use Rattle.spec_recurrence.specs.SeriesOf.{series_in};
 ghost use Rattle.spec_bookings.specs.BookedResources.{bookings_of};
 ghost use Rattle.spec_bookings.specs.Resources.{is_resource, resources_at};
 ghost use Rattle.spec_bookings.specs.SeriesPut.{series_put};
@@ -20,6 +24,16 @@ pub fn rooms_follow_changes()
     ensures more { (zones : List ZoneText) (cs : List Change) (c : Change) (rs : List BookedRoom) → AreRooms zones cs rs → IsFit zones cs c
         → is_in (ids_at cs Calendar) (next_number cs Calendar) ≡ false → AreRooms zones (cs ++ c ∷ []) (rooms_after c (series_put zones c) rs) }
     ensures may { (zones : List ZoneText) (cs : List Change) (c : Change) (rs : List BookedRoom) → AreRooms zones cs rs → IsFit zones cs c → MayChange rs c.kind c.object (series_put zones c) }
+{}
+
+/// The rooms of a history are those of another that puts its live objects again, calendars first and then events. A calendar is put again under a number that none has
+/// there, and an event where it fits.
+pub fn rooms_are_of_live_objects()
+    ensures calendar { (zones : List ZoneText) (cs : List Change) (id : ℕ) (t : Tree) (rs : List BookedRoom) → AreRooms zones cs rs → is_in (ids_at cs Calendar) id ≡ false
+        → AreRooms zones (cs ++ (record { kind = Calendar; id = id; object = Some t }) ∷ []) (rooms_by Calendar id (Some t) None rs) }
+    ensures event { (zones : List ZoneText) (cs : List Change) (id : ℕ) (t : Tree) (rs : List BookedRoom) → AreRooms zones cs rs → IsEventFit zones cs id (data_of t)
+        → AreRooms zones (cs ++ (record { kind = Event; id = id; object = Some t }) ∷ []) (rooms_by Event id (Some t) (series_in zones (data_of t)) rs) }
+    ensures same { (zones : List ZoneText) (again cs : List Change) → ArePutAgain again cs → (rs : List BookedRoom) → AreRooms zones again rs → AreRooms zones cs rs }
 {}
 
 /// The rooms of an account are its live resource calendars, and hold their bookings.

@@ -10,7 +10,7 @@ ghost use Rattle.spec_history.specs.declared.entry.Entry.{Entry};
 ghost use Rattle.spec_site.specs.TimeZones.{ZoneText};
 
 use crate::values::are_change_values;
-use journal_keeper::kept_text::KeptText;
+use journal_keeper::kept_text::{KeptText, Mark};
 use journal_keeper::write::change_text;
 use spec_history::entry::Change;
 use spec_history::stamp::Stamp;
@@ -51,7 +51,7 @@ fn call_texts(
     let mut part: u64 = 0;
     for change in changes {
         let text = change_text(alloc, stamp, part as u32, change)?;
-        texts.push(KeptText::new(account.copy()?, text))?;
+        texts.push(KeptText::new(account.copy()?, Mark::of(change), text))?;
         part += 1;
     }
     Ok(texts)

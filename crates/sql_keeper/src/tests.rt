@@ -3,8 +3,9 @@
 use crate::open::{OpenError, open_keeper};
 use crate::owner::claim;
 use journal_keeper::keeper::{JournalError, KeepError, Keeper};
-use journal_keeper::kept_text::KeptText;
+use journal_keeper::kept_text::{KeptText, Mark};
 use journal_keeper::memory_keeper::MemKeeper;
+use journal_keeper::read::read_entry;
 use journal_keeper::write::entry_text;
 use spec_json::text::Text;
 use sqlite::{Connection, MemStore, params};
@@ -22,9 +23,12 @@ const REMOVAL: &str =
     r#"{"author":0,"id":1,"kind":"calendar","moment":0,"object":null,"part":0,"turn":2}"#;
 
 fn kept(alloc: Global, account: &str, text: &str) -> Result<KeptText, Fail> {
-    let entry = entry_at(alloc, 0, text.as_bytes()).ok().or_fail("no entry's text")?;
+    let mark = match read_entry(alloc, text.as_bytes()) {
+        Ok(entry) => Mark::of(&entry.change),
+        Err(error) => return Err(Fail::from(error)),
+    };
     let text = text.as_bytes().to_vec(alloc)?;
-    Ok(KeptText::new(Text::from_str(alloc, account)?, Mark::of(&entry.change), text))
+    Ok(KeptText::new(Text::from_str(alloc, account)?, mark, text))
 }
 
 // Keeps three texts of two accounts in two keeps, and loads them.

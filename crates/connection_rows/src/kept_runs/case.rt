@@ -1,8 +1,9 @@
 //! A row as it is read: runs of `kept` over one keeper, and what is wanted of them.
-use journal_keeper::kept_text::KeptText;
+use journal_keeper::kept_text::{KeptText, Mark};
 use row_table::files::bytes_of;
 use row_table::line::words_in;
 use row_table::members::{count_at, counts_at};
+use spec_history::entry::Kind;
 use spec_json::text::Text;
 use spec_json::tree::Tree;
 use std::alloc::{AllocError, Global};
@@ -100,7 +101,13 @@ fn labelled_in(alloc: Global, row: &Tree) -> Result<Vec<KeptText>, AllocError> {
     let mut texts = Vec::new(alloc);
     for text in row.list_at("texts").unwrap_or(&[]) {
         let account = Text::from_str(alloc, ACCOUNT)?;
-        texts.push(KeptText::new(account, bytes_of(alloc, text)?))?;
+        // The keeper in memory forgets nothing, so it doesn't ask what a text changes.
+        let mark = Mark {
+            kind: Kind::Calendar,
+            id: 1,
+            puts: true,
+        };
+        texts.push(KeptText::new(account, mark, bytes_of(alloc, text)?))?;
     }
     Ok(texts)
 }

@@ -151,7 +151,7 @@ fn other_than_left(
     left: &[Vec<u8>],
 ) -> Result<Option<String>, AllocError> {
     match keeper.load(ACCOUNT) {
-        Ok(entries) => other_than_texts(alloc, &entries, left),
+        Ok(loaded) => other_than_texts(alloc, &loaded.kept.behind, left),
         Err(JournalError::Damaged { .. }) if left.is_empty() => Ok(None),
         Err(_) => Ok(Some(String::from_str(alloc, "not loaded")?)),
     }
