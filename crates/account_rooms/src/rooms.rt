@@ -1,9 +1,9 @@
 //! The rooms of an account.
-ghost use Rattle.std.specs.Prelude.{◌≡◌, ◌≤◌, [], Some, IfNone, IfOk, IfSome, OnOk, false, length, map, option_map, take, true};
-ghost use Rattle.account_rooms.specs.RoomChanges.{MayChange, booked_again, rooms_after, with_room, without_room};
+ghost use Rattle.std.specs.Prelude.{◌≡◌, ◌≤◌, [], None, Some, IfNone, IfOk, IfSome, OnOk, false, length, map, option_map, take, true};
+ghost use Rattle.account_rooms.specs.RoomChanges.{MayChange, booked_again, rooms_after, rooms_by, with_room, without_room};
 ghost use Rattle.account_rooms.specs.Rooms.{bookings_in, has_room};
 ghost use Rattle.account_rooms.specs.Slots.{rooms_kept, rooms_now};
-ghost use Rattle.spec_history.specs.declared.entry.Kind.TheVariants.{Event as event_kind};
+ghost use Rattle.spec_history.specs.declared.entry.Kind.TheVariants.{Calendar as calendar_kind, Event as event_kind};
 ghost use Rattle.spec_bookings.specs.Bookings.{without_booking};
 ghost use Rattle.spec_bookings.specs.Clashes.{IsClash, IsClear, first_clash, second_of};
 ghost use Rattle.spec_series.specs.Lengths.{IsWeekLong};
@@ -114,18 +114,24 @@ impl Rooms {
                 self.retire(change.id);
                 Ok(())
             }
-            (Kind::Event, Some(event)) => self.book(change.id, event, series),
+            (Kind::Event, Some(event)) => self.put_event(change.id, event, series),
             (Kind::Calendar, None) => {
                 self.close(change.id);
                 Ok(())
             }
-            (Kind::Calendar, Some(calendar)) => {
-                if calendar.text_at("resourceZone").is_some() {
-                    self.open(change.id)
-                } else {
-                    Ok(())
-                }
-            }
+            (Kind::Calendar, Some(calendar)) => self.put_calendar(change.id, calendar),
+        }
+    }
+
+    /// Lets the rooms follow a calendar that is put, of a resource or not. Takes memory for a room.
+    pub fn put_calendar(&mut self, number: u64, calendar: &Tree) -> Result<(), AllocError>
+        ensures ok { OnOk result (self.new.rooms ≡ rooms_by calendar_kind number (Some calendar.now) None self.old.rooms) }
+        ensures kept { self.new.kept ≡ self.old.kept }
+    {
+        if calendar.text_at("resourceZone").is_some() {
+            self.open(number)
+        } else {
+            Ok(())
         }
     }
 
@@ -179,8 +185,14 @@ impl Rooms {
         retire_in_all(&mut self.slots, event);
     }
 
-    // Books an event anew, in the rooms of its calendars.
-    fn book(&mut self, number: u64, event: &Tree, series: Option<&Series>) -> Result<(), AllocError>
+    /// Lets the rooms follow an event of this series that is put: it is booked anew, in the rooms of its calendars. After running out of memory some of its bookings may be
+    /// there and others not; those that are gone back to stay.
+    pub fn put_event(
+        &mut self,
+        number: u64,
+        event: &Tree,
+        series: Option<&Series>,
+    ) -> Result<(), AllocError>
         requires { MayChange self.old.rooms event_kind (Some event.now) (option_map (λ s. s.now) series) }
         ensures ok { OnOk result (self.new.rooms ≡ map (booked_again number (Some event.now) (option_map (λ s. s.now) series.entry)) self.old.rooms) }
         ensures kept { self.new.kept ≡ self.old.kept }

@@ -115,7 +115,10 @@ impl<T: Drop> ObjectLog<T> {
     pub fn may_come(&self, id: u64) -> bool
         ensures { (p : AnyPut T) → p.id ≡ id → result ≡ may_come (puts self.now) p }
     {
-        id.checked_sub(1) == Some(self.slots.created) || self.get(id).is_some()
+        if id == self.slots.created + 1 {
+            return true;
+        }
+        self.get(id).is_some()
     }
 
     /// The object that an id had at state `k`, where it had one. Takes no memory.

@@ -2,6 +2,7 @@
 use Rattle.std.proofs.Common.{◌≡◌, ◌∙◌, ◌+◌, ◌==◌, ◌&&◌, ℕ, List, [], ◌∷◌, ◌++◌, Bool, true, false, Option, None, map, arith, refl, sym, ap, subst, if◌then◌else◌, pos}
 use Rattle.std.proofs.lemmas.List.Sums.{sum_by-append, sum_by-cons}
 use Rattle.spec_history.specs.History.{changes_of, count_of_kind, ids_at, ids_from, is_kind, live_object, names, object_from, with_id}
+use Rattle.spec_history.specs.Signed.{written_by}
 use Rattle.spec_history.specs.declared.entry.Change.{Change}
 use Rattle.spec_history.specs.declared.entry.Entry.{Entry}
 use Rattle.spec_history.specs.declared.entry.Kind.{Kind}
@@ -70,12 +71,19 @@ changes_back : (cs : List Change) → changes_of (map of_nobody cs) ≡ cs
 changes_back [] = refl
 changes_back (c ∷ cs) = ap (λ ds. c ∷ ds) (changes_back cs)
 
+own_entries : (cs : List Change) → written_by 0 (map of_nobody cs) ≡ map of_nobody cs
+own_entries [] = refl
+own_entries (c ∷ cs) = ap (λ es. of_nobody c ∷ es) (own_entries cs)
+
 -- the changes of each kind, one kind behind the other
 abbrev pub both_past : KeptHistory → List Change
 both_past k = floor_past Calendar k.calendars ++ floor_past Event k.events
 
 abbrev pub entries_past : KeptHistory → List Entry
 entries_past k = map of_nobody (both_past k)
+
+pub past_own : (k : KeptHistory) → written_by 0 (entries_past k) ≡ entries_past k
+past_own k = own_entries (both_past k)
 
 pub past_numbered : (k : KeptHistory) → are_numbered [] (changes_of (entries_past k)) ≡ true
 past_numbered k = ap (are_numbered []) (changes_back (both_past k)) ∙ join_numbered [] (floor_past Calendar k.calendars) (floor_past Event k.events)

@@ -12,7 +12,7 @@ use Rattle.spec_history.specs.declared.entry.Kind.{Kind}
 use Rattle.spec_history.specs.declared.entry.Kind.TheVariants.{Calendar, Event}
 use Rattle.spec_sizes.specs.Sizes.{is_answered_from, of_kind, size_of, window_bytes}
 use Rattle.spec_snapshots.proofs.Forgotten.{forgotten}
-use Rattle.spec_snapshots.proofs.MadeUpHistory.{entries_past, floors_left, past_numbered}
+use Rattle.spec_snapshots.proofs.MadeUpHistory.{entries_past, floors_left, past_numbered, past_own}
 use Rattle.spec_snapshots.specs.Kept.{IsFloor, IsKeptFrom, floor_of, is_floor, is_old, may_be_kept}
 use Rattle.spec_snapshots.specs.declared.kept.KeptHistory.{KeptHistory}
 
@@ -51,6 +51,7 @@ module _ (k : KeptHistory) (test : may_be_kept k ≡ true) where
     past = entries_past k;
     whole = refl;
     numbered = past_numbered k;
+    own = past_own k;
     floors = floors;
     forgotten = λ kind. unanswered kind _ _ _ refl refl refl (old kind);
   }

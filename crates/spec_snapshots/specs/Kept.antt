@@ -3,6 +3,7 @@ use Rattle.std.specs.Prelude.{◌≡◌, ◌⊎◌, ℕ, ◌+◌, ◌-◌, suc, 
 use Rattle.std.specs.List.{range_with_len}
 use Rattle.spec_history.specs.History.{changes_of, count_of_kind, ids_at, live_object}
 use Rattle.spec_history.specs.Pages.{window}
+use Rattle.spec_history.specs.Signed.{written_by}
 use Rattle.spec_history.specs.declared.entry.Change.{Change}
 use Rattle.spec_history.specs.declared.entry.Entry.{Entry}
 use Rattle.spec_history.specs.declared.entry.Kind.{Kind}
@@ -34,12 +35,13 @@ abbrev pub floor_of : KeptHistory → Kind → KindFloor
 floor_of k Calendar = k.calendars
 floor_of k Event = k.events
 
--- This is kept of the history: what its first entries left of each kind, and all entries behind them. The first gave the numbers of objects in order. No state up to
--- there is answered from any more (RFC 8620 section 5.2), unless there was none.
+-- This is kept of the history: what its first entries left of each kind, and all entries behind them. The first gave the numbers of objects in order;
+-- who made them isn't kept, and they count as the first author's. No state up to there is answered from any more (RFC 8620 section 5.2), unless there was none.
 pub record IsKeptFrom (h : List Entry) (k : KeptHistory) : Type 0 where
   pub past : List Entry
   pub whole : h ≡ past ++ k.behind.items
   pub numbered : are_numbered [] (changes_of past) ≡ true
+  pub own : written_by 0 past ≡ past
   pub floors : (kind : Kind) → IsFloor (changes_of past) kind (floor_of k kind)
   pub forgotten : (kind : Kind) → ((floor_of k kind).state ≡ 0) ⊎ (is_answered_from kind (changes_of h) (floor_of k kind).state ≡ false)
 

@@ -2,6 +2,7 @@
 
 use crate::open::{OpenError, open_keeper};
 use crate::owner::claim;
+use crate::tables::VERSION;
 use journal_keeper::keeper::{JournalError, KeepError, Keeper};
 use journal_keeper::kept_text::{KeptText, Mark};
 use journal_keeper::memory_keeper::MemKeeper;
@@ -159,8 +160,8 @@ fn what_is_no_journal_is_refused(rt: HostRuntime) -> Result<(), Fail> {
     refuses(
         &rt,
         alloc,
-        "CREATE TABLE about (program TEXT NOT NULL, version INTEGER NOT NULL) STRICT; INSERT INTO about VALUES ('jmapd', 2)",
-        OpenError::OtherVersion(2),
+        "CREATE TABLE about (program TEXT NOT NULL, version INTEGER NOT NULL) STRICT; INSERT INTO about VALUES ('jmapd', 3)",
+        OpenError::OtherVersion(3),
     )?;
     refuses(
         &rt,
@@ -199,4 +200,72 @@ fn a_journal_is_one_accounts(rt: HostRuntime) -> Result<(), Fail> {
         false,
         &[("B", false), ("A1", true), ("B", false), ("A1", true)],
     )
+}
+
+// The texts of so many puts of one event, from a turn on.
+fn puts(alloc: Global, first: u64, count: u64) -> Result<Vec<KeptText>, Fail> {
+    let mut texts = Vec::new(alloc);
+    for turn in first..first.saturating_add(count) {
+        let text = format!(in alloc; "{{\"author\":0,\"id\":1,\"kind\":\"event\",\"moment\":0,\"object\":{{\"n\":{turn}}},\"part\":0,\"turn\":{turn}}}")?;
+        texts.push(kept(alloc, "A1", text.as_str())?)?;
+    }
+    Ok(texts)
+}
+
+fn rows_in(conn: &mut Connection<MemStore>) -> Option<i64> {
+    let row = conn.query_row("SELECT COUNT(*) FROM entry", &[]).ok()?;
+    row.get(0).ok()
+}
+
+// What is loaded of the account A1: how many changes of events are behind their floor, and the state of that.
+fn loaded_events<K: Keeper>(keeper: &mut K) -> Option<(u64, usize, usize)> {
+    let loaded = keeper.load("A1").ok()?;
+    let events = &loaded.kept.events;
+    Some((events.state, events.live.len(), loaded.kept.behind.len()))
+}
+
+#[test]
+fn a_journal_lets_go_of_what_is_not_answered_from(rt: HostRuntime) -> Result<(), Fail> {
+    let alloc = rt.alloc();
+    let Ok(mut keeper) = open_keeper(alloc, Connection::open_in_memory(alloc)?) else {
+        panic!(rt; "no journal");
+    };
+    for first in [0u64, 500, 1000, 1500, 2000, 2500, 3000, 3500, 4000, 4500] {
+        assert_eq!(rt; keeper.keep(puts(alloc, first, 500)?), Ok(()));
+    }
+    assert_eq!(rt; rows_in(&mut keeper.conn), Some(4098));
+    assert_eq!(rt; loaded_events(&mut keeper), Some((903, 1, 4097)));
+    assert_eq!(rt; keeper.keep(puts(alloc, 5000, 1)?), Ok(()));
+    assert_eq!(rt; rows_in(&mut keeper.conn), Some(4098));
+    assert_eq!(rt; loaded_events(&mut keeper), Some((904, 1, 4097)));
+    Ok(())
+}
+
+const WITHOUT_FLOORS: &str = "CREATE TABLE about (program TEXT NOT NULL, version INTEGER NOT NULL) STRICT; CREATE TABLE entry (account TEXT NOT NULL, place INTEGER NOT NULL, text BLOB NOT NULL) STRICT; INSERT INTO about VALUES ('jmapd', 1)";
+
+#[test]
+fn a_journal_without_floors_is_brought_up_to_date(rt: HostRuntime) -> Result<(), Fail> {
+    let alloc = rt.alloc();
+    let mut conn = Connection::open_in_memory(alloc)?;
+    assert!(rt; conn.execute_batch(WITHOUT_FLOORS).is_ok());
+    assert!(rt; put(&mut conn, 0, CALENDAR) && put(&mut conn, 1, REMOVAL));
+    let Ok(mut keeper) = open_keeper(alloc, conn) else {
+        panic!(rt; "no journal");
+    };
+    loads(&rt, alloc, &mut keeper, "A1", &[CALENDAR, REMOVAL])?;
+    let version: i64 = keeper.conn.query_row("SELECT version FROM about", &[])?.get(0)?;
+    assert_eq!(rt; version, VERSION);
+    Ok(())
+}
+
+#[test]
+fn a_floor_that_nothing_leaves_is_damage(rt: HostRuntime) -> Result<(), Fail> {
+    let alloc = rt.alloc();
+    let Ok(mut keeper) = open_keeper(alloc, Connection::open_in_memory(alloc)?) else {
+        panic!(rt; "no journal");
+    };
+    assert!(rt; keeper.conn.execute("INSERT INTO floor VALUES ('A1', 'calendar', 7, 3, 9)", &[]).is_ok());
+    assert!(rt; put(&mut keeper.conn, 4, CALENDAR) && put(&mut keeper.conn, 9, REMOVAL));
+    is_damaged(&rt, &mut keeper, 10, "");
+    Ok(())
 }

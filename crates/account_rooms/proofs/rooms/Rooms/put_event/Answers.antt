@@ -8,7 +8,7 @@ use Rattle.account_rooms.specs.RoomsView.{RoomsView}
 use Rattle.account_rooms.specs.Slots.{booked, rooms_kept, rooms_now, is_booked_by}
 use Rattle.spec_history.specs.declared.entry.Kind.TheVariants.{Event}
 use Rattle.spec_json.specs.TreeData.{data_of}
-use Rattle.account_rooms.proofs.rooms.Rooms.book.Goals as goal
+use Rattle.account_rooms.proofs.rooms.Rooms.put_event.Goals as goal
 
 pub returns-then-not-is_in_any-clause-ok : goal.returns-then-not-is_in_any-clause-ok
 returns-then-not-is_in_any-clause-ok c =
