@@ -1,16 +1,22 @@
 #!/usr/bin/env python3
-"""Times calls by `jmapd stdio` on an account of 500 live events after 10, 5,000 and 200,000 changes, and tries what is told of its past; README.md tells what it prints."""
+"""Times calls by `jmapd stdio` on an account of 500 live events after 10, 5,000 and 200,000 changes, and tries what is told of its past; then starts of `jmapd kept` over a journal of as many. README.md tells
+what it prints."""
 
 import json
+import os
+import tempfile
+import time
 
 from calendars import MAX_OBJECTS, USING, Connection
 from connections import TOKEN, next_body
 from events import create
+from journal import SITE, Kept
 from measure import compact, options
 
 EVENTS, SIZE, WINDOW = 500, 330, 4_096
 CHANGES = (10, 5_000, 200_000)
 MAX_GROWTH = 1.2
+MAX_START_MS = 100
 
 
 def update(start, count, title):
@@ -101,6 +107,50 @@ def told(account):
     return wrong
 
 
+def line(*calls):
+    return compact({"using": USING, "methodCalls": [[*call, "c"] for call in calls]}) + b"\n"
+
+
+class Journal:
+    """A journal of an account of 500 events, in a folder of its own."""
+
+    def __init__(self, binary, folder):
+        self.binary, self.folder, self.path = binary, folder, os.path.join(folder, "A1.db")
+        with open(os.path.join(folder, "site.json"), "w", encoding="utf-8") as file:
+            json.dump(SITE, file)
+
+    def run(self, *lines):
+        kept = Kept(self.binary, self.folder, self.path)
+        for each in lines:
+            kept.program.stdin.write(each)
+            kept.program.stdin.flush()
+            kept.program.stdout.readline()
+        kept.close()
+
+    def fill(self, count):
+        first = ["Calendar/set", {"accountId": "A1", "create": {"c": {"name": "Team"}}}]
+        updates = [line(update(made, MAX_OBJECTS, f"title {made}")) for made in range(EVENTS, count, MAX_OBJECTS)]
+        self.run(line(first), line(create(EVENTS, SIZE)), *updates)
+
+    def start_ms(self, rounds):
+        """How long a run takes that has nothing to do, beside one over a journal of nothing."""
+        taken = []
+        for _ in range(rounds):
+            before = time.perf_counter()
+            self.run()
+            taken.append((time.perf_counter() - before) * 1_000)
+        return min(taken)
+
+
+def starts(binary, rounds):
+    """The milliseconds of a start over a journal of so many changes, and the kB of that with its log."""
+    with tempfile.TemporaryDirectory() as folder:
+        journal = Journal(binary, folder)
+        journal.fill(CHANGES[-1])
+        size = sum(os.path.getsize(journal.path + end) for end in ("", "-wal") if os.path.exists(journal.path + end))
+        return journal.start_ms(rounds), size // 1_000
+
+
 def main():
     chosen = options(__doc__)
     figures, memory, wrong = {}, {}, []
@@ -119,6 +169,9 @@ def main():
         print(f"{name:26}" + "".join(f"{figures[name, count]:12.4f}" for count in CHANGES) + f"{ratio:8.2f}{MAX_GROWTH:9}")
         missed += [f"{name} grows"] if ratio > MAX_GROWTH else []
     print("memory in kB              " + "".join(f"{memory[count]:12,}" for count in CHANGES))
+    start, size = starts(chosen.binary, chosen.rounds)
+    print(f"start over a journal of {CHANGES[-1]:,} changes: {start:.1f} ms, at most {MAX_START_MS}; its files have {size:,} kB")
+    missed += ["start"] if start > MAX_START_MS else []
     missed += [f"wrong: {what}" for what in wrong]
     print("all goals are met" if not missed else "missed: " + "; ".join(missed))
 
