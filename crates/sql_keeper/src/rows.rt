@@ -203,7 +203,9 @@ pub(crate) fn put_rows(
 ) -> Result<(), AllocError> {
     match place_of(accounts, rows.account.as_str()) {
         Some(place) => {
-            accounts[place] = rows;
+            if let Some(known) = accounts.get_mut(place) {
+                *known = rows;
+            }
             Ok(())
         }
         None => Ok(accounts.push(rows)?),
