@@ -23,9 +23,8 @@ module _ {T : Type 0} where
       let near = and_parts (nat_le k n) (nat_le (n - k) window) parts.0 in
       let few = leb-true (n - k) window near.1 in
       let small = leb-true (bytes_put (drop k ps)) window_bytes parts.1 in
-      let whole : d + k ≡ k + d = omega arith in
       let less : bytes_put (drop (k + d) ps) ≤ bytes_put (drop k ps) =
-      subst (λ (l : List (Put T)). bytes_put l ≤ bytes_put (drop k ps)) (drop-drop d k ps ∙ ap (λ m. drop m ps) (omega arith)) (bytes_put-drop d (drop k ps)) in
+      subst (λ (l : List (Put T)). bytes_put l ≤ bytes_put (drop k ps)) (drop-drop d k ps) (bytes_put-drop d (drop k ps)) in
       and_from (is_retained n (k + d)) (nat_le (bytes_put (drop (k + d) ps)) window_bytes)
       (and_from (nat_le (k + d) n) (nat_le (n - (k + d)) window) (le-leb (k + d) n reached) (le-leb (n - (k + d)) window (omega (arith, few))))
       (le-leb (bytes_put (drop (k + d) ps)) window_bytes (omega (arith, less, small)))
