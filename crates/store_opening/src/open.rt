@@ -69,11 +69,12 @@ pub fn open_store(alloc: Global, zones: &Zones, loaded: Loaded) -> Result<Store,
         return Err(StoreError::TooMany);
     };
     let past = GhostList::of(&loaded);
+    let Loaded { kept, .. } = loaded;
     let KeptHistory {
         calendars,
         events,
         behind,
-    } = loaded.kept;
+    } = kept;
     let opening = at_floors(alloc, zones, past, count, calendars, events)?;
     push_all(alloc, zones, opening, behind)
 }
