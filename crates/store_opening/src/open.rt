@@ -1,5 +1,5 @@
 //! How a store is opened.
-ghost use Rattle.std.specs.Prelude.{◌≡◌, ◌≢◌, ◌⊎◌, ◌<◌, ◌≤◌, ◌+◌, ◌++◌, ◌∷◌, ◌^◌, [], IfErr, IfNone, IfOk, IfSome, OnOk, false, length, true};
+ghost use Rattle.std.specs.Prelude.{◌≡◌, ⊥, ◌⊎◌, ◌<◌, ◌≤◌, ◌+◌, ◌++◌, ◌∷◌, ◌^◌, [], IfErr, IfNone, IfOk, IfSome, OnOk, false, length, true};
 ghost use Rattle.account_store.specs.Opening.{opening_entries, opening_floor, opening_puts};
 ghost use Rattle.account_store.specs.Store.{entries, event_puts};
 ghost use Rattle.event_store.specs.ReadSeries.{AreRead};
@@ -34,15 +34,13 @@ const MOST_BYTES: u64 = 1 << 40;
 /// Why a store isn't opened.
 #[derive(Debug, Drop)]
 pub enum StoreError {
-    /// An entry neither creates the next object of its kind nor is of one that is there.
-    Unnumbered {
+    /// A change may not stand where it does: it neither creates the next object of its kind nor is of one that is there, or there are more than an account ever makes.
+    BadChange {
         /// The kind of the object that it names.
         kind: Kind,
-        /// The number of that.
+        /// The number of that, or 0 where there are too many.
         id: u64,
     },
-    /// There are more entries than an account ever has.
-    TooMany,
     /// Memory was wanted.
     NoMemory,
 }
@@ -62,11 +60,13 @@ pub fn open_store(alloc: Global, zones: &Zones, loaded: Loaded) -> Result<Store,
     ensures read { IfOk result (λ s. AreRead zones.now (event_puts s)) }
     ensures numbered { OnOk result (are_numbered [] (changes_of loaded.told.items) ≡ true) }
     ensures few { OnOk result (length loaded.told.items ≤ 2 ^ 40) }
-    ensures unnumbered { IfErr result (λ e. (kind : _) (id : _) → e ≡ StoreError.Unnumbered kind id → are_numbered [] (changes_of loaded.told.items) ≡ false) }
-    ensures many { IfErr result (λ e. e ≡ StoreError.TooMany → 2 ^ 40 < length loaded.told.items) }
+    ensures refused { IfErr result (λ e. (kind : _) (id : _) → e ≡ StoreError.BadChange kind id → are_numbered [] (changes_of loaded.told.items) ≡ true → length loaded.told.items ≤ 2 ^ 40 → ⊥) }
 {
     let Some(count) = count_in_front(&loaded.kept) else {
-        return Err(StoreError::TooMany);
+        return Err(StoreError::BadChange {
+            kind: Kind::Event,
+            id: 0,
+        });
     };
     let past = GhostList::of(&loaded);
     let Loaded { kept, .. } = loaded;
@@ -126,8 +126,7 @@ fn push_all(
     ensures entries { IfOk result (λ s. entries s ≡ opening_entries opening ++ behind.items) }
     ensures read { IfOk result (λ s. AreRead zones.now (event_puts s)) }
     ensures numbered { OnOk result (are_numbered [] (changes_of (opening_entries opening ++ behind.items)) ≡ true) }
-    ensures unnumbered { IfErr result (λ e. (kind : _) (id : _) → e ≡ StoreError.Unnumbered kind id → are_numbered [] (changes_of (opening_entries opening ++ behind.items)) ≡ false) }
-    ensures many { IfErr result (λ e. e ≢ StoreError.TooMany) }
+    ensures refused { IfErr result (λ e. (kind : _) (id : _) → e ≡ StoreError.BadChange kind id → are_numbered [] (changes_of (opening_entries opening ++ behind.items)) ≡ false) }
 {
     let mut opening = opening;
     for entry in behind {
@@ -148,11 +147,10 @@ fn push(
     ensures read { OnOk result (AreRead zones.now (opening_puts opening.old) → AreRead zones.now (opening_puts opening.new)) }
     ensures floors { OnOk result ((kind : AnyKind) → opening_floor opening.new kind ≡ opening_floor opening.old kind) }
     ensures numbered { OnOk result (is_numbered (changes_of (opening_entries opening.old)) entry.change ≡ true) }
-    ensures unnumbered { IfErr result (λ e. (kind : _) (id : _) → e ≡ StoreError.Unnumbered kind id → is_numbered (changes_of (opening_entries opening.old)) entry.change ≡ false) }
-    ensures many { IfErr result (λ e. e ≢ StoreError.TooMany) }
+    ensures refused { IfErr result (λ e. (kind : _) (id : _) → e ≡ StoreError.BadChange kind id → is_numbered (changes_of (opening_entries opening.old)) entry.change ≡ false) }
 {
     if !opening.may_follow(&entry.change) {
-        return Err(StoreError::Unnumbered {
+        return Err(StoreError::BadChange {
             kind: entry.change.kind,
             id: entry.change.id,
         });
