@@ -4,3 +4,4 @@ pub mod ManyTexts
 pub mod OneEntry
 pub mod Loading
 pub mod AccountTexts
+pub mod WholeLemmas

@@ -3,5 +3,5 @@ use Rattle.spec_history.specs.declared.entry.Kind.TheVariants.{Calendar}
 use Rattle.store_opening.specs.Puts.{puts_by}
 use Rattle.store_opening.proofs.logs.calendar_log.Given as goal
 
-abbrev pub ghost-of-told : goal.ghost-of-told
-ghost-of-told a = λ past. puts_by (λ t. t) Calendar (changes_of past.items)
+abbrev pub ghost-of : goal.ghost-of
+ghost-of a = λ past. puts_by (λ t. t) Calendar (changes_of past.items)

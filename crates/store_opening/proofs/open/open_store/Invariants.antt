@@ -2,5 +2,5 @@ use Rattle.std.proofs.Common.{length}
 use Rattle.store_opening.specs.Puts.{in_front}
 use Rattle.store_opening.proofs.open.open_store.Given as goal
 
-abbrev pub ghost-of-past : goal.ghost-of-past
-ghost-of-past a = λ loaded. in_front (length loaded.kept.behind.items) loaded.told.items
+abbrev pub ghost-of : goal.ghost-of
+ghost-of a = λ loaded. in_front (length loaded.kept.behind.items) loaded.told.items
