@@ -14,3 +14,4 @@ pub mod EarlierLemmas
 pub mod NumberLemmas
 pub mod TouchedLemmas
 pub mod HistoryLemmas
+pub mod ComingLemmas
