@@ -51,6 +51,7 @@ fn calendar_slots(alloc: Global, live: Vec<LiveObject>) -> Result<Vec<IdSlot<Tre
 }
 
 /// The entries that left a floor of events, and the zones by which their series are read.
+#[derive(Drop)]
 struct ReadPast<'a> {
     past: &'a GhostList<Entry>,
     zones: &'a Zones,

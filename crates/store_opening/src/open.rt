@@ -1,5 +1,5 @@
 //! How a store is opened.
-ghost use Rattle.std.specs.Prelude.{◌≡◌, ⊥, ◌⊎◌, ◌<◌, ◌≤◌, ◌+◌, ◌++◌, ◌∷◌, ◌^◌, [], IfErr, IfNone, IfOk, IfSome, OnOk, false, length, true};
+ghost use Rattle.std.specs.Prelude.{◌≡◌, ◌⊎◌, ◌<◌, ◌≤◌, ◌+◌, ◌++◌, ◌∷◌, ◌^◌, [], IfErr, IfNone, IfOk, IfSome, OnOk, false, length, true};
 ghost use Rattle.account_store.specs.Opening.{opening_entries, opening_floor, opening_puts};
 ghost use Rattle.account_store.specs.Store.{entries, event_puts};
 ghost use Rattle.event_store.specs.ReadSeries.{AreRead};
