@@ -1,10 +1,14 @@
--- A keeper over a file may go to another thread.
+-- A keeper over a file may go to another thread. A struct within another is told of by its row as a field, so that each search goes down one struct alone.
 use denote.RattleType.{RattleType}
 use denote.Param.Send.{IsSend, sendable}
 use Rattle.std.proofs.Crossing.{crosses, frees, send}
-use Rattle.spec_json.proofs.Crossing.{text_sent}
+use Rattle.std.proofs.MapsCrossing.{BTreeMap-send}
+use Rattle.spec_json.specs.contracts.text.Text as text
 use Rattle.sql_keeper.specs.contracts.file_keeper.FileKeeper as file_keeper
+use Rattle.sql_keeper.specs.contracts.insert.Writing as writing
 use Rattle.sql_keeper.specs.contracts.rows.AccountRows as account_rows
+use Rattle.sql_keeper.specs.contracts.rows.KeptRow as kept_row
+use Rattle.sql_keeper.specs.contracts.rows.KindRows as kind_rows
 use Rattle.sql_keeper.specs.contracts.sql_keeper.SqlKeeper as sql_keeper
 use Rattle.sqlite.below.sqlite_disk.specs.declared.Disk
 use Rattle.sqlite.below.sqlite_disk.specs.contracts.modelled.Modelled
@@ -47,11 +51,23 @@ connection_sent = connection_crosses.the_send store_row (stored.ghosts file_row 
 statement_sent : IsSend Statement.the_row
 statement_sent = search (crosses, sendable) depth 60 fits 20000
 
+writing_sent : IsSend writing.the_field.row
+writing_sent = search (statement_sent, crosses, sendable) depth 60 fits 20000
+
+kept_row_sent : IsSend kept_row.the_row
+kept_row_sent = search (crosses, sendable) depth 60 fits 20000
+
+kind_rows_sent : IsSend kind_rows.the_field.row
+kind_rows_sent = search (kept_row_sent, BTreeMap-send, crosses, sendable) depth 60 fits 20000
+
+texts_sent : IsSend text.the_field.row
+texts_sent = search (crosses, sendable) depth 60 fits 20000
+
 rows_sent : IsSend account_rows.the_row
-rows_sent = search (text_sent, crosses, sendable) depth 60 fits 20000
+rows_sent = search (texts_sent, kind_rows_sent, crosses, sendable) depth 60 fits 20000
 
 sql_keeper_sent : IsSend sql_keeper_row
-sql_keeper_sent = search (connection_sent, statement_sent, rows_sent, crosses, frees, send, sendable) depth 60 fits 20000
+sql_keeper_sent = search (connection_sent, statement_sent, writing_sent, rows_sent, crosses, frees, send, sendable) depth 60 fits 20000
 
 pub file_keeper_sent : IsSend file_keeper.the_row
 file_keeper_sent = search (sql_keeper_sent, crosses, sendable) depth 60 fits 20000

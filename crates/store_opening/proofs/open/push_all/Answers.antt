@@ -1,0 +1,40 @@
+use Rattle.std.proofs.Common.{◌≡◌, ◌⊎◌, ◌+◌, ◌++◌, ◌∷◌, [], List, ap, append_assoc, arith, drop, false, length, length-append, refl, rules, subst, suc, sym, true, ◌∙◌}
+use Rattle.std.proofs.lemmas.Iterator.Adapters.{YieldsList-from_vec}
+use Rattle.std.proofs.lemmas.Iterator.Consumers.{YieldsList-end, YieldsList-so_far, YieldsList-turn}
+use Rattle.std.proofs.lemmas.List.{map-id}
+use Rattle.std.proofs.lemmas.Result.{err_from_is_err_and}
+use Rattle.account_store.specs.Opening.{opening_entries, opening_floor}
+use Rattle.spec_history.specs.History.{changes_of}
+use Rattle.spec_history.specs.declared.entry.Entry.{Entry}
+use Rattle.spec_history.specs.declared.entry.Kind.{Kind}
+use Rattle.spec_sizes.specs.Sizes.{is_answered_from}
+use Rattle.spec_snapshots.specs.Numbered.{are_numbered}
+use Rattle.store_opening.proofs.FrontLemmas.{behind, numbered_more, unnumbered_all}
+use Rattle.store_opening.proofs.open.push_all.Goals as goal
+
+pub loop-entry-init : goal.loop-entry-init
+loop-entry-init c = record {
+  grown = search rules;
+  read = c.requires.read;
+  floors = λ kind. refl;
+  numbered = c.requires.numbered;
+}
+
+pub push-requires : goal.push-requires
+push-requires c =
+    let all = c.args.behind.items in
+    let road = YieldsList-from_vec {s = c.into_iter-entry-iterator.result} all (search rules) (search rules) in
+    let turn = YieldsList-turn road c.loop-entry.yielded c.loop-entry.entry-iterator c.loop-entry.yielded_by c.next.result c.next.new.self c.in-Some.entry c.in-Some.is c.next.ensures.steps in
+    let longer = length-append (opening_entries c.args.opening) c.loop-entry.yielded in
+    omega (arith, turn.0, c.requires.few, ap (λ (es : List Entry). length es) c.loop-entry.invariant.grown, longer)
+
+pub loop-entry-preserved : goal.loop-entry-preserved
+loop-entry-preserved c =
+    let entry = c.in-Some.entry in
+    record {
+      grown = c.in_ok-push.ensures.entries ∙ ap (λ (es : List Entry). es ++ entry ∷ []) c.loop-entry.invariant.grown ∙ append_assoc (opening_entries c.args.opening) c.loop-entry.yielded (entry ∷ []);
+      read = c.in_ok-push.ensures.read c.loop-entry.invariant.read;
+      floors = λ kind. c.in_ok-push.ensures.floors kind ∙ c.loop-entry.invariant.floors kind;
+      numbered = ap (λ (es : List Entry). are_numbered [] (changes_of es)) c.in_ok-push.ensures.entries
+          ∙ numbered_more (opening_entries c.loop-entry.opening) entry c.loop-entry.invariant.numbered c.in_ok-push.ensures.numbered;
+    }
