@@ -76,11 +76,10 @@ pub(crate) fn read_all<S: Alter>(
     let events = floor_of(conn, account, Kind::Event)?;
     let mut reading = Reading::new(alloc, account, calendars, events)?;
     let mut rows = rows_of(conn, selection, account)?;
-    'rows: for _ in 0..u64::MAX {
-        let Some(row) = next_row(&mut rows)? else {
+    for _ in 0..u64::MAX {
+        if !take_next(alloc, &mut reading, &mut rows)? {
             return Ok(reading.finish()?);
-        };
-        take_row(alloc, &mut reading, row)?;
+        }
     }
     Err(Trouble::Text(JournalError::Failed))
 }
@@ -95,6 +94,23 @@ fn rows_of<'a, S: Alter>(
 
 fn next_row<'a, S: Alter>(rows: &'a mut Rows<'_, S>) -> Result<Option<&'a Row>, Error> {
     rows.next()
+}
+
+// Takes the next row. Tells whether there was one.
+fn take_next<S: Alter>(
+    alloc: Global,
+    reading: &mut Reading,
+    rows: &mut Rows<'_, S>,
+) -> Result<bool, Trouble>
+    ensures { IfErr result (λ t. (place : _) (text : _) → t ≡ Trouble.Text (AnyJournalError.Damaged place text) → IsNoEntryText text.items) }
+{
+    match next_row(rows)? {
+        Some(row) => {
+            take_row(alloc, reading, row)?;
+            Ok(true)
+        }
+        None => Ok(false),
+    }
 }
 
 // A row whose text is no blob: the account has no text there.

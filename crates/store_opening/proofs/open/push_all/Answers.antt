@@ -38,3 +38,44 @@ loop-entry-preserved c =
       numbered = ap (λ (es : List Entry). are_numbered [] (changes_of es)) c.in_ok-push.ensures.entries
           ∙ numbered_more (opening_entries c.loop-entry.opening) entry c.loop-entry.invariant.numbered c.in_ok-push.ensures.numbered;
     }
+
+pub into_store-requires : goal.into_store-requires
+into_store-requires c = λ kind.
+    let all = c.args.behind.items in
+    let first = opening_entries c.args.opening in
+    let road = YieldsList-from_vec {s = c.into_iter-entry-iterator.result} all (search rules) (search rules) in
+    let done = YieldsList-end road c.loop-entry.yielded c.loop-entry.entry-iterator c.loop-entry.yielded_by c.next.result c.next.new.self c.in-None.is c.next.ensures.steps in
+    let whole : opening_entries c.loop-entry.opening ≡ first ++ all = c.loop-entry.invariant.grown ∙ ap (λ (es : List Entry). first ++ es) (sym (map-id c.loop-entry.yielded) ∙ done.0) in
+    let from = opening_floor c.args.opening kind in
+    subst (λ n. (n ≡ 0) ⊎ (is_answered_from kind (changes_of (opening_entries c.loop-entry.opening)) n ≡ false)) (sym (c.loop-entry.invariant.floors kind))
+    (subst (λ (es : List Entry). (from ≡ 0) ⊎ (is_answered_from kind (changes_of es) from ≡ false)) (sym whole) (c.requires.forgotten kind))
+
+pub returns-in-None-clause-entries : goal.returns-in-None-clause-entries
+returns-in-None-clause-entries c =
+    let all = c.args.behind.items in
+    let road = YieldsList-from_vec {s = c.into_iter-entry-iterator.result} all (search rules) (search rules) in
+    let done = YieldsList-end road c.loop-entry.yielded c.loop-entry.entry-iterator c.loop-entry.yielded_by c.next.result c.next.new.self c.in-None.is c.next.ensures.steps in
+    c.into_store.ensures.entries ∙ c.loop-entry.invariant.grown ∙ ap (λ (es : List Entry). opening_entries c.args.opening ++ es) (sym (map-id c.loop-entry.yielded) ∙ done.0)
+
+pub returns-in-None-clause-numbered : goal.returns-in-None-clause-numbered
+returns-in-None-clause-numbered c =
+    let all = c.args.behind.items in
+    let road = YieldsList-from_vec {s = c.into_iter-entry-iterator.result} all (search rules) (search rules) in
+    let done = YieldsList-end road c.loop-entry.yielded c.loop-entry.entry-iterator c.loop-entry.yielded_by c.next.result c.next.new.self c.in-None.is c.next.ensures.steps in
+    ap (λ (es : List Entry). are_numbered [] (changes_of es)) (sym (c.loop-entry.invariant.grown ∙ ap (λ (es : List Entry). opening_entries c.args.opening ++ es) (sym (map-id c.loop-entry.yielded) ∙ done.0)))
+    ∙ c.loop-entry.invariant.numbered
+
+pub returns-in_err-push-clause-refused : goal.returns-in_err-push-clause-refused
+returns-in_err-push-clause-refused c =
+    let all = c.args.behind.items in
+    let yielded = c.loop-entry.yielded in
+    let entry = c.in-Some.entry in
+    let first = opening_entries c.args.opening in
+    let road = YieldsList-from_vec {s = c.into_iter-entry-iterator.result} all (search rules) (search rules) in
+    let so_far = YieldsList-so_far road yielded c.loop-entry.entry-iterator c.loop-entry.yielded_by in
+    let turn = YieldsList-turn road yielded c.loop-entry.entry-iterator c.loop-entry.yielded_by c.next.result c.next.new.self entry c.in-Some.is c.next.ensures.steps in
+    let rest = drop (suc (length yielded)) all in
+    let split : first ++ all ≡ opening_entries c.loop-entry.opening ++ entry ∷ rest =
+    ap (λ (es : List Entry). first ++ es) (behind all yielded entry so_far turn) ∙ sym (append_assoc first yielded (entry ∷ rest)) ∙ ap (λ (es : List Entry). es ++ entry ∷ rest) (sym c.loop-entry.invariant.grown) in
+    let passed = err_from_is_err_and c.from_residual.result c.from_residual.ensures.1 in
+    rw (passed.1, passed.2) (λ kind id is. ap (λ (es : List Entry). are_numbered [] (changes_of es)) split ∙ unnumbered_all (opening_entries c.loop-entry.opening) rest entry (c.in_err-push.ensures.refused kind id is))
