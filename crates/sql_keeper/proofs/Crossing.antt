@@ -1,7 +1,7 @@
 -- A keeper over a file may go to another thread. A struct within another is told of by its row as a field, so that each search goes down one struct alone.
 use denote.RattleType.{RattleType}
 use denote.Param.Send.{IsSend, sendable}
-use Rattle.std.proofs.Crossing.{crosses, frees, send}
+use Rattle.std.proofs.Crossing.{crosses, frees}
 use Rattle.std.proofs.MapsCrossing.{BTreeMap-send}
 use Rattle.spec_json.specs.contracts.text.Text as text
 use Rattle.sql_keeper.specs.contracts.file_keeper.FileKeeper as file_keeper
@@ -67,7 +67,7 @@ rows_sent : IsSend account_rows.the_row
 rows_sent = search (texts_sent, kind_rows_sent, crosses, sendable) depth 60 fits 20000
 
 sql_keeper_sent : IsSend sql_keeper_row
-sql_keeper_sent = search (connection_sent, statement_sent, writing_sent, rows_sent, crosses, frees, send, sendable) depth 60 fits 20000
+sql_keeper_sent = search (connection_sent, statement_sent, writing_sent, rows_sent, crosses, frees, sendable) depth 60 fits 20000
 
 pub file_keeper_sent : IsSend file_keeper.the_row
 file_keeper_sent = search (sql_keeper_sent, crosses, sendable) depth 60 fits 20000

@@ -75,10 +75,24 @@ pub(crate) fn read_all<S: Alter>(
     let calendars = floor_of(conn, account, Kind::Calendar)?;
     let events = floor_of(conn, account, Kind::Event)?;
     let mut reading = Reading::new(alloc, account, calendars, events)?;
+    take_rows(alloc, conn, selection, account, &mut reading)?;
+    Ok(reading.finish()?)
+}
+
+// Takes all rows of an account.
+fn take_rows<S: Alter>(
+    alloc: Global,
+    conn: &mut Connection<S>,
+    selection: &Statement,
+    account: &str,
+    reading: &mut Reading,
+) -> Result<(), Trouble>
+    ensures { IfErr result (λ t. (place : _) (text : _) → t ≡ Trouble.Text (AnyJournalError.Damaged place text) → IsNoEntryText text.items) }
+{
     let mut rows = rows_of(conn, selection, account)?;
     for _ in 0..u64::MAX {
-        if !take_next(alloc, &mut reading, &mut rows)? {
-            return Ok(reading.finish()?);
+        if !take_next(alloc, reading, &mut rows)? {
+            return Ok(());
         }
     }
     Err(Trouble::Text(JournalError::Failed))
