@@ -39,7 +39,10 @@ fn one_more(count: u64) -> u64
 
 impl<S: Alter + Drop + 'static> SqlKeeper<S> {
     // Reads the rows of the accounts of these texts, where they aren't known.
-    fn learn(&mut self, texts: &[KeptText]) -> Result<(), Error> {
+    fn learn(&mut self, texts: &[KeptText]) -> Result<(), Error>
+        ensures faults { self.new.faults ≡ self.old.faults }
+        ensures damages { self.new.damages ≡ self.old.damages }
+    {
         for text in texts {
             if rows_of(&mut self.accounts, text.account()).is_none() {
                 self.learn_one(text.account())?;
@@ -49,7 +52,10 @@ impl<S: Alter + Drop + 'static> SqlKeeper<S> {
     }
 
     // A journal that is damaged takes nothing more.
-    fn learn_one(&mut self, account: &str) -> Result<(), Error> {
+    fn learn_one(&mut self, account: &str) -> Result<(), Error>
+        ensures faults { self.new.faults ≡ self.old.faults }
+        ensures damages { self.new.damages ≡ self.old.damages }
+    {
         match read_all(self.alloc, &mut self.conn, &self.selection, account) {
             Ok((_, rows)) => match put_rows(&mut self.accounts, rows) {
                 Ok(()) => Ok(()),
@@ -62,7 +68,10 @@ impl<S: Alter + Drop + 'static> SqlKeeper<S> {
     }
 
     // Keeps texts in one transaction.
-    fn write(&mut self, texts: &[KeptText]) -> Result<(), Error> {
+    fn write(&mut self, texts: &[KeptText]) -> Result<(), Error>
+        ensures faults { self.new.faults ≡ self.old.faults }
+        ensures damages { self.new.damages ≡ self.old.damages }
+    {
         self.learn(texts)?;
         insert_all(&mut self.conn, &self.writing, &mut self.accounts, texts)
     }

@@ -3,6 +3,8 @@ use Rattle.std.proofs.Common.{◌≡◌, ◌⊎◌, ◌<◌, ◌+◌, ◌-◌, �
 use Rattle.std.proofs.lemmas.Bool.{and_left, false≢true}
 use Rattle.std.proofs.lemmas.List.{drop_more, length-map, map-append, map-id, take-append-drop, take_at}
 use Rattle.std.proofs.lemmas.List.Sums.{sum_by-cons}
+use Rattle.account_store.specs.Opening.{opening_entries, opening_floor}
+use Rattle.account_store.specs.declared.opening.OpeningStore.{OpeningStore}
 use Rattle.spec_history.specs.History.{changes_of, count_of_kind, is_kind}
 use Rattle.spec_history.specs.declared.entry.Change.{Change}
 use Rattle.spec_history.specs.declared.entry.Entry.{Entry}
@@ -92,3 +94,14 @@ module _ (es : List Entry) (k : KeptHistory) (h : IsKeptFrom es k) where
 
   pub front_forgotten : (kind : Kind) → ((floor_of k kind).state ≡ 0) ⊎ (is_answered_from kind (changes_of (front ++ k.behind.items)) (floor_of k kind).state ≡ false)
   front_forgotten kind = subst (λ (l : List Entry). ((floor_of k kind).state ≡ 0) ⊎ (is_answered_from kind (changes_of l) (floor_of k kind).state ≡ false)) (sym front_whole) (h.forgotten kind)
+
+  -- and so it is of a store that goes on from there
+  pub forgotten_at : (o : OpeningStore) → opening_entries o ≡ front → opening_floor o Calendar ≡ k.calendars.state → opening_floor o Event ≡ k.events.state
+      → (kind : Kind) → (opening_floor o kind ≡ 0) ⊎ (is_answered_from kind (changes_of (opening_entries o ++ k.behind.items)) (opening_floor o kind) ≡ false)
+  forgotten_at o is calendars events kind =
+      subst (λ n. (n ≡ 0) ⊎ (is_answered_from kind (changes_of (opening_entries o ++ k.behind.items)) n ≡ false)) (sym (at kind))
+      (subst (λ (l : List Entry). ((floor_of k kind).state ≡ 0) ⊎ (is_answered_from kind (changes_of (l ++ k.behind.items)) (floor_of k kind).state ≡ false)) (sym is) (front_forgotten kind))
+    where
+      at : (kind : Kind) → opening_floor o kind ≡ (floor_of k kind).state
+      at Calendar = calendars
+      at Event = events

@@ -50,15 +50,15 @@ into_store-requires c = λ kind.
     subst (λ n. (n ≡ 0) ⊎ (is_answered_from kind (changes_of (opening_entries c.loop-entry.opening)) n ≡ false)) (sym (c.loop-entry.invariant.floors kind))
     (subst (λ (es : List Entry). (from ≡ 0) ⊎ (is_answered_from kind (changes_of es) from ≡ false)) (sym whole) (c.requires.forgotten kind))
 
-pub returns-in-None-clause-entries : goal.returns-in-None-clause-entries
-returns-in-None-clause-entries c =
+pub returns-clause-entries : goal.returns-clause-entries
+returns-clause-entries c =
     let all = c.args.behind.items in
     let road = YieldsList-from_vec {s = c.into_iter-entry-iterator.result} all (search rules) (search rules) in
     let done = YieldsList-end road c.loop-entry.yielded c.loop-entry.entry-iterator c.loop-entry.yielded_by c.next.result c.next.new.self c.in-None.is c.next.ensures.steps in
     c.into_store.ensures.entries ∙ c.loop-entry.invariant.grown ∙ ap (λ (es : List Entry). opening_entries c.args.opening ++ es) (sym (map-id c.loop-entry.yielded) ∙ done.0)
 
-pub returns-in-None-clause-numbered : goal.returns-in-None-clause-numbered
-returns-in-None-clause-numbered c =
+pub returns-clause-numbered : goal.returns-clause-numbered
+returns-clause-numbered c =
     let all = c.args.behind.items in
     let road = YieldsList-from_vec {s = c.into_iter-entry-iterator.result} all (search rules) (search rules) in
     let done = YieldsList-end road c.loop-entry.yielded c.loop-entry.entry-iterator c.loop-entry.yielded_by c.next.result c.next.new.self c.in-None.is c.next.ensures.steps in
