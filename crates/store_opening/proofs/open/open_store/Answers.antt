@@ -60,3 +60,6 @@ returns-clause-refused c =
     IfErr-weaker c.push_all.result (λ (e : StoreError). (kind : Kind) (id : ℕ) → e ≡ BadChange kind id → are_numbered [] (changes_of (opened ++ behind)) ≡ false)
     (λ (e : StoreError). (kind : Kind) (id : ℕ) → e ≡ BadChange kind id → are_numbered [] (changes_of told) ≡ true → length told ≤ 2 ^ 40 → ⊥)
     (λ e refused kind id is numbered few. false≢true (sym (refused kind id is) ∙ ap (λ (es : List Entry). are_numbered [] (changes_of es)) whole ∙ numbered)) c.push_all.ensures.refused
+
+pub returns-in_default-clause-refused : goal.returns-in_default-clause-refused
+returns-in_default-clause-refused c = λ kind id is numbered few. omega (arith, c.in_default.ensures.none, few, whole_count c.args.loaded.told.items c.args.loaded.kept c.requires)
