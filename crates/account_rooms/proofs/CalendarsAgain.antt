@@ -1,10 +1,10 @@
 -- Rooms after a calendar that is put under a number that none had, whichever it is.
-use Rattle.std.proofs.Common.{◌≡◌, ◌∙◌, ◌≤◌, ◌==◌, ◌++◌, ℕ, List, [], ◌∷◌, Bool, true, false, Option, Some, None, length, if◌then◌else◌, arith, refl, sym, ap, subst}
+use Rattle.std.proofs.Common.{◌≡◌, ◌∙◌, ◌≤◌, ◌==◌, ◌++◌, ℕ, List, [], ◌∷◌, Bool, true, false, Some, None, length, if◌then◌else◌, arith, refl, sym, ap, subst}
 use Rattle.std.proofs.lemmas.Option.{none-some}
 use Rattle.account_rooms.proofs.Changes.{calendar_bookings, calendar_now, change, is_of_resource, resource_now}
 use Rattle.account_rooms.proofs.Following.{created_rooms, not_live}
 use Rattle.account_rooms.specs.RoomChanges.{rooms_by}
-use Rattle.account_rooms.specs.Rooms.{AreRooms, BookedRoom, rooms_at}
+use Rattle.account_rooms.specs.Rooms.{AreRooms, BookedRoom}
 use Rattle.spec_bookings.proofs.Tables.{same_number}
 use Rattle.spec_bookings.specs.BookedResources.{bookings_of}
 use Rattle.spec_bookings.specs.Free.{IsFree}

@@ -12,14 +12,13 @@ use Rattle.spec_bookings.specs.declared.booking.Booking.{Booking}
 use Rattle.spec_bookings.specs.declared.limits.TheConstants.{MAX_BOOKINGS}
 use Rattle.spec_history.specs.History.{ids_at, live_object}
 use Rattle.spec_history.specs.declared.entry.Change.{Change}
-use Rattle.spec_history.specs.declared.entry.Kind.{Kind}
 use Rattle.spec_history.specs.declared.entry.Kind.TheVariants.{Calendar, Event}
 use Rattle.spec_json.proofs.InOrderLemmas.{in_order_filter}
 use Rattle.spec_json.specs.InOrder.{in_order}
 use Rattle.spec_json.specs.declared.tree.Tree.{Tree}
 use Rattle.spec_site.specs.TimeZones.{ZoneText}
 use Rattle.account_rooms.specs.PutAgain.{ArePutAgain}
-use Rattle.account_rooms.specs.Rooms.{AreFree, AreRooms, BookedRoom, room_at, rooms_at}
+use Rattle.account_rooms.specs.Rooms.{AreRooms, BookedRoom, room_at}
 
 -- leaving out what another test leaves out too
 weaker_by : (p q : ℕ → Bool) (n : ℕ) (ns ms : List ℕ) (a b : Bool) → p n ≡ a → q n ≡ b → (a ≡ true → b ≡ true) → filter p ms ≡ filter p ns → filter p (cond b (n ∷ ms) ms) ≡ cond a (n ∷ filter p ns) (filter p ns)

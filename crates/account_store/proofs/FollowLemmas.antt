@@ -1,5 +1,5 @@
 -- A log that follows a history, with one entry more.
-use Rattle.std.proofs.Common.{◌≡◌, ◌≤◌, ◌<◌, ◌+◌, ◌-◌, ◌==◌, ◌&&◌, ◌||◌, ℕ, suc, List, [], ◌∷◌, ◌++◌, Bool, true, false, cond, Option, None, Some, append-nil, drop, filter, is_some, length, map, option_map, arith, refl, sym, ap, ◌∙◌, ⊎_elim, length-append}
+use Rattle.std.proofs.Common.{◌≡◌, ◌≤◌, ◌<◌, ◌-◌, ◌==◌, ◌&&◌, ◌||◌, ℕ, suc, List, [], ◌∷◌, ◌++◌, Bool, true, false, cond, Option, None, Some, append-nil, drop, filter, is_some, length, map, option_map, arith, refl, sym, ap, ◌∙◌, ⊎_elim, length-append}
 use Rattle.std.specs.Prelude.{nat_le}
 use Rattle.std.proofs.lemmas.Bool.{and_cases, and_left, and_right, cases_lt, leb-false, lt-leb}
 use Rattle.std.proofs.lemmas.List.{drop-append-le, map_push}

@@ -1,5 +1,5 @@
 -- What a store answers from, once it is open.
-use Rattle.std.proofs.Common.{◌≡◌, ◌≤◌, ◌<◌, ◌⊎◌, inl, inr, ◌&&◌, ℕ, List, false, length, arith, sym, ◌∙◌, ⊎_elim}
+use Rattle.std.proofs.Common.{◌≡◌, ◌≤◌, ◌<◌, ◌⊎◌, ◌&&◌, ℕ, List, false, length, arith, sym, ◌∙◌, ⊎_elim}
 use Rattle.std.specs.Prelude.{nat_le}
 use Rattle.std.proofs.lemmas.Bool.{and_left, cases_lt, lt-leb}
 use Rattle.object_log.proofs.HistoryLemmas.{shows_known}

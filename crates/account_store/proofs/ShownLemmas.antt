@@ -1,5 +1,5 @@
 -- What a store shows of a kind, by the log of that kind.
-use Rattle.std.proofs.Common.{◌≡◌, ◌≤◌, ◌-◌, ◌&&◌, ℕ, Bool, true, List, Option, None, Some, drop, filter, length, option_map, Bor, arith, le-leb, refl, sym, ap, ◌∙◌}
+use Rattle.std.proofs.Common.{◌≡◌, ◌≤◌, ◌-◌, ◌&&◌, ℕ, true, List, Option, None, Some, drop, filter, length, option_map, Bor, arith, le-leb, refl, sym, ap, ◌∙◌}
 use Rattle.std.specs.Prelude.{nat_le, option_copied}
 use Rattle.account_store.specs.Earlier.{touched_ids}
 use Rattle.account_store.specs.Kept.{kept_event}

@@ -1,5 +1,5 @@
 -- A history of which nothing is forgotten.
-use Rattle.std.proofs.Common.{◌≡◌, ◌∙◌, ℕ, List, [], ◌++◌, true, inl, refl, sym, ap}
+use Rattle.std.proofs.Common.{◌≡◌, List, [], inl, refl, sym, ap}
 use Rattle.std.specs.List.{range_with_len}
 use Rattle.spec_history.specs.declared.entry.Entry.{Entry}
 use Rattle.spec_history.specs.declared.entry.Kind.{Kind}

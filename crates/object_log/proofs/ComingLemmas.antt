@@ -1,5 +1,5 @@
 -- When a change may come next.
-use Rattle.std.proofs.Common.{◌≡◌, ◌==◌, ◌||◌, ℕ, suc, List, Bool, true, false, Bor, Option, Some, None, arith, is_some, length, refl, sym, ap, ◌∙◌}
+use Rattle.std.proofs.Common.{◌≡◌, ◌==◌, ◌||◌, ℕ, suc, List, Bool, true, false, Bor, Option, Some, None, arith, is_some, length, refl, ap}
 use Rattle.std.specs.Prelude.{option_copied}
 use Rattle.std.proofs.lemmas.Bool.Decides.{nat_tests}
 use Rattle.object_log.specs.Puts.{ids_put, latest, may_come}

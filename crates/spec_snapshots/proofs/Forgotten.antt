@@ -1,14 +1,13 @@
 -- When no state up to a floor is answered from any more.
-use Rattle.std.proofs.Common.{◌≡◌, ◌∙◌, ◌⊎◌, inl, inr, ◌+◌, ◌-◌, ◌<◌, ◌≤◌, ◌&&◌, ℕ, List, ◌++◌, Bool, false, drop, filter, length, arith, refl, sym, ap}
+use Rattle.std.proofs.Common.{◌≡◌, ◌∙◌, ◌⊎◌, inl, inr, ◌+◌, ◌-◌, ◌<◌, ◌&&◌, List, ◌++◌, false, drop, arith, sym, ap}
 use Rattle.std.specs.Prelude.{nat_le}
 use Rattle.std.proofs.lemmas.Bool.{and_left, and_right, lt-leb}
-use Rattle.std.proofs.lemmas.List.{drop_at, map-append}
+use Rattle.std.proofs.lemmas.List.{drop_at}
 use Rattle.std.proofs.lemmas.List.Elements.{filter-append}
 use Rattle.std.proofs.lemmas.List.Sums.{length-filter, sum_by-append}
-use Rattle.spec_history.specs.History.{changes_of, count_of_kind, is_kind}
+use Rattle.spec_history.specs.History.{count_of_kind, is_kind}
 use Rattle.spec_history.specs.Pages.{window}
 use Rattle.spec_history.specs.declared.entry.Change.{Change}
-use Rattle.spec_history.specs.declared.entry.Entry.{Entry}
 use Rattle.spec_history.specs.declared.entry.Kind.{Kind}
 use Rattle.spec_sizes.specs.Sizes.{is_answered_from, of_kind, size_of, window_bytes}
 use Rattle.spec_snapshots.specs.Kept.{IsFloor}

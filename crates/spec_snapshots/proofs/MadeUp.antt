@@ -1,21 +1,19 @@
 -- A history that leaves what is kept, where some history does.
-use Rattle.std.proofs.Common.{◌≡◌, ◌∙◌, ◌+◌, ◌-◌, ◌≤◌, ◌<◌, ◌==◌, ◌&&◌, ◌||◌, not, cond, ℕ, zero, suc, List, [], ◌∷◌, ◌++◌, Bool, true, false, Option, Some, None, count_by, length, map, arith, refl, sym, ap, subst, if◌then◌else◌, pos}
+use Rattle.std.proofs.Common.{◌≡◌, ◌∙◌, ◌+◌, ◌-◌, ◌≤◌, ◌<◌, ◌==◌, ◌&&◌, ◌||◌, not, cond, ℕ, zero, suc, List, [], ◌∷◌, ◌++◌, Bool, true, false, Option, Some, None, length, arith, refl, sym, ap, subst, if◌then◌else◌}
 use Rattle.std.specs.Prelude.{nat_le}
 use Rattle.std.proofs.lemmas.Bool.{and_parts, false≢true, leb-true, le-leb, and_from}
 use Rattle.std.proofs.lemmas.Bool.Decides.{nat_tests}
-use Rattle.std.proofs.lemmas.List.Sums.{sum_by-append, sum_by-cons}
+use Rattle.std.proofs.lemmas.List.Sums.{sum_by-cons}
 use Rattle.std.proofs.lemmas.List.Folds.{list_any-append}
 use Rattle.std.specs.List.{range_with_len}
-use Rattle.spec_history.specs.History.{changes_of, count_of_kind, ids_at, ids_from, is_kind, live_object, names, object_from, with_id}
+use Rattle.spec_history.specs.History.{count_of_kind, ids_at, ids_from, is_kind, live_object, names, object_from, with_id}
 use Rattle.spec_history.specs.Pages.{is_in}
 use Rattle.spec_history.specs.declared.entry.Change.{Change}
-use Rattle.spec_history.specs.declared.entry.Entry.{Entry}
 use Rattle.spec_history.specs.declared.entry.Kind.{Kind}
 use Rattle.spec_history.specs.declared.entry.Kind.TheVariants.{Calendar, Event}
 use Rattle.spec_json.specs.declared.tree.Tree.{Tree}
 use Rattle.spec_json.specs.declared.tree.Tree.TheVariants.{Null}
 use Rattle.spec_snapshots.specs.Kept.{IsFloor, is_floor, object_among, rise_within}
-use Rattle.spec_snapshots.specs.declared.kept.KeptHistory.{KeptHistory}
 use Rattle.spec_snapshots.specs.declared.kept.KindFloor.{KindFloor}
 use Rattle.spec_snapshots.specs.declared.kept.LiveObject.{LiveObject}
 

@@ -1,5 +1,5 @@
 -- A history that leaves floors of both kinds.
-use Rattle.std.proofs.Common.{◌≡◌, ◌∙◌, ◌+◌, ◌==◌, ◌&&◌, ℕ, List, [], ◌∷◌, ◌++◌, Bool, true, false, Option, None, map, arith, refl, sym, ap, subst, if◌then◌else◌, pos}
+use Rattle.std.proofs.Common.{◌≡◌, ◌∙◌, ◌+◌, ◌==◌, ◌&&◌, ℕ, List, [], ◌∷◌, ◌++◌, true, false, Option, None, map, arith, refl, sym, ap, subst, if◌then◌else◌, pos}
 use Rattle.std.proofs.lemmas.List.Sums.{sum_by-append, sum_by-cons}
 use Rattle.spec_history.specs.History.{changes_of, count_of_kind, ids_at, ids_from, is_kind, live_object, names, object_from, with_id}
 use Rattle.spec_history.specs.Signed.{written_by}
@@ -9,7 +9,7 @@ use Rattle.spec_history.specs.declared.entry.Kind.{Kind}
 use Rattle.spec_history.specs.declared.entry.Kind.TheVariants.{Calendar, Event}
 use Rattle.spec_json.specs.declared.tree.Tree.{Tree}
 use Rattle.spec_snapshots.proofs.MadeUp.{AreOfKind, floor_past, one_if, past_leaves, past_of_kind}
-use Rattle.spec_snapshots.proofs.NumberedPast.{At, floor_numbered, join_numbered}
+use Rattle.spec_snapshots.proofs.NumberedPast.{floor_numbered, join_numbered}
 use Rattle.spec_snapshots.specs.Kept.{IsFloor, floor_of, is_floor}
 use Rattle.spec_snapshots.specs.Numbered.{are_numbered}
 use Rattle.spec_snapshots.specs.declared.kept.KeptHistory.{KeptHistory}

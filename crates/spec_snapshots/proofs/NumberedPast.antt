@@ -1,5 +1,5 @@
 -- Changes that are made up for a floor give the numbers of objects in order.
-use Rattle.std.proofs.Common.{◌≡◌, ◌∙◌, ◌+◌, ◌-◌, ◌==◌, ◌||◌, cond, ℕ, zero, suc, List, [], ◌∷◌, ◌++◌, append-nil, Bool, true, false, Option, Some, None, is_some, length, arith, refl, sym, ap, subst, if◌then◌else◌}
+use Rattle.std.proofs.Common.{◌≡◌, ◌∙◌, ◌+◌, ◌-◌, ◌==◌, ◌||◌, cond, ℕ, zero, suc, List, [], ◌∷◌, ◌++◌, append-nil, Bool, true, false, Option, Some, None, is_some, length, refl, sym, ap, subst, if◌then◌else◌}
 use Rattle.std.proofs.lemmas.Bool.{and_from, and_parts}
 use Rattle.std.specs.List.{range_with_len}
 use mathlib.Core.List.{append_assoc}
@@ -8,8 +8,7 @@ use Rattle.spec_history.specs.declared.entry.Change.{Change}
 use Rattle.spec_history.specs.declared.entry.Kind.{Kind}
 use Rattle.spec_json.specs.declared.tree.Tree.{Tree}
 use Rattle.spec_json.specs.declared.tree.Tree.TheVariants.{Null}
-use Rattle.spec_snapshots.proofs.MadeUp.{floor_past, itself, number_one, once, own_kind, padded, pads, past, put_again, put_next, put_one, step}
-use Rattle.spec_snapshots.specs.Kept.{is_floor}
+use Rattle.spec_snapshots.proofs.MadeUp.{floor_past, itself, number_one, once, padded, pads, past, put_again, put_next, put_one, step}
 use Rattle.spec_snapshots.specs.Numbered.{are_numbered, is_numbered}
 use Rattle.spec_snapshots.specs.declared.kept.KindFloor.{KindFloor}
 use Rattle.spec_snapshots.specs.declared.kept.LiveObject.{LiveObject}

@@ -1,6 +1,5 @@
-use Rattle.std.proofs.Common.{◌==◌, ◌||◌, ap, is_some, option_map, refl, sym, ◌∙◌}
+use Rattle.std.proofs.Common.{◌==◌, ◌||◌, ap, is_some, refl, sym, ◌∙◌}
 use Rattle.account_store.proofs.FollowLemmas.{may_come_told}
-use Rattle.account_store.specs.Kept.{kept_event}
 use Rattle.account_store.specs.declared.kept.KeptEvent.{KeptEvent}
 use Rattle.object_log.specs.declared.put.Put.{Put}
 use Rattle.spec_history.specs.History.{changes_of, live_object, next_number}

@@ -6,7 +6,6 @@ use Rattle.spec_sizes.specs.Sizes.{is_answered_from}
 use Rattle.account_store.proofs.ShownLemmas.{answered}
 use Rattle.object_log.proofs.HistoryLemmas.{shows_mentions}
 use Rattle.account_store.specs.declared.kept.KeptEvent.{KeptEvent}
-use Rattle.spec_history.specs.declared.entry.Kind.{Kind}
 use Rattle.spec_history.specs.declared.entry.Kind.TheVariants.{Calendar, Event}
 use Rattle.spec_history.specs.History.{changes_of}
 use Rattle.spec_json.specs.declared.tree.Tree.{Tree}

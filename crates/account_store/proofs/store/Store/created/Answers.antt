@@ -1,7 +1,6 @@
 use Rattle.std.proofs.Common.{ap, length, sym, ◌∙◌}
 use Rattle.object_log.proofs.HistoryLemmas.{shows_ids}
 use Rattle.account_store.specs.declared.kept.KeptEvent.{KeptEvent}
-use Rattle.spec_history.specs.declared.entry.Kind.{Kind}
 use Rattle.spec_history.specs.declared.entry.Kind.TheVariants.{Calendar, Event}
 use Rattle.spec_history.specs.History.{changes_of, ids_at}
 use Rattle.spec_json.specs.declared.tree.Tree.{Tree}

@@ -2,7 +2,6 @@ use Rattle.std.proofs.Common.{ap, option_map, ◌∙◌}
 use Rattle.account_store.proofs.ShownLemmas.{copied_object, told_from}
 use Rattle.object_log.proofs.HistoryLemmas.{shows_earlier}
 use Rattle.account_store.specs.declared.kept.KeptEvent.{KeptEvent}
-use Rattle.spec_history.specs.declared.entry.Kind.{Kind}
 use Rattle.spec_history.specs.declared.entry.Kind.TheVariants.{Event}
 use Rattle.spec_history.specs.History.{changes_of}
 use Rattle.account_store.proofs.store.Store.event_at.Goals as goal

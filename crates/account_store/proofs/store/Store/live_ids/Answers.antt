@@ -2,7 +2,6 @@ use Rattle.std.proofs.Common.{◌≡◌, ℕ, List, IfOk, ap, subst, sym, ◌∙
 use Rattle.account_store.specs.Earlier.{live_ids}
 use Rattle.account_store.proofs.FollowLemmas.{live_shown}
 use Rattle.account_store.specs.declared.kept.KeptEvent.{KeptEvent}
-use Rattle.spec_history.specs.declared.entry.Kind.{Kind}
 use Rattle.spec_history.specs.declared.entry.Kind.TheVariants.{Calendar, Event}
 use Rattle.spec_history.specs.History.{changes_of}
 use Rattle.spec_json.specs.declared.tree.Tree.{Tree}

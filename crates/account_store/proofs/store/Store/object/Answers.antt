@@ -4,7 +4,6 @@ use Rattle.object_log.specs.Puts.{latest}
 use Rattle.account_store.proofs.ShownLemmas.{as_it_is}
 use Rattle.object_log.proofs.HistoryLemmas.{shows_object}
 use Rattle.account_store.specs.declared.kept.KeptEvent.{KeptEvent}
-use Rattle.spec_history.specs.declared.entry.Kind.{Kind}
 use Rattle.spec_history.specs.declared.entry.Kind.TheVariants.{Calendar, Event}
 use Rattle.spec_history.specs.History.{changes_of, live_object}
 use Rattle.spec_json.specs.declared.tree.Tree.{Tree}

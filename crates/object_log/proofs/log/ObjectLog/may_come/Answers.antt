@@ -1,4 +1,4 @@
-use Rattle.std.proofs.Common.{◌≡◌, ◌+◌, ap, arith, is_some, length, suc, sym, ◌∙◌}
+use Rattle.std.proofs.Common.{◌≡◌, ap, arith, is_some, length, sym, ◌∙◌}
 use Rattle.std.proofs.lemmas.List.FromFn.{length-range_with_len}
 use Rattle.object_log.proofs.ComingLemmas.{copied_some, next_comes, other_comes}
 use Rattle.object_log.proofs.PutLemmas.{ids_few}

@@ -1,4 +1,4 @@
-use Rattle.std.proofs.Common.{◌≡◌, [], ap, arith, length, sym, List, ◌∙◌}
+use Rattle.std.proofs.Common.{[], ap, arith, length, sym, List, ◌∙◌}
 use Rattle.std.specs.List.{range_with_len}
 use Rattle.std.proofs.lemmas.List.{drop_all}
 use Rattle.object_log.proofs.PutLemmas.{length-pasts}
