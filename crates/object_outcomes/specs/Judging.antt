@@ -5,7 +5,6 @@ use Rattle.cal_model.specs.EventObject.{has_other_uid, names_missing_calendar}
 use Rattle.cal_model.specs.Operations.{update, destroy, with_name_if}
 use Rattle.cal_model.specs.Fits.{IsFit}
 use Rattle.cal_model.specs.Quota.{size_of_object}
-use Rattle.cal_model.specs.Sound.{is_sound}
 use Rattle.cal_model.specs.declared.outcome.Outcome.{Outcome}
 use Rattle.cal_model.specs.declared.outcome.Outcome.TheVariants.{Accepted, Refused}
 use Rattle.spec_history.specs.History.{live_object, next_number}
@@ -24,7 +23,6 @@ use Rattle.object_outcomes.specs.declared.operation.Operation.{Operation}
 use Rattle.object_outcomes.specs.declared.operation.Operation.TheVariants.{Update, Destroy}
 use Rattle.object_outcomes.specs.declared.setting.Judged.{Judged}
 use Rattle.object_outcomes.specs.declared.setting.Setting.{Setting}
-use Rattle.object_outcomes.specs.declared.sound.Sound.{Sound}
 
 abbrev pub ground_in : Setting → operations.Ground
 ground_in s = record { base = record { account_id = s.account.now; zones = s.zones.now; generation = s.generation }; moment = s.moment }
@@ -50,16 +48,6 @@ MayFollow zones cs (Refused e) size series = (size ≡ 0) × (series ≡ None)
 
 abbrev pub IsAllowed : List ZoneText → List Change → Judged → Type 0
 IsAllowed zones cs j = MayFollow zones cs j.outcome j.size j.series
-
--- what an accepted outcome stages, and nothing where it is refused
-abbrev pub sound_in : Outcome → ℕ → Option Series → Option Sound
-sound_in (Accepted c) size series = Some (record { change = c; size = size; series = series })
-sound_in (Refused e) size series = None
-
--- a change is found to be sound behind these, with what stages it, or not to be
-abbrev pub IsJudged : List ZoneText → List Change → Change → Option Sound → Type 0
-IsJudged zones cs c None = is_sound zones cs c ≡ false
-IsJudged zones cs c (Some s) = (s.change ≡ c) × MayFollow zones cs (Accepted s.change) s.size s.series
 
 -- an event of this series may be stored where there is room: no property is bad, none for its calendars, and no occurrence is too long for its resources
 pub record IsStorable (zones : List ZoneText) (cs : List Change) (d : Data) (series : Series) : Type 0 where

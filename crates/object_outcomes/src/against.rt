@@ -11,7 +11,7 @@ ghost use Rattle.spec_bookings.specs.Clashes.{IsClear};
 ghost use Rattle.spec_series.specs.Lengths.{IsWeekLong};
 ghost use Rattle.object_outcomes.specs.Judging.{IsStorable};
 
-use cal_model::view::AccountView;
+use cal_model::view::CalendarsView;
 use spec_bookings::clash::Clash;
 use spec_bookings::limits::is_full;
 use spec_json::tree::Tree;
@@ -28,7 +28,7 @@ pub struct Against {
 
 /// What stands against the bookings of an event of this series, of which no occurrence is too long for the resources that it is in.
 /// Where nothing does, each of these takes its booking. Takes no memory.
-pub fn stands_against<V: AccountView>(
+pub fn stands_against<V: CalendarsView>(
     view: &V,
     number: u64,
     event: &Tree,
@@ -56,7 +56,7 @@ pub fn stands_against<V: AccountView>(
 }
 
 // Whether one of these resources has as many bookings, beside that of an event, as it may have.
-fn is_any_full<V: AccountView>(view: &V, event: u64, resources: &[u64]) -> bool
+fn is_any_full<V: CalendarsView>(view: &V, event: u64, resources: &[u64]) -> bool
     requires { All (λ n. is_resource (V.changes view.now) n ≡ true) resources.now }
     ensures { result ≡ list_any (λ n. nat_le MAX_BOOKINGS (length (other_bookings (V.base view.now).zones (V.changes view.now) event n))) resources.now }
 {
@@ -69,7 +69,7 @@ fn is_any_full<V: AccountView>(view: &V, event: u64, resources: &[u64]) -> bool
 }
 
 // The first of these resources in which a series would clash with bookings beside that of an event, with the clash.
-fn first_clash<V: AccountView>(
+fn first_clash<V: CalendarsView>(
     view: &V,
     event: u64,
     resources: &[u64],

@@ -11,7 +11,7 @@ ghost use Rattle.spec_series.specs.Lengths.{are_week_long, is_week_long};
 ghost use Rattle.spec_series.specs.SeriesLimits.{wall_seconds};
 
 use crate::resources::resource_zone;
-use cal_model::view::AccountView;
+use cal_model::view::CalendarsView;
 use overrides::exceptions::{OverrideError, exceptions};
 use single_event::parts::given_length;
 use spec_json::text::Text;
@@ -28,14 +28,14 @@ const DAY: u64 = 86_400;
 const WEEK: u64 = 7 * DAY;
 
 /// Whether one of the resources that an event is in has another time zone than the event. Takes no memory.
-pub fn is_in_other_zone<V: AccountView>(view: &V, event: &Tree, resources: &[u64]) -> bool
+pub fn is_in_other_zone<V: CalendarsView>(view: &V, event: &Tree, resources: &[u64]) -> bool
     requires { resources.now ≡ resources_of (V.changes view.now) (data_of event.now) }
     ensures { result ≡ is_in_other_zone (V.changes view.now) (data_of event.now) }
 {
     !is_in_all(view, event, resources)
 }
 
-fn is_in_all<V: AccountView>(view: &V, event: &Tree, resources: &[u64]) -> bool
+fn is_in_all<V: CalendarsView>(view: &V, event: &Tree, resources: &[u64]) -> bool
     ensures { result ≡ list_all (λ n. option_map_or (is_in_zone (data_of event.now)) (resource_zone (V.changes view.now) n) true) resources.now }
 {
     for number in resources {
@@ -46,7 +46,7 @@ fn is_in_all<V: AccountView>(view: &V, event: &Tree, resources: &[u64]) -> bool
     true
 }
 
-fn is_in_zone_of<V: AccountView>(view: &V, event: &Tree, number: u64) -> bool
+fn is_in_zone_of<V: CalendarsView>(view: &V, event: &Tree, number: u64) -> bool
     ensures { result ≡ option_map_or (is_in_zone (data_of event.now)) (resource_zone (V.changes view.now) number) true }
 {
     match resource_zone(view, number) {
@@ -65,7 +65,7 @@ fn is_in_zone(event: &Tree, zone: &Text) -> bool
 }
 
 /// Whether an event that is in some resource lasts longer than 7 days. Takes no memory.
-pub fn is_long_booking<V: AccountView>(view: &V, event: &Tree, resources: &[u64]) -> bool
+pub fn is_long_booking<V: CalendarsView>(view: &V, event: &Tree, resources: &[u64]) -> bool
     requires { resources.now ≡ resources_of (V.changes view.now) (data_of event.now) }
     ensures { result ≡ is_long_booking (V.changes view.now) (data_of event.now) }
 {
@@ -90,7 +90,7 @@ pub fn has_long_exception(series: &Series, resources: &[u64]) -> bool
 }
 
 /// The same of an event that has bad properties. Overrides that an event may not have aren't looked at. Takes memory where overrides do.
-pub fn has_long_override<V: AccountView>(
+pub fn has_long_override<V: CalendarsView>(
     alloc: Global,
     view: &V,
     zones: &Zones,

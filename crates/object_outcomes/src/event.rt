@@ -28,7 +28,7 @@ use crate::resources::resources_of;
 use crate::setting::{Judged, Setting};
 use crate::texts::copies;
 use crate::uid::supplied_uid;
-use cal_model::view::AccountView;
+use cal_model::view::{AccountView, CalendarsView};
 use event_series::read::read_event;
 use single_event::read::EventError;
 use spec_history::entry::{Change, Kind};
@@ -57,7 +57,7 @@ pub(crate) fn event_outcome<V: AccountView>(
         (option_map (λ t. t.now) before.entry) names_id object) }
     ensures allowed { IfOk result (IsAllowed (V.base view.now).zones (V.changes view.now)) }
 {
-    view.has_sound_changes();
+    view.has_sound_objects();
     let _range = setting.moment.seconds();
     let given = given(alloc, object)?;
     let members = with_server_values(alloc, setting, number, before, given)?;
@@ -144,7 +144,7 @@ fn store<V: AccountView>(
 
 // These names, with those of the properties that are bad for the account and for what the event was before, and `id` where the client
 // may not give it. `is_long` says whether an override lets an occurrence last longer than that of a booking may.
-fn with_own_names<V: AccountView>(
+pub(crate) fn with_own_names<V: CalendarsView>(
     alloc: Global,
     view: &V,
     before: Option<&Tree>,
@@ -171,7 +171,7 @@ fn with_own_names<V: AccountView>(
 }
 
 // Puts what the resources that an event is in make bad among these names.
-fn note_booking<V: AccountView>(
+fn note_booking<V: CalendarsView>(
     alloc: Global,
     view: &V,
     is_long: bool,
@@ -198,7 +198,7 @@ fn note_booking<V: AccountView>(
 }
 
 // Whether a key of `calendarIds` is the id of a calendar that isn't live.
-fn names_missing_calendar<V: AccountView>(view: &V, event: &Tree) -> bool
+fn names_missing_calendar<V: CalendarsView>(view: &V, event: &Tree) -> bool
     ensures { result ≡ names_missing_calendar (V.changes view.now) (data_of event.now) }
 {
     match event.object_at("calendarIds") {
@@ -207,12 +207,12 @@ fn names_missing_calendar<V: AccountView>(view: &V, event: &Tree) -> bool
     }
 }
 
-fn are_live<V: AccountView>(view: &V, ids: &[Member]) -> bool
+fn are_live<V: CalendarsView>(view: &V, ids: &[Member]) -> bool
     ensures { result ≡ list_all (λ n. is_some (live_object (V.changes view.now) calendar_kind n)) (calendars_among (map pair_of ids.now)) }
 {
     for member in ids {
         if let Some(number) = read_object_id(Kind::Calendar, member.key.as_str().as_bytes()) {
-            if view.live(Kind::Calendar, number).is_none() {
+            if view.calendar(number).is_none() {
                 return false;
             }
         }

@@ -4,7 +4,7 @@ ghost use Rattle.spec_events.specs.Events.{names_calendar};
 ghost use Rattle.spec_json.specs.TreeData.{data_of};
 ghost use Rattle.spec_bookings.specs.Resources.{resource_zone, resources_of};
 
-use cal_model::view::AccountView;
+use cal_model::view::CalendarsView;
 use single_event::calendars::names_calendar;
 use spec_history::entry::Kind;
 use spec_json::text::Text;
@@ -12,7 +12,7 @@ use spec_json::tree::Tree;
 use std::alloc::{AllocError, Global};
 
 /// The numbers of the resource calendars that an event is in, in order of creation. Takes memory for them.
-pub fn resources_of<V: AccountView>(
+pub fn resources_of<V: CalendarsView>(
     alloc: Global,
     view: &V,
     event: &Tree,
@@ -36,8 +36,8 @@ fn named_among(alloc: Global, event: &Tree, numbers: &[u64]) -> Result<Vec<u64>,
 }
 
 /// The time zone of the resource that a calendar is of, if it is live and of one. Takes no memory.
-pub(crate) fn resource_zone<V: AccountView>(view: &V, number: u64) -> Option<&Text>
+pub(crate) fn resource_zone<V: CalendarsView>(view: &V, number: u64) -> Option<&Text>
     ensures { option_map (λ zone. zone.now) result ≡ resource_zone (V.changes view.now) number }
 {
-    view.live(Kind::Calendar, number)?.text_at("resourceZone")
+    view.calendar(number)?.text_at("resourceZone")
 }

@@ -8,9 +8,9 @@ use Rattle.object_outcomes.proofs.against.first_clash.Goals as goal
 
 pub loop-number-preserved : goal.loop-number-preserved
 loop-number-preserved g c = record {
-  first = passed_over (g.V.AccountView.base c.args.view.now).zones (g.V.AccountView.changes c.args.view.now) c.args.event c.args.series.now
+  first = passed_over (g.V.CalendarsView.base c.args.view.now).zones (g.V.CalendarsView.changes c.args.view.now) c.args.event c.args.series.now
       c.args.resources.now c.loop-number.number-index c.loop-number-test.true c.in_default.ensures.exact ∙ c.loop-number.invariant.first;
-  clear = All-more (λ n. IsClear (other_bookings (g.V.AccountView.base c.args.view.now).zones (g.V.AccountView.changes c.args.view.now) c.args.event n) c.args.series.now)
+  clear = All-more (λ n. IsClear (other_bookings (g.V.CalendarsView.base c.args.view.now).zones (g.V.CalendarsView.changes c.args.view.now) c.args.event n) c.args.series.now)
       c.args.resources.now c.loop-number.number-index 0 c.loop-number-test.true c.loop-number.invariant.clear c.in_default.ensures.clear;
 }
 

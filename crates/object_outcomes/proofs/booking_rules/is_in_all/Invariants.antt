@@ -8,5 +8,5 @@ use Rattle.object_outcomes.proofs.booking_rules.is_in_all.Given as goal
 
 abbrev pub invariant-loop-number : goal.invariant-loop-number
 invariant-loop-number g l =
-    list_all (λ n. option_map_or (is_in_zone (data_of l.event)) (resource_zone (g.V.AccountView.changes l.view) n) true) (drop l.number-index l.resources)
-    ≡ list_all (λ n. option_map_or (is_in_zone (data_of l.event)) (resource_zone (g.V.AccountView.changes l.view) n) true) l.resources
+    list_all (λ n. option_map_or (is_in_zone (data_of l.event)) (resource_zone (g.V.CalendarsView.changes l.view) n) true) (drop l.number-index l.resources)
+    ≡ list_all (λ n. option_map_or (is_in_zone (data_of l.event)) (resource_zone (g.V.CalendarsView.changes l.view) n) true) l.resources

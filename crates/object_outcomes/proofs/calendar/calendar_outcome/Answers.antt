@@ -7,7 +7,7 @@ use Rattle.object_outcomes.proofs.calendar.calendar_outcome.Goals as goal
 
 pub returns-clause-exact : goal.returns-clause-exact
 returns-clause-exact g c =
-    subst (λ d. IfOk c.stored_outcome.result (λ j. j.outcome ≡ stored_calendar_outcome c.args.setting.now.zones.now (g.V.AccountView.changes c.args.view.now)
+    subst (λ d. IfOk c.stored_outcome.result (λ j. j.outcome ≡ stored_calendar_outcome c.args.setting.now.zones.now (g.V.CalendarsView.changes c.args.view.now)
     c.args.number (option_map (λ t. t.now) c.args.before) c.args.names_id d)) c.in_ok-tree.ensures c.stored_outcome.ensures.exact
 
 pub stored_outcome-requires-clause-id : goal.stored_outcome-requires-clause-id

@@ -12,7 +12,7 @@ use Rattle.object_outcomes.proofs.calendar.store.Goals as goal
 
 pub returns-clause-exact : goal.returns-clause-exact
 returns-clause-exact g c =
-    let cs = g.V.AccountView.changes c.args.view.now in
+    let cs = g.V.CalendarsView.changes c.args.view.now in
     let object = c.in_ok-object.ensures ∙ ap (λ p. Object (stored p)) c.requires.calendar in
     subst (λ b. IfOk c.within_quota.result (λ j. j.outcome ≡ within_quota cs b None (put Calendar c.args.number (stored (calendar_in (data_of c.args.tree.now)))))) c.in_ok-exceeds_resources.ensures
     (subst (λ t. IfOk c.within_quota.result (λ j. j.outcome ≡ within_quota cs c.in_ok-exceeds_resources.field-0 None record { kind = Calendar; id = c.args.number; object = Some t }))
@@ -20,8 +20,8 @@ returns-clause-exact g c =
 
 pub within_quota-requires-clause-sound : goal.within_quota-requires-clause-sound
 within_quota-requires-clause-sound g c fits =
-    let zones = (g.V.AccountView.base c.args.view.now).zones in
-    let cs = g.V.AccountView.changes c.args.view.now in
+    let zones = (g.V.CalendarsView.base c.args.view.now).zones in
+    let cs = g.V.CalendarsView.changes c.args.view.now in
     let n = c.args.number in
     let d = data_of c.args.tree.now in
     let object = c.in_ok-object.ensures ∙ ap (λ p. Object (stored p)) c.requires.calendar in

@@ -11,7 +11,7 @@ use Rattle.object_outcomes.proofs.calendar.stored_outcome.Goals as goal
 pub returns-in_ok-names-in-Err-BadCalendar-2-clause-exact : goal.returns-in_ok-names-in-Err-BadCalendar-2-clause-exact
 returns-in_ok-names-in-Err-BadCalendar-2-clause-exact g c =
     let zones = c.args.zones.now in
-    let cs = g.V.AccountView.changes c.args.view.now in
+    let cs = g.V.CalendarsView.changes c.args.view.now in
     let before = option_map (λ t. t.now) c.args.before in
     let d = data_of c.args.tree.now in
     let bad = rw c.in-Err-BadCalendar.field-0-is at c.in-Err-BadCalendar.ensures.err in
@@ -25,7 +25,7 @@ returns-in_ok-names-in-Err-BadCalendar-2-clause-exact g c =
 pub returns-then-is_empty-clause-exact : goal.returns-then-is_empty-clause-exact
 returns-then-is_empty-clause-exact g c =
     let zones = c.args.zones.now in
-    let cs = g.V.AccountView.changes c.args.view.now in
+    let cs = g.V.CalendarsView.changes c.args.view.now in
     let before = option_map (λ t. t.now) c.args.before in
     let d = data_of c.args.tree.now in
     let names = c.in_ok-names-in-Ok.names in

@@ -8,5 +8,5 @@ use Rattle.object_outcomes.proofs.event.are_live.Given as goal
 
 abbrev pub invariant-loop-member : goal.invariant-loop-member
 invariant-loop-member g l =
-    list_all (λ n. is_some (live_object (g.V.AccountView.changes l.view) Calendar n)) (calendars_among (map pair_of (drop l.member-index l.ids)))
-    ≡ list_all (λ n. is_some (live_object (g.V.AccountView.changes l.view) Calendar n)) (calendars_among (map pair_of l.ids))
+    list_all (λ n. is_some (live_object (g.V.CalendarsView.changes l.view) Calendar n)) (calendars_among (map pair_of (drop l.member-index l.ids)))
+    ≡ list_all (λ n. is_some (live_object (g.V.CalendarsView.changes l.view) Calendar n)) (calendars_among (map pair_of l.ids))

@@ -16,8 +16,8 @@ within_quota-requires-clause-series g c = sym c.requires.event.valid
 
 pub within_quota-requires-clause-sound : goal.within_quota-requires-clause-sound
 within_quota-requires-clause-sound g c fits =
-    let zones = (g.V.AccountView.base c.args.view.now).zones in
-    let cs = g.V.AccountView.changes c.args.view.now in
+    let zones = (g.V.CalendarsView.base c.args.view.now).zones in
+    let cs = g.V.CalendarsView.changes c.args.view.now in
     let change : Change = record { kind = Event; id = c.args.number; object = Some c.args.event } in
     let against = c.stands_against-against.result in
     tree_sound zones cs c.args.number c.args.event c.requires.number c.requires.form c.requires.valid

@@ -16,7 +16,7 @@ use Rattle.object_outcomes.proofs.event.stored_outcome.Goals as goal
 pub store-requires-clause-event : goal.store-requires-clause-event
 store-requires-clause-event g c =
     let zones = c.args.zones.now in
-    let cs = g.V.AccountView.changes c.args.view.now in
+    let cs = g.V.CalendarsView.changes c.args.view.now in
     let before = option_map (λ t. t.now) c.args.before in
     let d = object (members_of c.args.members) in
     let series = c.in-Ok.series in
@@ -31,7 +31,7 @@ store-requires-clause-event g c =
 pub store-requires-clause-valid : goal.store-requires-clause-valid
 store-requires-clause-valid g c =
     let zones = c.args.zones.now in
-    let cs = g.V.AccountView.changes c.args.view.now in
+    let cs = g.V.CalendarsView.changes c.args.view.now in
     let before = option_map (λ t. t.now) c.args.before in
     let d = object (members_of c.args.members) in
     let series = c.in-Ok.series in
@@ -45,12 +45,12 @@ store-requires-clause-valid g c =
     (again_valid zones cs c.args.number before c.args.names_id d c.requires.before (sym told ∙ none))
 
 pub store-requires-clause-number : goal.store-requires-clause-number
-store-requires-clause-number g c = number_of (g.V.AccountView.changes c.args.view.now) Event c.args.number (option_map (λ t. t.now) c.args.before) c.requires.before
+store-requires-clause-number g c = number_of (g.V.CalendarsView.changes c.args.view.now) Event c.args.number (option_map (λ t. t.now) c.args.before) c.requires.before
 
 pub returns-then-is_empty-clause-exact : goal.returns-then-is_empty-clause-exact
 returns-then-is_empty-clause-exact g c =
     let zones = c.args.zones.now in
-    let cs = g.V.AccountView.changes c.args.view.now in
+    let cs = g.V.CalendarsView.changes c.args.view.now in
     let before = option_map (λ t. t.now) c.args.before in
     let d = object (members_of c.args.members) in
     let series = c.in-Ok.series in
@@ -67,7 +67,7 @@ returns-then-is_empty-clause-exact g c =
 pub returns-in-Ok-clause-exact : goal.returns-in-Ok-clause-exact
 returns-in-Ok-clause-exact g c =
     let zones = c.args.zones.now in
-    let cs = g.V.AccountView.changes c.args.view.now in
+    let cs = g.V.CalendarsView.changes c.args.view.now in
     let before = option_map (λ t. t.now) c.args.before in
     let d = object (members_of c.args.members) in
     let series = c.in-Ok.series in
@@ -82,7 +82,7 @@ returns-in-Ok-clause-exact g c =
 pub returns-in-Err-BadEvent-clause-exact : goal.returns-in-Err-BadEvent-clause-exact
 returns-in-Err-BadEvent-clause-exact g c =
     let zones = c.args.zones.now in
-    let cs = g.V.AccountView.changes c.args.view.now in
+    let cs = g.V.CalendarsView.changes c.args.view.now in
     let before = option_map (λ t. t.now) c.args.before in
     let d = object (members_of c.args.members) in
     let bad = rw c.in-Err-BadEvent.field-0-is at c.in-Err-BadEvent.ensures.err in

@@ -21,9 +21,9 @@ returns g c =
     let ids = c.args.made.now.ids in
     let named = c.in_ok-named.named.items in
     let same_generation = ap (λ b. b.generation) (c.run-2.ensures.base ∙ c.run.ensures.base) ∙ c.requires.generation in
-    let c1 = g.V.AccountView.changes c.args.view.now in
-    let c2 = g.V.AccountView.changes c.run.new.view in
-    let c3 = g.V.AccountView.changes c.run-2.new.view in
+    let c1 = g.V.CalendarsView.changes c.args.view.now in
+    let c2 = g.V.CalendarsView.changes c.run.new.view in
+    let c3 = g.V.CalendarsView.changes c.run-2.new.view in
     let is_named : named ≡ ids_named ids s.destroys = c.in_ok-named.ensures ∙ ap (ids_named ids) c.destroys.ensures in
     let asked : map operation_in c.in_ok-to_update.to_update.items ≡ updates_after ids named [] s.updates =
     c.in_ok-to_update.ensures ∙ ap (λ ns. updates_after ids ns [] (map pair_of c.updates.result.now)) c.deref.ensures.value ∙ ap (updates_after ids named []) c.updates.ensures in

@@ -9,12 +9,12 @@ abbrev pub invariant-loop-member : goal.invariant-loop-member
 invariant-loop-member g l = record {
   count : vec_len l.outcomes ≡ l.member-index;
   entries : g.V.AccountView.entries l.view ≡ g.V.AccountView.entries l.initial.view;
-  base : g.V.AccountView.base l.view ≡ g.V.AccountView.base l.initial.view;
-  changes : g.V.AccountView.changes l.view ≡ g.V.AccountView.changes l.initial.view ++ flat_map changes_in l.outcomes.items;
-  rest : l.outcomes.items ++ outcomes_of_creates (ground_in l.setting) l.setting.kind l.ids (g.V.AccountView.changes l.view) (map pair_of (drop l.member-index l.creates))
-      ≡ outcomes_of_creates (ground_in l.setting) l.setting.kind l.initial.ids (g.V.AccountView.changes l.initial.view) (map pair_of l.creates);
+  base : g.V.CalendarsView.base l.view ≡ g.V.CalendarsView.base l.initial.view;
+  changes : g.V.CalendarsView.changes l.view ≡ g.V.CalendarsView.changes l.initial.view ++ flat_map changes_in l.outcomes.items;
+  rest : l.outcomes.items ++ outcomes_of_creates (ground_in l.setting) l.setting.kind l.ids (g.V.CalendarsView.changes l.view) (map pair_of (drop l.member-index l.creates))
+      ≡ outcomes_of_creates (ground_in l.setting) l.setting.kind l.initial.ids (g.V.CalendarsView.changes l.initial.view) (map pair_of l.creates);
   added : l.ids ++ of_each created_id (map pair_of (drop l.member-index l.creates))
-      (outcomes_of_creates (ground_in l.setting) l.setting.kind l.ids (g.V.AccountView.changes l.view) (map pair_of (drop l.member-index l.creates)))
+      (outcomes_of_creates (ground_in l.setting) l.setting.kind l.ids (g.V.CalendarsView.changes l.view) (map pair_of (drop l.member-index l.creates)))
       ≡ l.initial.ids ++ of_each created_id (map pair_of l.creates)
-      (outcomes_of_creates (ground_in l.setting) l.setting.kind l.initial.ids (g.V.AccountView.changes l.initial.view) (map pair_of l.creates));
+      (outcomes_of_creates (ground_in l.setting) l.setting.kind l.initial.ids (g.V.CalendarsView.changes l.initial.view) (map pair_of l.creates));
 }
