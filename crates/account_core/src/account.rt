@@ -8,11 +8,13 @@ use crate::changes::changes;
 use crate::get::get;
 use crate::keeping::EntryKeeper;
 use crate::ledger::Ledger;
-use crate::opening::{EntriesError, open_at};
+use crate::opening::open_at;
 use crate::queries::{availability, query, query_changes};
 use crate::set::set;
 use crate::slots::{find_slot, slot};
 use crate::trail::Trail;
+use account_opening::OpeningError;
+use journal_keeper::loaded::Loaded;
 use resource_book::Room;
 use slot_request::SlotRequest;
 use spec_bookings::clash::Clash;
@@ -52,19 +54,21 @@ impl Model for Account {
 
     ghost view = { λ a. (base a.ledger, ledger_entries a.ledger) };
 
-    ghost invariant = { λ a. (staged a.ledger ≡ []) × HasCopies a.trail (ledger_entries a.ledger) };
+    ghost invariant = { λ a. (staged a.ledger ≡ []) × HasCopies (base a.ledger).zones a.trail (ledger_entries a.ledger) };
 }
 
 impl Account {
     ghost use Rattle.std.specs.Arc.{arc_value};
     ghost use Rattle.std.specs.Prelude.{◌≤◌, IfErr, IfNone, IfSome, drop, false, length, option_map, true};
-    ghost use Rattle.account_core.specs.Opening.{IsRefusal};
+    ghost use Rattle.account_core.specs.Trails.{AreSoundFrom};
+    ghost use Rattle.account_opening.specs.Opening.{IsRefusal};
     ghost use Rattle.account_rooms.specs.Covered.{AreCoveredOnce};
     ghost use Rattle.account_rooms.specs.Rooms.{AreFree};
-    ghost use Rattle.cal_model.specs.Sound.{unsound_place};
+    ghost use Rattle.cal_model.specs.GoesOn.{GoesOn};
     ghost use Rattle.slot_request.specs.Shown.{request_shown};
     ghost use Rattle.slot_request.specs.Told.{AreTold};
     ghost use Rattle.spec_history.specs.History.{changes_of};
+    ghost use Rattle.spec_snapshots.specs.Kept.{IsKeptFrom};
     ghost use Rattle.spec_bookings.specs.BookedResources.{bookings_of, other_bookings};
     ghost use Rattle.spec_bookings.specs.Resources.{is_resource};
     ghost use Rattle.spec_bookings.specs.Clashes.{IsClash, IsClear, first_clash, second_of};
@@ -87,34 +91,34 @@ impl Account {
         })
     }
 
-    /// An account of this id, with these zones, in this generation of the data, that goes on from these entries. Its resources have the
+    /// An account of this id, with these zones, in this generation of the data, that goes on from what is kept of its history. Its resources have the
     /// bookings of these entries.
     ///
-    /// `BadEntries` tells the place of the first entry that isn't sound behind those before it. The entries may be of any authors, turns
-    /// and moments. Takes memory for what an account keeps of its entries.
+    /// `BadObject` tells an object for which no account goes on from them. The entries may be of any authors, turns and moments. Takes memory for what an account keeps
+    /// of its entries.
     pub fn open_at(
         alloc: Global,
         id: Text,
         zones: Arc<Zones>,
         generation: u64,
-        entries: Vec<Entry>,
-    ) -> Result<Account, EntriesError>
-        ensures opened { IfOk result (λ a. a ≡ (record { account_id = id; zones = arc_value zones; generation = generation }, entries.items)) }
-        ensures sound { OnOk result (unsound_place (arc_value zones) (changes_of entries.items) ≡ None) }
-        ensures refused { IfErr result (IsRefusal (unsound_place (arc_value zones) (changes_of entries.items))) }
+        loaded: Loaded,
+    ) -> Result<Account, OpeningError>
+        requires { IsKeptFrom loaded.told.items loaded.kept }
+        ensures opened { IfOk result (λ a. a ≡ (record { account_id = id; zones = arc_value zones; generation = generation }, loaded.told.items)) }
+        ensures goes_on { OnOk result (GoesOn (arc_value zones) (changes_of loaded.told.items)) }
+        ensures refused { IfErr result (IsRefusal (arc_value zones) (changes_of loaded.told.items)) }
     {
         Ok(Account {
-            ledger: open_at(alloc, id, zones, generation, entries)?,
+            ledger: open_at(alloc, id, zones, generation, loaded)?,
             trail: Trail::none(alloc),
         })
     }
 
-    /// Each entry is sound behind those before it, so that the account opens again at its entries. It is so of each account, whatever
-    /// sets it took, and this call does nothing.
-    pub fn has_sound_entries(&self)
-        ensures { unsound_place self.now.0.zones (changes_of self.now.1) ≡ None }
+    /// An account goes on from its entries. It is so of each account, whatever sets it took, and this call does nothing.
+    pub fn goes_on(&self)
+        ensures { GoesOn self.now.0.zones (changes_of self.now.1) }
     {
-        self.ledger.has_sound_entries();
+        self.ledger.goes_on();
     }
 
     /// Answers a call, keeps the entries that it adds, and adds them once they are kept. Where they could not be kept the reply tells so, and nothing is added.
@@ -146,7 +150,8 @@ impl Account {
     /// The entries from a place on, where all of them came since the last mark. Takes no memory.
     pub fn added_since(&self, place: u64) -> Option<&[Entry]>
         requires { place ≤ length self.now.1 }
-        ensures { IfSome result (λ es. es.now ≡ drop place self.now.1) }
+        ensures entries { IfSome result (λ es. es.now ≡ drop place self.now.1) }
+        ensures sound { IfSome result (λ es. AreSoundFrom self.now.0.zones place self.now.1) }
     {
         match self.trail.first {
             Some(first) if first <= place => Some(self.trail.since(first, place)),

@@ -1,10 +1,9 @@
 //! What keeps the entries of a call before the account has them.
-ghost use Rattle.std.specs.Prelude.{◌≡◌, ◌≤◌, ◌^◌, ◌++◌, Err, List, None, OnErr, OnOk, Option, Some, length};
+ghost use Rattle.std.specs.Prelude.{◌≡◌, ◌≤◌, ◌^◌, ◌++◌, Err, List, OnErr, OnOk, Option, Some, length};
+ghost use Rattle.account_core.specs.Staged.{MayBeKept};
 ghost use Rattle.cal_model.specs.Answer.{entries_from, unkept_answer};
-ghost use Rattle.cal_model.specs.Sound.{unsound_place};
 ghost use Rattle.spec_calls.specs.declared.call.Reply.{Reply};
 ghost use Rattle.spec_history.specs.Base.{Base};
-ghost use Rattle.spec_history.specs.History.{changes_of};
 ghost use Rattle.spec_history.specs.declared.entry.Entry.{Entry};
 
 use journal_keeper::keeper::KeepError;
@@ -20,11 +19,11 @@ pub trait EntryKeeper {
     // It has these entries of the account of this base.
     ghost has: { Self → Base → List Entry → Type 0 };
 
-    /// Keeps the entries that a call's changes become, all of them or none. The changes are sound behind those of the entries that it has.
+    /// Keeps the entries that a call's changes become, all of them or none. An account goes on from these behind the entries that it has.
     fn keep(&mut self, stamp: &Stamp, changes: &[Change]) -> Result<(), KeepError>
         requires { length changes.now ≤ 2 ^ 32 }
-        ensures kept { OnOk result ((base : Base) (h : List Entry) → unsound_place base.zones (changes_of h ++ changes.now) ≡ None → has self.old base h
+        ensures kept { OnOk result ((base : Base) (h : List Entry) → MayBeKept base.zones h changes.now → has self.old base h
             → has self.new base (h ++ entries_from stamp.now 0 changes.now)) }
-        ensures not_kept { OnErr result ((base : Base) (h : List Entry) → unsound_place base.zones (changes_of h ++ changes.now) ≡ None → has self.old base h → has self.new base h) }
+        ensures not_kept { OnErr result ((base : Base) (h : List Entry) → MayBeKept base.zones h changes.now → has self.old base h → has self.new base h) }
         ensures told { result ≡ Err KeepError.Failed → unkept ≡ Some unkept_answer };
 }

@@ -11,7 +11,10 @@ ghost use Rattle.account_rooms.specs.Rooms.{AreFree, AreRooms};
 ghost use Rattle.account_store.specs.Store.{entries, event_puts, spare};
 ghost use Rattle.cal_model.specs.Answer.{entries_from};
 ghost use Rattle.cal_model.specs.Quota.{size_of_object};
-ghost use Rattle.cal_model.specs.Sound.{unsound_place};
+ghost use Rattle.account_core.specs.Staged.{MayBeKept};
+ghost use Rattle.account_opening.specs.Opening.{IsOpened};
+ghost use Rattle.cal_model.specs.GoesOn.{GoesOn};
+ghost use Rattle.cal_model.specs.Sound.{first_unsound};
 ghost use Rattle.event_store.specs.EventsBase.{base_of};
 ghost use Rattle.event_store.specs.ReadSeries.{AreRead};
 ghost use Rattle.spec_bookings.specs.SeriesPut.{series_put};
@@ -26,10 +29,11 @@ use crate::pushing::push_all;
 use crate::reading::Reading;
 use crate::tally::{Load, Tally};
 use crate::uses::{calendars_in_use, has_event, still_in_use};
+use account_opening::Opened;
 use account_rooms::Rooms;
 use account_store::Store;
 use cal_model::limits::MAX_CHANGES;
-use cal_model::view::AccountView;
+use cal_model::view::{AccountView, CalendarsView};
 use event_store::StoredEvents;
 use json_edge::length::text_length;
 use resource_book::Room;
@@ -77,8 +81,9 @@ pub struct Ledger {
     ghost kept_rooms: { AreRooms (arc_value zones) (changes_of (entries store)) rooms.kept },
     ghost rooms_now: { AreRooms (arc_value zones) (changes_of (entries store) ++ staged.items) rooms.rooms },
     ghost used: { (numbers : NumberSet ℕ) → in_use ≡ Some numbers → AreInUse (changes_of (entries store)) numbers },
-    ghost kept_sound: { unsound_place (arc_value zones) (changes_of (entries store)) ≡ None },
-    ghost sound: { unsound_place (arc_value zones) (changes_of (entries store) ++ staged.items) ≡ None },
+    ghost kept_goes_on: { GoesOn (arc_value zones) (changes_of (entries store)) },
+    ghost goes_on: { GoesOn (arc_value zones) (changes_of (entries store) ++ staged.items) },
+    ghost sound: { first_unsound (arc_value zones) (changes_of (entries store)) staged.items ≡ None },
 }
 
 impl Ledger {
@@ -101,6 +106,35 @@ impl Ledger {
             readings: Vec::new(alloc),
             tally: Tally::new(),
             rooms: Rooms::new(alloc),
+            in_use: None,
+        }
+    }
+
+    /// A ledger of an account of this id, with these zones, in this generation of the data, that has what was opened. Takes no memory.
+    pub(crate) fn at(
+        alloc: Global,
+        id: Text,
+        zones: Arc<Zones>,
+        generation: u64,
+        opened: Opened,
+    ) -> Ledger
+        requires { IsOpened (arc_value zones) (entries opened.store) opened }
+        ensures base { base result ≡ record { account_id = id; zones = arc_value zones; generation = generation } }
+        ensures entries { ledger_entries result ≡ entries opened.store }
+        ensures staged { staged result ≡ [] }
+    {
+        let kept = Tally::at(&opened);
+        Ledger {
+            alloc,
+            id,
+            zones,
+            generation,
+            store: opened.store,
+            kept,
+            staged: Vec::new(alloc),
+            readings: Vec::new(alloc),
+            tally: kept,
+            rooms: opened.rooms,
             in_use: None,
         }
     }
@@ -167,9 +201,10 @@ impl Ledger {
         ensures occurrences { AreCoveredOnce (base self.now).zones (history self.now) }
     {}
 
-    /// Each change of the history is sound behind those before it. This call does nothing.
-    pub fn has_sound_entries(&self)
-        ensures { unsound_place (base self.now).zones (history self.now) ≡ None }
+    /// An account goes on from the history, and from what is staged behind it, each change of which is sound behind those before it. This call does nothing.
+    pub fn goes_on(&self)
+        ensures history { GoesOn (base self.now).zones (history self.now) }
+        ensures staged { MayBeKept (base self.now).zones (ledger_entries self.now) (staged self.now) }
     {}
 
     /// The first clash of a series with itself or with the bookings of others in a live resource calendar. Takes no memory.
@@ -263,14 +298,34 @@ fn load_put(change: &Change, size: usize) -> Load
     }
 }
 
-impl AccountView for Ledger {
-    ghost use Rattle.account_core.specs.Ledger.{base, changes, ledger_entries};
+impl CalendarsView for Ledger {
+    ghost use Rattle.account_core.specs.Ledger.{base, changes};
 
     ghost base = { base };
 
-    ghost entries = { ledger_entries };
-
     ghost changes = { changes };
+
+    fn calendar(&self, id: u64) -> Option<&Tree> {
+        self.live(Kind::Calendar, id)
+    }
+
+    fn resources(&self, alloc: Global) -> Result<Vec<u64>, AllocError> {
+        self.rooms.calendars(alloc)
+    }
+
+    fn bookings(&self, calendar: u64, event: u64) -> usize {
+        self.rooms.bookings(calendar, event)
+    }
+
+    fn clash(&self, calendar: u64, event: u64, series: &Series) -> Option<Clash> {
+        self.first_clash(calendar, event, series)
+    }
+}
+
+impl AccountView for Ledger {
+    ghost use Rattle.account_core.specs.Ledger.{ledger_entries};
+
+    ghost entries = { ledger_entries };
 
     #[tactic(auto, using(crate::proofs::Committing::object_from_append))]
     fn live(&self, kind: Kind, id: u64) -> Option<&Tree> {
@@ -287,19 +342,7 @@ impl AccountView for Ledger {
         has_event(self, calendar)
     }
 
-    fn resources(&self, alloc: Global) -> Result<Vec<u64>, AllocError> {
-        self.rooms.calendars(alloc)
-    }
-
-    fn bookings(&self, calendar: u64, event: u64) -> usize {
-        self.rooms.bookings(calendar, event)
-    }
-
-    fn clash(&self, calendar: u64, event: u64, series: &Series) -> Option<Clash> {
-        self.first_clash(calendar, event, series)
-    }
-
-    fn has_sound_changes(&self) {}
+    fn has_sound_objects(&self) {}
 
     fn created_so_far(&self, kind: Kind) -> u64 {
         self.tally.created(kind)

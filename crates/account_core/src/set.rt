@@ -93,7 +93,7 @@ fn keep_and_commit<K: EntryKeeper>(
     ensures staged { staged ledger.new ≡ [] }
     ensures base { base ledger.new ≡ base ledger.old }
 {
-    ledger.has_sound_changes();
+    ledger.goes_on();
     match keeper.keep(stamp, &ledger.staged) {
         Ok(()) => {
             ledger.commit(stamp, 0);

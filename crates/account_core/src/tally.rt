@@ -54,6 +54,20 @@ impl Tally {
         }
     }
 
+    /// The tally of what was opened. Takes no memory.
+    pub fn at(opened: &Opened) -> Tally
+        requires { (zones : List ZoneText) × IsOpened zones (entries opened.now.store) opened.now }
+        ensures { Tallies result (changes_of (entries opened.now.store)) }
+    {
+        Tally {
+            entries: opened.store.len(),
+            objects: opened.objects,
+            size: opened.size,
+            calendars: opened.store.created(Kind::Calendar),
+            events: opened.store.created(Kind::Event),
+        }
+    }
+
     /// How many objects of a kind were created. Takes no memory.
     pub fn created(&self, kind: Kind) -> u64
         ensures exact { result ≡ count_created self.now kind }

@@ -9,7 +9,7 @@ use spec_history::entry::{Change, Entry};
 use spec_history::stamp::Stamp;
 use std::alloc::{AllocError, Global};
 
-/// Copies of the entries that come to an account from a place on, where there is one.
+/// Copies of the entries that come to an account from a place on, where there is one. Each of them is sound behind those before it.
 #[derive(Drop)]
 pub(crate) struct Trail {
     alloc: Global,
@@ -68,7 +68,7 @@ impl EntryKeeper for Trail {
 
     ghost unkept = { None };
 
-    ghost has = { λ trail base h. HasCopies trail h };
+    ghost has = { λ trail base h. HasCopies base.zones trail h };
 
     fn keep(&mut self, stamp: &Stamp, changes: &[Change]) -> Result<(), KeepError> {
         match self.first {

@@ -1,20 +1,21 @@
 //! An account whose entries are kept before it has them.
 ghost use Rattle.std.specs.Arc.{arc_value};
 ghost use Rattle.std.specs.Prelude.{◌≡◌, IfErr, IfOk, None, OnOk, OnErr, Some};
-ghost use Rattle.account_core.specs.Opening.{IsRefusal};
+ghost use Rattle.account_opening.specs.Opening.{IsRefusal};
 ghost use Rattle.cal_model.specs.Answer.{added, answer, unkept_answer};
-ghost use Rattle.cal_model.specs.Sound.{unsound_place};
+ghost use Rattle.cal_model.specs.GoesOn.{GoesOn};
 ghost use Rattle.journal_keeper.specs.Journals.{Lists};
 ghost use Rattle.kept_account.specs.HasKept.{HasKept, LeavesSound};
 ghost use Rattle.spec_history.specs.History.{changes_of};
+ghost use Rattle.spec_snapshots.specs.Kept.{IsKeptFrom};
 
 use crate::account_texts::AccountTexts;
 use account_core::account::Account;
-use account_core::opening::EntriesError;
+use account_opening::OpeningError;
 use journal_keeper::keeper::Keeper;
+use journal_keeper::loaded::Loaded;
 use spec_books::book::Book;
 use spec_calls::call::{Call, Reply};
-use spec_history::entry::Entry;
 use spec_history::stamp::Stamp;
 use spec_json::text::Text;
 use spec_time::moment::Moment;
@@ -51,28 +52,29 @@ impl<K: Keeper> Model for KeptAccount<K> {
 }
 
 impl<K: Keeper> KeptAccount<K> {
-    /// An account of this id, with these zones, in this generation of the data, that goes on from the entries that its keeper has of it, which nothing is in doubt of.
+    /// An account of this id, with these zones, in this generation of the data, that goes on from what its keeper has of it, which nothing is in doubt of.
     ///
-    /// `BadEntries` tells the place of the first entry that isn't sound behind those before it. Takes memory for what an account keeps of its entries.
+    /// `BadObject` tells an object for which no account goes on from that. Takes memory for what an account keeps of its entries.
     pub fn open_at(
         alloc: Global,
         id: Text,
         zones: Arc<Zones>,
         generation: u64,
-        entries: Vec<Entry>,
+        loaded: Loaded,
         keeper: K,
-    ) -> Result<KeptAccount<K>, EntriesError>
-        requires { HasKept (K.shown keeper).told (record { account_id = id; zones = arc_value zones; generation = generation }) entries.items }
-        ensures opened { IfOk result (λ a. a ≡ (record { account_id = id; zones = arc_value zones; generation = generation }, entries.items, K.shown keeper)) }
-        ensures sound { OnOk result (unsound_place (arc_value zones) (changes_of entries.items) ≡ None) }
-        ensures refused { IfErr result (IsRefusal (unsound_place (arc_value zones) (changes_of entries.items))) }
+    ) -> Result<KeptAccount<K>, OpeningError>
+        requires kept { HasKept (K.shown keeper).told (record { account_id = id; zones = arc_value zones; generation = generation }) loaded.told.items }
+        requires loaded { IsKeptFrom loaded.told.items loaded.kept }
+        ensures opened { IfOk result (λ a. a ≡ (record { account_id = id; zones = arc_value zones; generation = generation }, loaded.told.items, K.shown keeper)) }
+        ensures goes_on { OnOk result (GoesOn (arc_value zones) (changes_of loaded.told.items)) }
+        ensures refused { IfErr result (IsRefusal (arc_value zones) (changes_of loaded.told.items)) }
     {
         let texts = AccountTexts {
             alloc,
             id: id.copy()?,
             keeper,
         };
-        let account = Account::open_at(alloc, id, zones, generation, entries)?;
+        let account = Account::open_at(alloc, id, zones, generation, loaded)?;
         Ok(KeptAccount { account, texts })
     }
 
@@ -83,7 +85,7 @@ impl<K: Keeper> KeptAccount<K> {
         ensures lists { Lists self.now.2.told self.now.0.account_id self.now.1 }
         ensures leaves { LeavesSound self.now.2.told self.now.0 self.now.1 }
     {
-        self.account.has_sound_entries();
+        self.account.goes_on();
     }
 }
 

@@ -6,8 +6,9 @@ ghost use Rattle.kept_account.specs.Opened.{IsKept, OpensNot};
 ghost use Rattle.spec_history.specs.Base.{Base};
 
 use crate::account::KeptAccount;
-use account_core::opening::EntriesError;
+use account_opening::OpeningError;
 use journal_keeper::keeper::{JournalError, Keeper};
+use spec_history::entry::Kind;
 use spec_json::text::Text;
 use std::alloc::{AllocError, Global};
 use std::sync::Arc;
@@ -25,10 +26,12 @@ pub enum UnopenedAccount {
         /// The text.
         text: Vec<u8>,
     },
-    /// An entry isn't sound behind those before it.
-    BadEntries {
-        /// The place of the first such entry.
-        place: u64,
+    /// No account goes on from the entries, for this object.
+    BadObject {
+        /// Its kind.
+        kind: Kind,
+        /// Its number.
+        id: u64,
     },
     /// There was no memory.
     NoMemory,
@@ -44,7 +47,7 @@ impl From<AllocError> for UnopenedAccount {
     }
 }
 
-/// The account of this id, with these zones, in this generation of the data, that goes on from the entries that its keeper has of it. The keeper was just opened, so that nothing
+/// The account of this id, with these zones, in this generation of the data, that goes on from what its keeper has of it. The keeper was just opened, so that nothing
 /// is in doubt of it.
 ///
 /// Takes memory for the entries, and for what an account keeps of them.
@@ -61,10 +64,10 @@ pub fn open_kept<K: Keeper>(
 {
     let mut keeper = keeper;
     match keeper.load(id.as_str()) {
-        Ok(entries) => match KeptAccount::open_at(alloc, id, zones, generation, entries, keeper) {
+        Ok(loaded) => match KeptAccount::open_at(alloc, id, zones, generation, loaded, keeper) {
             Ok(account) => Ok(account),
-            Err(EntriesError::BadEntries { place }) => Err(UnopenedAccount::BadEntries { place }),
-            Err(EntriesError::NoMemory) => Err(UnopenedAccount::NoMemory),
+            Err(OpeningError::BadObject { kind, id }) => Err(UnopenedAccount::BadObject { kind, id }),
+            Err(OpeningError::NoMemory) => Err(UnopenedAccount::NoMemory),
         },
         Err(JournalError::Failed) => Err(UnopenedAccount::Failed),
         Err(JournalError::Damaged { place, text }) => Err(UnopenedAccount::Damaged { place, text }),

@@ -27,7 +27,7 @@ pub(crate) fn sound_texts(
     requires turn { stamp.now.turn ≤ most_turns }
     requires parts { length changes.now ≤ 2 ^ 32 }
     ensures texts { IfOk result (λ v. v.items ≡ labelled account.now (entries_from stamp.now 0 changes.now)) }
-    ensures read_back { OnOk result ((zones : List ZoneText) (h : List Entry) → unsound_place zones (changes_of h ++ changes.now) ≡ None
+    ensures read_back { OnOk result ((zones : List ZoneText) (h : List Entry) → AreNumbersGiven (changes_of h) → first_unsound zones (changes_of h) changes.now ≡ None
         → AreEntriesOf (entries_from stamp.now 0 changes.now) (map entry_text (entries_from stamp.now 0 changes.now))) }
 {
     are_change_values(changes);
