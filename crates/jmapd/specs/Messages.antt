@@ -4,7 +4,8 @@ use Rattle.std.specs.Fmt.{decimal}
 use Rattle.jmapd_run.specs.declared.status.Status.{Status}
 use Rattle.jmapd_run.specs.declared.status.Status.TheVariants.{Config, Cut, Done, NoMemory, OpenFault, ReadFault, Refused, Usage, WriteFault}
 use Rattle.jmapd_run.specs.declared.kept_status.KeptStatus.{KeptStatus}
-use Rattle.jmapd_run.specs.declared.kept_status.KeptStatus.TheVariants.{Plain, KeepFault, Damaged, BadJournal}
+use Rattle.jmapd_run.specs.declared.kept_status.KeptStatus.TheVariants.{Plain, KeepFault, Damaged, ForeignJournal, BadJournal}
+use Rattle.spec_history.specs.ObjectId.{id_text}
 use Rattle.spec_site.specs.Configuration.{field_name}
 use Rattle.sql_keeper.specs.declared.open.OpenError.{OpenError}
 use Rattle.sql_keeper.specs.declared.open.OpenError.TheVariants.{CannotOpen, Failed, InUse, NoMemory as NoMemoryToOpen, OtherAccount, OtherProgram, OtherVersion}
@@ -25,12 +26,17 @@ error_line Cut = Some (codes "jmapd: connection cut")
 abbrev pub place_line : List ℕ → List ℕ → ℕ → List ℕ
 place_line front account place = front ++ account ++ codes " " ++ decimal place
 
+-- what is told of an object for which an account doesn't go on
+abbrev pub object_line : List ℕ → List ℕ → List ℕ
+object_line account id = codes "jmapd: bad journal: " ++ account ++ codes " object " ++ id
+
 -- of a kept run: it never tells of an object what it holds
 abbrev pub kept_error_line : KeptStatus → Option (List ℕ)
 kept_error_line (Plain status) = error_line status
 kept_error_line KeepFault = Some (codes "jmapd: keep fault")
 kept_error_line (Damaged account place text) = Some (place_line (codes "jmapd: damaged entry: ") account place)
-kept_error_line (BadJournal account place) = Some (place_line (codes "jmapd: bad journal: ") account place)
+kept_error_line (ForeignJournal account place) = Some (place_line (codes "jmapd: bad journal: ") account place)
+kept_error_line (BadJournal account kind n) = Some (object_line account (id_text kind n))
 
 -- why a journal isn't opened; of want of memory the status tells
 abbrev pub unopened_words : OpenError → Option (List ℕ)
@@ -38,7 +44,7 @@ unopened_words InUse = Some (codes "journal in use")
 unopened_words CannotOpen = Some (codes "journal can't be opened")
 unopened_words OtherProgram = Some (codes "no journal")
 unopened_words OtherAccount = Some (codes "journal of another account")
-unopened_words (OtherVersion version) = Some (codes "journal of another version")
+unopened_words (OtherVersion version) = Some (codes "journal of a later version: open it with the program that made it, or a later one")
 unopened_words (Failed error) = Some (codes "journal failed")
 unopened_words NoMemoryToOpen = None
 

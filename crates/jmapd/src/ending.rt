@@ -34,7 +34,7 @@ pub fn finish_kept(rt: &HostRuntime, status: KeptStatus) -> ExitCode
         KeptStatus::Plain(status) => exit_code(status),
         KeptStatus::KeepFault => ExitCode::from(9),
         KeptStatus::Damaged { .. } => ExitCode::from(10),
-        KeptStatus::BadJournal { .. } => ExitCode::from(11),
+        KeptStatus::ForeignJournal { .. } | KeptStatus::BadJournal { .. } => ExitCode::from(11),
     }
 }
 
@@ -97,11 +97,26 @@ fn kept_message(alloc: Global, status: &KeptStatus) -> Result<Option<String>, Al
             let line = place_line(alloc, "jmapd: damaged entry: ", account.as_str(), *place)?;
             Ok(Some(line))
         }
-        KeptStatus::BadJournal { account, place } => {
+        KeptStatus::ForeignJournal { account, place } => {
             let line = place_line(alloc, "jmapd: bad journal: ", account.as_str(), *place)?;
             Ok(Some(line))
         }
+        KeptStatus::BadJournal { account, kind, id } => {
+            let id = object_id_text(alloc, *kind, *id)?;
+            Ok(Some(object_line(alloc, account.as_str(), id.as_str())?))
+        }
     }
+}
+
+/// The line that tells of an object for which an account doesn't go on from its journal. Takes memory for it.
+fn object_line(alloc: Global, account: &str, id: &str) -> Result<String, AllocError>
+    ensures { IfOk result (λ line. string_bytes line ≡ object_line account.now id.now) }
+{
+    let mut line = String::from_str(alloc, "jmapd: bad journal: ")?;
+    line.push_str(account)?;
+    line.push_str(" object ")?;
+    line.push_str(id)?;
+    Ok(line)
 }
 
 /// The line that tells of a place in the journal of an account. Takes memory for it.

@@ -1,7 +1,7 @@
 //! The journals of accounts in a folder.
 ghost use Rattle.std.specs.Prelude.{◌≡◌, ◌<◌, ◌≤◌, ◌^◌, ◌++◌, All, IfErr, IfOk, None, codes, length, map, slice_index_or, string_bytes};
 ghost use Rattle.account_desk.specs.FreshDesk.{bases};
-ghost use Rattle.cal_model.specs.Sound.{unsound_place};
+ghost use Rattle.cal_model.specs.GoesOn.{GoesOn};
 ghost use Rattle.io_edge.specs.Outside.{Rose};
 ghost use Rattle.jmapd.specs.Untold.{untold};
 ghost use Rattle.jmapd_listen.specs.Offices.{OpensNone};
@@ -94,7 +94,7 @@ fn open_accounts(
 ) -> Result<Vec<FileAccount>, KeptStatus>
     ensures bases { IfOk result (λ v. map (λ a. a.0) v.items ≡ bases site.now) }
     ensures few { IfOk result (λ v. length v.items < 2 ^ 32) }
-    ensures sound { IfOk result (λ v. All (λ a. unsound_place a.0.zones (changes_of a.1) ≡ None) v.items) }
+    ensures go_on { IfOk result (λ v. All (λ a. GoesOn a.0.zones (changes_of a.1)) v.items) }
     ensures refused { IfErr result (OpensNone site.now (untold faults.old damages.old) (untold faults.new damages.new)) }
 {
     let count = site.accounts();
@@ -118,7 +118,7 @@ fn open_one(
 ) -> Result<FileAccount, KeptStatus>
     requires { n < length site.now.accounts }
     ensures base { IfOk result (λ a. (d : SiteAccount) → a.0 ≡ account_base site.now (slice_index_or site.now.accounts n d).id) }
-    ensures sound { IfOk result (λ a. unsound_place a.0.zones (changes_of a.1) ≡ None) }
+    ensures goes_on { IfOk result (λ a. GoesOn a.0.zones (changes_of a.1)) }
     ensures refused { IfErr result (OpensNone site.now (untold faults.old damages.old) (untold faults.new damages.new)) }
     ensures later { (faults.old ≤ faults.new) × (damages.old ≤ damages.new) }
 {
@@ -168,7 +168,7 @@ fn not_opened(
                 text,
             }
         }
-        UnopenedAccount::BadEntries { place } => KeptStatus::BadJournal { account, place },
+        UnopenedAccount::BadObject { kind, id } => KeptStatus::BadJournal { account, kind, id },
         UnopenedAccount::NoMemory => KeptStatus::Plain(Status::NoMemory),
     }
 }

@@ -23,7 +23,9 @@ fn unopened_words(error: OpenError) -> Option<&'static str>
         OpenError::CannotOpen => Some("journal can't be opened"),
         OpenError::OtherProgram => Some("no journal"),
         OpenError::OtherAccount => Some("journal of another account"),
-        OpenError::OtherVersion(_) => Some("journal of another version"),
+        OpenError::OtherVersion(_) => Some(
+            "journal of a later version: open it with the program that made it, or a later one",
+        ),
         OpenError::Failed(_) => Some("journal failed"),
         OpenError::NoMemory => None,
     }

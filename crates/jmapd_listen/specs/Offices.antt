@@ -2,7 +2,7 @@
 use Rattle.std.specs.Prelude.{◌≡◌, ℕ, List, All, Option, Some, None, map, ⊤}
 use Rattle.account_desk.specs.FreshDesk.{bases, kept_rules}
 use Rattle.account_desk.specs.SoleDesk.{account_at}
-use Rattle.cal_model.specs.Sound.{unsound_place}
+use Rattle.cal_model.specs.GoesOn.{GoesOn}
 use Rattle.io_edge.specs.Outside.{Rose}
 use Rattle.jmapd_listen.specs.Listens.{AreDesksAt}
 use Rattle.jmapd_run.specs.declared.status.Status.TheVariants as plain
@@ -23,10 +23,10 @@ pub record OfficeShown : Type 0 where
   pub faults : ℕ
   pub damages : ℕ
 
--- an account has just the entries that its keeper has of it, which are sound
+-- an account has just the entries that its keeper has of it, from which it goes on
 pub record IsKeptAccount (told : List ℕ → Option Kept) (a : Base × List Entry) : Type 0 where
   pub listed : Lists (told a.0.account_id) a.0.account_id a.1
-  pub sound : unsound_place a.0.zones (changes_of a.1) ≡ None
+  pub goes_on : GoesOn a.0.zones (changes_of a.1)
 
 -- the desks of so many workers over the accounts of a site, each of which goes on from what its keeper has of it
 pub record AreKeptDesks (site : Site) (told : List ℕ → Option Kept) (workers : ℕ) (desks : List Shown) : Type 0 where
@@ -41,6 +41,6 @@ module _ (site : Site) (o o' : OfficeShown) where
   OpensNone KeepFault = Rose o.faults o'.faults
   OpensNone (Plain plain.OpenFault) = Rose o.faults o'.faults
   OpensNone (Damaged account place text) = HasId site account × IsNoEntryText text.items × HasDamage (o.told account) account place text.items × Rose o.damages o'.damages
-  OpensNone (BadJournal account place) = HasId site account × ((list : List Entry) × Lists (o.told account) account list × (unsound_place site.zones (changes_of list) ≡ Some place))
+  OpensNone (BadJournal account kind n) = HasId site account × ((list : List Entry) × Lists (o.told account) account list × (GoesOn site.zones (changes_of list) → ⊥))
   OpensNone (Plain plain.NoMemory) = ⊤
   OpensNone _ = ⊥

@@ -1,6 +1,7 @@
 //! How a command ended that keeps what it is told.
 
 use crate::status::Status;
+use spec_history::entry::Kind;
 use spec_json::text::Text;
 use std::alloc::{AllocError, AllocFailed};
 
@@ -20,12 +21,21 @@ pub enum KeptStatus {
         /// The text.
         text: Vec<u8>,
     },
-    /// An account doesn't go on from the entries that the keeper has of it.
+    /// The keeper has an entry of another author than the command's.
+    ForeignJournal {
+        /// The id of the account.
+        account: Text,
+        /// The place of the first such entry among the account's, from 0.
+        place: u64,
+    },
+    /// An account doesn't go on from what the keeper has of it.
     BadJournal {
         /// The id of the account.
         account: Text,
-        /// The place of the first entry that isn't sound, from 0.
-        place: u64,
+        /// The kind of an object for which it doesn't.
+        kind: Kind,
+        /// The number of that.
+        id: u64,
     },
 }
 

@@ -1,10 +1,9 @@
 //! The texts of the entries that the changes of a call become.
 ghost use Rattle.std.specs.Prelude.{◌≡◌, ◌≤◌, ◌^◌, ◌++◌, IfOk, List, None, OnOk, length, map};
+ghost use Rattle.account_core.specs.Staged.{MayBeKept};
 ghost use Rattle.cal_model.specs.Answer.{entries_from};
-ghost use Rattle.cal_model.specs.Sound.{unsound_place};
 ghost use Rattle.journal_keeper.specs.EntryText.{entry_text};
 ghost use Rattle.journal_keeper.specs.Journals.{AreEntriesOf, AreKeepable, labelled};
-ghost use Rattle.spec_history.specs.History.{changes_of};
 ghost use Rattle.spec_history.specs.MostTurns.{most_turns};
 ghost use Rattle.spec_history.specs.declared.entry.Entry.{Entry};
 ghost use Rattle.spec_site.specs.TimeZones.{ZoneText};
@@ -17,7 +16,7 @@ use spec_history::stamp::Stamp;
 use spec_json::text::Text;
 use std::alloc::{AllocError, Global};
 
-/// The texts of the entries of an account that changes become which are sound behind those of its history: each is read back as its entry.
+/// The texts of the entries of an account that changes become from which it goes on behind those of its history: each is read back as its entry.
 pub(crate) fn sound_texts(
     alloc: Global,
     account: &Text,
@@ -27,7 +26,7 @@ pub(crate) fn sound_texts(
     requires turn { stamp.now.turn ≤ most_turns }
     requires parts { length changes.now ≤ 2 ^ 32 }
     ensures texts { IfOk result (λ v. v.items ≡ labelled account.now (entries_from stamp.now 0 changes.now)) }
-    ensures read_back { OnOk result ((zones : List ZoneText) (h : List Entry) → AreNumbersGiven (changes_of h) → first_unsound zones (changes_of h) changes.now ≡ None
+    ensures read_back { OnOk result ((zones : List ZoneText) (h : List Entry) → MayBeKept zones h changes.now
         → AreEntriesOf (entries_from stamp.now 0 changes.now) (map entry_text (entries_from stamp.now 0 changes.now))) }
 {
     are_change_values(changes);

@@ -9,7 +9,7 @@ use Rattle.jmapd_run.specs.declared.status.Status.{Status}
 use Rattle.jmapd_run.specs.declared.status.Status.TheVariants.{Cut, Done, NoMemory}
 use Rattle.journal_keeper.specs.Journals.{AreEntriesOf, Kept, texts_of}
 use Rattle.kept_run.specs.Lines.{left_by}
-use Rattle.kept_run.specs.Opened.{AreOpened, bad_place}
+use Rattle.kept_run.specs.Opened.{AreOpened, RunGoesOn}
 use Rattle.kept_run.specs.Runs.{KeptSetting, RunsKept, RunsLines}
 use Rattle.kept_run.specs.declared.lines.TheConstants.{MAX_LINES}
 use Rattle.kept_run.specs.declared.status.KeptDone.{KeptDone}
@@ -37,7 +37,7 @@ GivesLinesStatus input status = (bytes : List ℕ) × IfSome input (λ told. byt
 -- the keeper tells a list of each account of a site, and the account goes on from it
 abbrev pub TellsGoodLists : Site → Option Kept → Type 0
 TellsGoodLists site None = ⊥
-TellsGoodLists site (Some k) = (n : ℕ) → n < length site.accounts → (d : SiteAccount) → (list : List Entry) × AreEntriesOf list (texts_of (slice_index_or site.accounts n d).id k.texts) × (bad_place site.zones list ≡ None)
+TellsGoodLists site (Some k) = (n : ℕ) → n < length site.accounts → (d : SiteAccount) → (list : List Entry) × AreEntriesOf list (texts_of (slice_index_or site.accounts n d).id k.texts) × RunGoesOn site.zones list
 
 -- opener, input, output and keeper didn't fail
 pub record IsFaultFree (o o' : OpenerShown) (x x' : KeptSetting) : Type 0 where

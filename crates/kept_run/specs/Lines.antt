@@ -3,7 +3,7 @@ use Rattle.std.specs.Prelude.{◌≡◌, ◌≤◌, ℕ, ℤ, List, [], ◌∷�
 use Rattle.account_desk.specs.SoleDesk.{shown_of}
 use Rattle.journal_keeper.specs.EntryText.{entry_text}
 use Rattle.journal_keeper.specs.Journals.{AreEntriesOf, Kept, Labelled, labelled}
-use Rattle.kept_run.specs.Opened.{bad_place}
+use Rattle.kept_run.specs.Opened.{RunGoesOn}
 use Rattle.spec_batch.specs.Chain.{Chain, Made}
 use Rattle.spec_batch.specs.Reply.{Replies, asked_in}
 use Rattle.spec_history.specs.Base.{Base}
@@ -46,9 +46,9 @@ NewAreReadBack [] accounts = ⊤
 NewAreReadBack (p ∷ places) [] = ⊤
 NewAreReadBack (p ∷ places) (a ∷ accounts) = AreReadBack (drop p a.1) × NewAreReadBack places accounts
 
--- an account goes on from the entries of each
+-- a run goes on from the entries of each
 abbrev pub MayAllGoOn : List (Base × List Entry) → Type 0
-MayAllGoOn accounts = All (λ a. bad_place a.0.zones a.1 ≡ None) accounts
+MayAllGoOn accounts = All (λ a. RunGoesOn a.0.zones a.1) accounts
 
 -- A line is a request of a user (RFC 8620 section 3.3). It was answered on the accounts as they stood before it.
 pub record IsAnsweredLine (site : Site) (user : ℕ) (before : Accounts) (l : Line) : Type 0 where

@@ -1,6 +1,7 @@
 -- What a kept run does, whatever bytes come and whichever calls of the keeper and of the output fail.
-use Rattle.std.specs.Prelude.{◌≡◌, ◌⊎◌, ◌<◌, ◌≤◌, ℕ, ℤ, List, [], ◌∷◌, ◌++◌, All, Option, Some, None, Ok, Err, length, map, ⊤}
+use Rattle.std.specs.Prelude.{◌≡◌, ◌⊎◌, ◌<◌, ◌≤◌, ℕ, ℤ, List, [], ◌∷◌, ◌++◌, All, Option, Some, None, Ok, Err, length, map, ⊤, ⊥}
 use Rattle.std.specs.Io.KnownBytes.{Consumes, IsAtEnd}
+use Rattle.cal_model.specs.GoesOn.{GoesOn}
 use Rattle.command_line.specs.KeptWords.{KeptCommand}
 use Rattle.io_edge.specs.Outside.{Grows, OpenerShown, Rose, SinkShown, SourceShown}
 use Rattle.jmapd_run.specs.SiteIds.{HasId}
@@ -9,16 +10,17 @@ use Rattle.jmapd_run.specs.declared.status.Status.TheVariants.{Config, Cut, Done
 use Rattle.journal_keeper.specs.EntryText.{IsNoEntryText}
 use Rattle.journal_keeper.specs.Journals.{FailsToKeep, HasDamage, KeeperShown, Kept, Lists}
 use Rattle.kept_run.specs.Lines.{Accounts, AreAnsweredLines, HasMore, IsAnsweredLine, Line, all_texts, left_by, line_texts, response, responses}
-use Rattle.kept_run.specs.Opened.{AreOpened, bad_place}
+use Rattle.kept_run.specs.Opened.{AreOpened, foreign_place}
 use Rattle.kept_run.specs.declared.lines.TheConstants.{MAX_LINES}
 use Rattle.kept_run.specs.declared.status.KeptDone.{KeptDone}
 use Rattle.jmapd_run.specs.declared.kept_status.KeptStatus.{KeptStatus}
-use Rattle.jmapd_run.specs.declared.kept_status.KeptStatus.TheVariants.{Plain, KeepFault, Damaged, BadJournal}
+use Rattle.jmapd_run.specs.declared.kept_status.KeptStatus.TheVariants.{Plain, KeepFault, Damaged, ForeignJournal, BadJournal}
 use Rattle.line_edge.specs.Lines.{HasNoFeed, IsTooLong, with_feeds}
 use Rattle.spec_connection.specs.Answered.{Ticked}
 use Rattle.spec_connection.specs.Serving.{IsPrefixOf}
 use Rattle.spec_core.specs.declared.limits.TheConstants.{MAX_SIZE_REQUEST}
 use Rattle.spec_history.specs.Base.{Base}
+use Rattle.spec_history.specs.History.{changes_of}
 use Rattle.spec_history.specs.declared.entry.Entry.{Entry}
 use Rattle.spec_site.specs.Configuration.{Site, user_named}
 
@@ -114,9 +116,13 @@ pub record NothingRun (x x' : KeptSetting) (done : KeptDone) : Type 0 where
   pub none_kept : done.kept ≡ 0
   pub none_written : done.written ≡ 0
 
--- a list of the keeper's, from which an account of a site doesn't go on, first at this place
-abbrev pub IsBadJournal : Site → Option Kept → List ℕ → ℕ → Type 0
-IsBadJournal site told id place = HasId site id × (list : List Entry) × Lists told id list × (bad_place site.zones list ≡ Some place)
+-- a list of the keeper's that has an entry of another author than the desk's, first at this place
+abbrev pub IsForeignJournal : Site → Option Kept → List ℕ → ℕ → Type 0
+IsForeignJournal site told id place = HasId site id × (list : List Entry) × Lists told id list × (foreign_place list ≡ Some place)
+
+-- a list of the keeper's from which no account goes on
+abbrev pub IsBadJournal : Site → Option Kept → List ℕ → Type 0
+IsBadJournal site told id = HasId site id × (list : List Entry) × Lists told id list × (GoesOn site.zones (changes_of list) → ⊥)
 
 module _ (asked : KeptCommand) (o o' : OpenerShown) (x x' : KeptSetting) where
   -- why a run didn't begin
@@ -128,7 +134,8 @@ module _ (asked : KeptCommand) (o o' : OpenerShown) (x x' : KeptSetting) where
   NotBegun KeepFault = Rose x.keeper.faults x'.keeper.faults
   NotBegun (Damaged account place text) = (site : Site) × IsLoaded o o' asked.config (Ok site) × HasId site account
       × IsNoEntryText text.items × HasDamage x.keeper.told account place text.items × Rose x.keeper.damages x'.keeper.damages
-  NotBegun (BadJournal account place) = (site : Site) × IsLoaded o o' asked.config (Ok site) × IsBadJournal site x.keeper.told account place
+  NotBegun (ForeignJournal account place) = (site : Site) × IsLoaded o o' asked.config (Ok site) × IsForeignJournal site x.keeper.told account place
+  NotBegun (BadJournal account kind id) = (site : Site) × IsLoaded o o' asked.config (Ok site) × IsBadJournal site x.keeper.told account
   NotBegun _ = ⊥
 
 -- The run of the lines begins from this site, for this user, on the accounts that go on from what the keeper had. `y` is the setting behind the loads.

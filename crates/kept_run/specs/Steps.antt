@@ -1,5 +1,5 @@
 -- What the steps of a kept run do.
-use Rattle.std.specs.Prelude.{◌≡◌, ◌+◌, ◌<◌, ◌≤◌, ℕ, ℤ, List, [], ◌∷◌, ◌++◌, All, Option, Result, Ok, Err, Some, None, drop, length, ⊤}
+use Rattle.std.specs.Prelude.{◌≡◌, ◌+◌, ◌<◌, ◌≤◌, ℕ, ℤ, List, [], ◌∷◌, ◌++◌, All, Option, Result, Ok, Err, Some, None, drop, length, ⊤, ⊥}
 use Rattle.io_edge.specs.Outside.{Grows, GrowsByPrefix, Rose, SinkShown, SourceShown, Ticks}
 use Rattle.std.specs.Io.KnownBytes.{IsAtEnd}
 use Rattle.jmapd_run.specs.declared.status.Status.{Status}
@@ -10,9 +10,10 @@ use Rattle.kept_run.specs.Lines.{Accounts, HasMore, IsAnsweredLine, Line, line_t
 use Rattle.kept_run.specs.declared.line.LineEnd.{LineEnd}
 use Rattle.kept_run.specs.declared.line.LineEnd.TheVariants.{Written, WriteFault, KeepFault, NoMemory}
 use Rattle.account_desk.specs.SoleDesk.{shown_of}
-use Rattle.kept_run.specs.Opened.{bad_place}
+use Rattle.kept_run.specs.Opened.{RunGoesOn, foreign_place}
+use Rattle.cal_model.specs.GoesOn.{GoesOn}
 use Rattle.jmapd_run.specs.SiteIds.{HasId}
-use Rattle.kept_run.specs.Runs.{IsBadJournal}
+use Rattle.kept_run.specs.Runs.{IsBadJournal, IsForeignJournal}
 use Rattle.jmapd_run.specs.declared.kept_status.KeptStatus.{KeptStatus}
 use Rattle.jmapd_run.specs.declared.kept_status.KeptStatus.TheVariants as status
 use Rattle.jmapd_run.specs.declared.status.Status.TheVariants as plain
@@ -21,6 +22,7 @@ use Rattle.spec_batch.specs.Reply.{Replies, asked_in}
 use Rattle.spec_json.specs.Data.{Data}
 use Rattle.spec_json.specs.Json.{text_of}
 use Rattle.spec_history.specs.Base.{Base}
+use Rattle.spec_history.specs.History.{changes_of}
 use Rattle.spec_history.specs.MostTurns.{most_turns}
 use Rattle.spec_history.specs.declared.entry.Entry.{Entry}
 use Rattle.spec_site.specs.Configuration.{Site, user_at}
@@ -78,18 +80,20 @@ account_base site id = record { account_id = id; zones = site.zones; generation 
 
 -- what comes of opening an account at a list
 abbrev pub OpenHow : Site → List ℕ → List Entry → Result (Base × List Entry) KeptStatus → Type 0
-OpenHow site id list (Ok a) = (a ≡ (account_base site id, list)) × (bad_place site.zones list ≡ None)
-OpenHow site id list (Err (status.BadJournal account place)) = (account ≡ id) × (bad_place site.zones list ≡ Some place)
+OpenHow site id list (Ok a) = (a ≡ (account_base site id, list)) × RunGoesOn site.zones list
+OpenHow site id list (Err (status.ForeignJournal account place)) = (account ≡ id) × (foreign_place list ≡ Some place)
+OpenHow site id list (Err (status.BadJournal account kind n)) = (account ≡ id) × (GoesOn site.zones (changes_of list) → ⊥)
 OpenHow site id list (Err (status.Plain plain.NoMemory)) = ⊤
 OpenHow site id list (Err _) = ⊥
 
 -- what comes of loading an account
 module _ (site : Site) (id : List ℕ) (j j' : KeeperShown) where
   abbrev pub AccountLoadHow : Result (Base × List Entry) KeptStatus → Type 0
-  AccountLoadHow (Ok a) = (a.0 ≡ account_base site id) × Lists j.told id a.1 × (bad_place site.zones a.1 ≡ None) × (j'.damages ≡ j.damages)
+  AccountLoadHow (Ok a) = (a.0 ≡ account_base site id) × Lists j.told id a.1 × RunGoesOn site.zones a.1 × (j'.damages ≡ j.damages)
   AccountLoadHow (Err status.KeepFault) = Rose j.faults j'.faults
   AccountLoadHow (Err (status.Damaged account place text)) = (account ≡ id) × IsNoEntryText text.items × HasDamage j.told id place text.items × Rose j.damages j'.damages
-  AccountLoadHow (Err (status.BadJournal account place)) = (account ≡ id) × (list : List Entry) × Lists j.told id list × (bad_place site.zones list ≡ Some place)
+  AccountLoadHow (Err (status.ForeignJournal account place)) = (account ≡ id) × (list : List Entry) × Lists j.told id list × (foreign_place list ≡ Some place)
+  AccountLoadHow (Err (status.BadJournal account kind n)) = (account ≡ id) × (list : List Entry) × Lists j.told id list × (GoesOn site.zones (changes_of list) → ⊥)
   AccountLoadHow (Err (status.Plain plain.NoMemory)) = ⊤
   AccountLoadHow (Err _) = ⊥
 
@@ -99,9 +103,9 @@ pub record IsLoad (j j' : KeeperShown) : Type 0 where
   pub faults : j.faults ≤ j'.faults
   pub damages : j.damages ≤ j'.damages
 
--- a status that tells of a bad entry, or of want of memory
+-- a status that tells of an entry of another author, or of want of memory
 abbrev pub TellsOf : List ℕ → ℕ → KeptStatus → Type 0
-TellsOf id place (status.BadJournal account at) = (account ≡ id) × (at ≡ place)
+TellsOf id place (status.ForeignJournal account at) = (account ≡ id) × (at ≡ place)
 TellsOf id place (status.Plain plain.NoMemory) = ⊤
 TellsOf id place _ = ⊥
 
@@ -110,7 +114,8 @@ module _ (site : Site) (j j' : KeeperShown) where
   abbrev pub NotOpened : KeptStatus → Type 0
   NotOpened status.KeepFault = Rose j.faults j'.faults
   NotOpened (status.Damaged account place text) = HasId site account × IsNoEntryText text.items × HasDamage j.told account place text.items × Rose j.damages j'.damages
-  NotOpened (status.BadJournal account place) = IsBadJournal site j.told account place
+  NotOpened (status.ForeignJournal account place) = IsForeignJournal site j.told account place
+  NotOpened (status.BadJournal account kind n) = IsBadJournal site j.told account
   NotOpened (status.Plain plain.NoMemory) = ⊤
   NotOpened _ = ⊥
 

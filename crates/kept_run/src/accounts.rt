@@ -1,18 +1,22 @@
 //! The accounts of a site that go on from what a keeper has of them.
-ghost use Rattle.std.specs.Prelude.{◌≡◌, ◌<◌, ◌^◌, All, IfErr, IfOk, Some, length, slice_index_or};
-ghost use Rattle.kept_run.specs.Opened.{AreOpened, foreign_place, earlier_place};
+ghost use Rattle.std.specs.Prelude.{◌≡◌, ◌<◌, ◌^◌, All, IfErr, IfOk, List, length, slice_index_or};
+ghost use Rattle.kept_run.specs.Opened.{AreOpened, foreign_place};
 ghost use Rattle.kept_run.specs.Steps.{IsLoad, AccountLoadHow, NotOpened, OpenHow, TellsOf};
 ghost use Rattle.spec_history.specs.Signed.{written_by};
+ghost use Rattle.spec_history.specs.declared.entry.Entry.{Entry as AnyEntry};
 ghost use Rattle.spec_site.specs.Configuration.{SiteAccount};
+ghost use Rattle.spec_snapshots.specs.Kept.{IsKeptFrom};
 
 use account_core::account::Account;
-use account_core::opening::EntriesError;
+use account_opening::OpeningError;
 use jmapd_run::kept_status::KeptStatus;
 use jmapd_run::status::Status;
 use journal_keeper::keeper::{JournalError, Keeper};
+use journal_keeper::loaded::Loaded;
 use session_doc::Site;
 use spec_history::entry::Entry;
 use spec_json::text::Text;
+use spec_snapshots::kept::KeptHistory;
 use std::alloc::Global;
 use std::sync::Arc;
 
@@ -53,7 +57,7 @@ fn load_account<J: Keeper>(
 {
     let id = site.account_id(n);
     match keeper.load(id.as_str()) {
-        Ok(list) => account_at(alloc, site, id, list),
+        Ok(loaded) => account_at(alloc, site, id, loaded),
         Err(JournalError::Failed) => Err(KeptStatus::KeepFault),
         Err(JournalError::Damaged { place, text }) => Err(KeptStatus::Damaged {
             account: id.copy()?,
@@ -64,61 +68,52 @@ fn load_account<J: Keeper>(
     }
 }
 
-// The account of an id, where it goes on from these entries.
+// The account of an id, where it goes on from what is kept of its history.
 fn account_at(
     alloc: Global,
     site: &Site,
     id: &Text,
-    list: Vec<Entry>,
+    loaded: Loaded,
 ) -> Result<Account, KeptStatus>
-    ensures { OpenHow site.now id.now list.items result }
+    requires { IsKeptFrom loaded.told.items loaded.kept }
+    ensures { OpenHow site.now id.now loaded.told.items result }
 {
-    let foreign = foreign_place(&list);
+    if let Some(place) = foreign_place(&loaded.kept) {
+        return Err(foreign_journal(id, place));
+    }
     let zones = Arc::try_clone(site.zones())?;
-    match Account::open_at(alloc, id.copy()?, zones, site.generation(), list) {
-        Ok(account) => match foreign {
-            None => Ok(account),
-            Some(place) => Err(bad_journal(id, place)),
-        },
-        Err(EntriesError::BadEntries { place }) => Err(bad_journal(
-            id,
-            earlier_place(foreign, place),
-        )),
-        Err(EntriesError::NoMemory) => Err(KeptStatus::Plain(Status::NoMemory)),
+    match Account::open_at(alloc, id.copy()?, zones, site.generation(), loaded) {
+        Ok(account) => Ok(account),
+        Err(OpeningError::BadObject { kind, id: number }) => Err(KeptStatus::BadJournal {
+            account: id.copy()?,
+            kind,
+            id: number,
+        }),
+        Err(OpeningError::NoMemory) => Err(KeptStatus::Plain(Status::NoMemory)),
     }
 }
 
-// That an account doesn't go on from the entry at a place, or that there is no memory to tell it.
-fn bad_journal(id: &Text, place: u64) -> KeptStatus
+// That an account has an entry of another author at a place, or that there is no memory to tell it.
+fn foreign_journal(id: &Text, place: u64) -> KeptStatus
     ensures { TellsOf id.now place result }
 {
     match id.copy() {
-        Ok(account) => KeptStatus::BadJournal { account, place },
+        Ok(account) => KeptStatus::ForeignJournal { account, place },
         Err(_) => KeptStatus::Plain(Status::NoMemory),
     }
 }
 
-// The place of the first entry of another author than the desk's.
-fn foreign_place(list: &[Entry]) -> Option<u64>
-    ensures { result ≡ foreign_place list.now }
+// The place of the first entry of another author than the desk's. What isn't kept any more counts as the desk's own.
+fn foreign_place(kept: &KeptHistory) -> Option<u64>
+    ensures { (h : List AnyEntry) → IsKeptFrom h kept.now → result ≡ foreign_place h }
 {
-    match place_of_foreign(list) {
-        Some(place) => Some(place as u64),
-        None => None,
-    }
+    let place = place_of_foreign(&kept.behind)?;
+    let front = kept.calendars.state.saturating_add(kept.events.state);
+    Some(front.saturating_add(place as u64))
 }
 
 fn place_of_foreign(list: &[Entry]) -> Option<usize>
     ensures { result ≡ foreign_place list.now }
 {
     list.iter().position(|entry| entry.author != 0)
-}
-
-fn earlier_place(foreign: Option<u64>, unsound: u64) -> u64
-    ensures { Some result ≡ earlier_place foreign (Some unsound) }
-{
-    match foreign {
-        Some(foreign) => foreign.min(unsound),
-        None => unsound,
-    }
 }

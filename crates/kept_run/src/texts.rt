@@ -75,7 +75,7 @@ fn new_texts(
     let mut texts = Vec::new(alloc);
     for n in 0..site.accounts() {
         let account = desk.account(n);
-        account.has_sound_entries();
+        account.goes_on();
         // The desk was marked where these places were counted.
         let Some(added) = account.added_since(places[n as usize]) else {
             return Err(AllocError);

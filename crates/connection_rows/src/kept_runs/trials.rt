@@ -137,9 +137,15 @@ fn kept_status_name(alloc: Global, status: &KeptStatus) -> Result<String, AllocE
             let text = String::from_utf8_lossy(alloc, text)?;
             format!(in alloc; "Damaged {account} {place} {text}")
         }
-        KeptStatus::BadJournal { account, place } => {
+        KeptStatus::ForeignJournal { account, place } => {
             let account = account.as_str();
-            format!(in alloc; "BadJournal {account} {place}")
+            format!(in alloc; "ForeignJournal {account} {place}")
+        }
+        KeptStatus::BadJournal { account, kind, id } => {
+            let account = account.as_str();
+            let id = object_id_text(alloc, *kind, *id)?;
+            let id = id.as_str();
+            format!(in alloc; "BadJournal {account} {id}")
         }
     }
 }
