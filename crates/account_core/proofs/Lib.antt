@@ -16,3 +16,5 @@ pub mod FoundLemmas
 pub mod FewChanges
 pub mod KeptLemmas
 pub mod SlotLemmas
+pub mod SoundObjectLemmas
+pub mod GoingOn
