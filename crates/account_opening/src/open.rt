@@ -58,8 +58,8 @@ pub fn open_parts(alloc: Global, zones: &Zones, loaded: Loaded) -> Result<Opened
 {
     let store = store_of(alloc, zones, loaded)?;
     let load = weigh(alloc, &store)?;
-    let rooms = judge_calendars(alloc, zones, &store)?;
-    let rooms = judge_events(alloc, zones, &store, rooms)?;
+    let calendars = judge_calendars(alloc, zones, &store)?;
+    let rooms = judge_events(alloc, calendars)?;
     Ok(Opened {
         store,
         objects: load.objects,
