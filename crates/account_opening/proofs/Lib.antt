@@ -1,1 +1,2 @@
 pub mod PutAgainLemmas
+pub mod ClearLemmas
