@@ -1,7 +1,8 @@
 //! Accounts that open at entries.
 
 use account_core::account::Account;
-use account_core::opening::EntriesError;
+use account_opening::OpeningError;
+use journal_keeper::loaded::whole_history;
 use spec_books::book::Book;
 use spec_history::entry::{Change, Entry, Kind};
 use spec_json::text::Text;
@@ -9,12 +10,13 @@ use spec_json::tree::Tree;
 use spec_time::moment::Moment;
 use std::alloc::{AllocError, Global};
 use std::sync::Arc;
+use time_text::object_id_text;
 use zone_table::Zones;
 
 /// 2024-01-01T00:00:00Z.
 const MOMENT: i64 = 1_704_067_200;
 
-/// Whether an account opens at these entries, and with how many, or the place of the first that isn't sound; none where an entry can't be read.
+/// Whether an account opens at these entries, and with how many, or an object for which it doesn't; none where an entry can't be read.
 pub fn told(alloc: Global, rows: &[Tree]) -> Result<Option<String>, AllocError> {
     let mut entries = Vec::new(alloc);
     for row in rows {
@@ -30,10 +32,15 @@ pub fn told(alloc: Global, rows: &[Tree]) -> Result<Option<String>, AllocError> 
 
 fn opened(alloc: Global, zones: Zones, entries: Vec<Entry>) -> Result<String, AllocError> {
     let id = Text::from_str(alloc, "A1")?;
-    match Account::open_at(alloc, id, Arc::new(alloc, zones)?, 0, entries) {
+    let loaded = whole_history(alloc, entries);
+    match Account::open_at(alloc, id, Arc::new(alloc, zones)?, 0, loaded) {
         Ok(account) => Ok(format!(in alloc; "opens at {}", account.count())?),
-        Err(EntriesError::BadEntries { place }) => Ok(format!(in alloc; "not sound at {place}")?),
-        Err(EntriesError::NoMemory) => Err(AllocError),
+        Err(OpeningError::BadObject { kind, id }) => {
+            let id = object_id_text(alloc, kind, id)?;
+            let id = id.as_str();
+            Ok(format!(in alloc; "not for {id}")?)
+        }
+        Err(OpeningError::NoMemory) => Err(AllocError),
     }
 }
 

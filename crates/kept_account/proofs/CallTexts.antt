@@ -1,23 +1,24 @@
 -- The texts of the entries that the changes of a call become.
 use Rattle.std.proofs.Common.{◌≡◌, ◌≤◌, ◌<◌, ◌+◌, ◌^◌, ◌++◌, ◌∷◌, ◌∙◌, [], ℕ, suc, List, None, Result, Ok, Err, OnOk, ap, arith, drop, get_or, length, length-append, map, subst, sym, take, refl}
-use Rattle.std.proofs.Math.Seq.{drop-append_seam}
 use Rattle.std.proofs.lemmas.List.{take_more}
 use Rattle.std.proofs.lemmas.List.Elements.{All-from_recursion, All-head, All-tail}
 use Rattle.std.specs.List.{AllByRecursion as ByRecursion}
 use Rattle.std.specs.Prelude.{All}
 use Rattle.account_core.proofs.Committing.{changes_committed, entries_push}
 use Rattle.cal_model.specs.Answer.{entries_from, entry_of}
-use Rattle.cal_model.specs.Sound.{unsound_place}
+use Rattle.account_core.specs.Staged.{MayBeKept}
+use Rattle.cal_model.specs.Sound.{first_unsound}
 use Rattle.journal_keeper.proofs.ManyTexts.{labelled_more, written_more}
 use Rattle.journal_keeper.specs.EntryText.{IsEntryText, IsKeepable, entry_text}
 use Rattle.journal_keeper.specs.Journals.{AreEntriesOf, AreKeepable, Labelled, labelled}
-use Rattle.kept_account.proofs.Keepables.{keepable_behind}
+use Rattle.kept_account.proofs.Keepables.{keepable_all, live_numbers}
 use Rattle.kept_account.specs.Values.{IsChangeValue, IsEntryValue}
 use Rattle.spec_history.specs.History.{changes_of}
 use Rattle.spec_history.specs.MostTurns.{most_turns}
 use Rattle.spec_history.specs.declared.entry.Change.{Change}
 use Rattle.spec_history.specs.declared.entry.Entry.{Entry}
 use Rattle.spec_history.specs.declared.stamp.Stamp.{Stamp}
+use Rattle.spec_snapshots.proofs.NumberedPast.{parts_numbered}
 use Rattle.spec_site.specs.TimeZones.{ZoneText}
 use Rattle.spec_time.specs.Moments.{IsMoment}
 
@@ -61,17 +62,15 @@ turns_from : (stamp : Stamp) (n : ℕ) (cs : List Change) → stamp.turn ≤ mos
 turns_from stamp n [] few = tt
 turns_from stamp n (c ∷ cs) few = (few, turns_from stamp (suc n) cs few)
 
--- the entries of changes that are sound behind a history have texts
-pub keepable_call : (zones : List ZoneText) (h : List Entry) (stamp : Stamp) (cs : List Change) → unsound_place zones (changes_of h ++ cs) ≡ None → stamp.author < 2 ^ 32 → IsMoment stamp.moment → stamp.turn ≤ most_turns
+-- the entries of changes that may be kept behind a history have texts
+pub keepable_call : (zones : List ZoneText) (h : List Entry) (stamp : Stamp) (cs : List Change) → MayBeKept zones h cs → stamp.author < 2 ^ 32 → IsMoment stamp.moment → stamp.turn ≤ most_turns
     → length cs ≤ 2 ^ 32 → All IsChangeValue cs → AreKeepable (entries_from stamp 0 cs)
-keepable_call zones h stamp cs sound author moment turn few values =
+keepable_call zones h stamp cs may author moment turn few values =
     let es : List Entry = entries_from stamp 0 cs in
-    let all : List Entry = h ++ es in
-    let seam : drop (length h) all ≡ es = drop-append_seam h es in
-    let sound' : unsound_place zones (changes_of all) ≡ None = ap (unsound_place zones) (changes_committed h all stamp 0 cs refl) ∙ sound in
-    subst AreKeepable seam
-    (keepable_behind zones all (length h) sound' (subst (All IsEntryValue) (sym seam) (All-from_recursion IsEntryValue es (values_from stamp 0 cs author moment (omega (arith, few)) values)))
-    (subst (All (λ (e : Entry). e.turn ≤ most_turns)) (sym seam) (All-from_recursion (λ (e : Entry). e.turn ≤ most_turns) es (turns_from stamp 0 cs turn))))
+    let sound : first_unsound zones (changes_of h) (changes_of es) ≡ None = ap (first_unsound zones (changes_of h)) (changes_committed [] es stamp 0 cs refl) ∙ may.sound in
+    keepable_all zones (changes_of h) es (live_numbers (changes_of h) (parts_numbered [] (changes_of h) cs may.goes_on.numbered).0) sound
+    (All-from_recursion IsEntryValue es (values_from stamp 0 cs author moment (omega (arith, few)) values))
+    (All-from_recursion (λ (e : Entry). e.turn ≤ most_turns) es (turns_from stamp 0 cs turn))
 
 pub still_ok : {T E P Q : Type 0} (r : Result T E) → (P → Q) → OnOk r P → OnOk r Q
 still_ok (Ok x) so p = so p

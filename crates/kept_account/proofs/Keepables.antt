@@ -1,10 +1,12 @@
 -- The entries of an account have texts.
-use Rattle.std.proofs.Common.{◌≡◌, ◌≤◌, ◌+◌, ◌++◌, ◌∷◌, ◌==◌, [], ℕ, zero, suc, List, Bool, true, false, Option, None, drop, length, length-append, refl, sym, ap, ◌∙◌, arith, inl, inr}
+use Rattle.std.proofs.Common.{◌≡◌, ◌≤◌, ◌+◌, ◌++◌, ◌∷◌, ◌==◌, [], ℕ, zero, suc, List, Bool, true, false, Option, None, append-nil, append_assoc, drop, length, length-append, subst, take, refl, sym, ap, ◌∙◌, arith, inl, inr}
 use Rattle.std.proofs.lemmas.Bool.{and_parts, eqb-true, false≢true, or_cases}
+use Rattle.std.proofs.lemmas.List.{map-append, take-append-drop}
 use Rattle.std.proofs.lemmas.List.Elements.{All-head, All-tail}
 use Rattle.std.specs.Prelude.{All, is_some, if◌then◌else◌}
 use Rattle.std.specs.List.{list_any}
-use Rattle.cal_model.specs.Sound.{first_unsound, has_number, is_sound, unsound_place}
+use Rattle.account_core.specs.Trails.{AreSoundFrom}
+use Rattle.cal_model.specs.Sound.{first_unsound, has_number, is_sound}
 use Rattle.journal_keeper.specs.EntryText.{IsKeepable}
 use Rattle.journal_keeper.specs.Journals.{AreKeepable}
 use Rattle.object_outcomes.proofs.SoundLemmas.{some_place, sound_parts}
@@ -17,6 +19,8 @@ use Rattle.spec_history.specs.declared.entry.Entry.{Entry}
 use Rattle.spec_history.specs.declared.entry.Kind.{Kind}
 use Rattle.spec_json.specs.declared.tree.Tree.{Tree}
 use Rattle.spec_site.specs.TimeZones.{ZoneText}
+use Rattle.spec_snapshots.proofs.NumberedPast.{parts_numbered}
+use Rattle.spec_snapshots.specs.Numbered.{are_numbered, is_numbered}
 
 -- ---- the numbers of objects
 
@@ -40,7 +44,7 @@ object_behind [] c before kind n = refl
 object_behind (d ∷ cs) c before kind n = object_behind cs c (if names kind n d then d.object else before) kind n
 
 -- the numbers of what is live are no greater than the number of changes
-abbrev AreNumbered : List Change → Type 0
+abbrev pub AreNumbered : List Change → Type 0
 AreNumbered cs = (kind : Kind) (n : ℕ) → is_some (live_object cs kind n) ≡ true → n ≤ length cs
 
 number_within : (zones : List ZoneText) (cs : List Change) (kind : Kind) (n : ℕ) → AreNumbered cs → has_number zones cs kind n ≡ true → n ≤ length cs + 1
@@ -62,6 +66,20 @@ numbered_more cs c numbered within kind n live =
 none_numbered : AreNumbered []
 none_numbered kind n live = absurd (false≢true live)
 
+-- changes that give the numbers in order
+numbers_from : (before cs : List Change) → AreNumbered before → are_numbered before cs ≡ true → AreNumbered (before ++ cs)
+numbers_from before [] numbered h = subst AreNumbered (sym (append-nil before)) numbered
+numbers_from before (c ∷ cs) numbered h =
+    let parts = and_parts (is_numbered before c) (are_numbered (before ++ c ∷ []) cs) h in
+    let within : c.id ≤ length before + 1 = elim (or_cases (c.id == next_number before c.kind) (is_some (live_object before c.kind c.id)) parts.0) [
+      | inl next ↦ (let is = eqb-true c.id (next_number before c.kind) next in let few = few_ids [] before c.kind in omega (arith, is, few))
+      | inr live ↦ (let old = numbered c.kind c.id live in omega (arith, old))
+    ] in
+    subst AreNumbered (append_assoc before (c ∷ []) cs) (numbers_from (before ++ c ∷ []) cs (numbered_more before c numbered within) parts.1)
+
+pub live_numbers : (cs : List Change) → are_numbered [] cs ≡ true → AreNumbered cs
+live_numbers cs h = numbers_from [] cs none_numbered h
+
 -- ---- entries
 
 module _ (zones : List ZoneText) where
@@ -82,20 +100,20 @@ module _ (zones : List ZoneText) where
         shallow = let deep = flat.1.1 in omega (arith, deep);
       }
 
-  keepable_from : (before : List Change) (h : List Entry) (place : ℕ) → AreNumbered before → first_unsound zones before (changes_of h) ≡ None
-      → All IsEntryValue (drop place h) → All (λ (e : Entry). e.turn ≤ most_turns) (drop place h) → AreKeepable (drop place h)
-  keepable_from before [] zero numbered sound have turns = tt
-  keepable_from before [] (suc place) numbered sound have turns = tt
-  keepable_from before (e ∷ es) zero numbered sound have turns =
+  -- entries that are sound behind these changes
+  pub keepable_all : (before : List Change) (h : List Entry) → AreNumbered before → first_unsound zones before (changes_of h) ≡ None → All IsEntryValue h → All (λ (e : Entry). e.turn ≤ most_turns) h → AreKeepable h
+  keepable_all before [] numbered sound have turns = tt
+  keepable_all before (e ∷ es) numbered sound have turns =
       let first = some_place zones before (changes_of es) e.change (is_sound zones before e.change) refl sound in (
         keepable before e numbered first.0 (All-head IsEntryValue e es have) (All-head (λ (f : Entry). f.turn ≤ most_turns) e es turns),
-        keepable_from (before ++ e.change ∷ []) es zero (numbered_more before e.change numbered (next_numbered before e numbered first.0)) first.1
+        keepable_all (before ++ e.change ∷ []) es (numbered_more before e.change numbered (next_numbered before e numbered first.0)) first.1
             (All-tail IsEntryValue e es have) (All-tail (λ (f : Entry). f.turn ≤ most_turns) e es turns),
       )
-  keepable_from before (e ∷ es) (suc place) numbered sound have turns =
-      let first = some_place zones before (changes_of es) e.change (is_sound zones before e.change) refl sound in
-      keepable_from (before ++ e.change ∷ []) es place (numbered_more before e.change numbered (next_numbered before e numbered first.0)) first.1 have turns
 
-  -- the entries of an account behind the first so many
-  pub keepable_behind : (h : List Entry) (place : ℕ) → unsound_place zones (changes_of h) ≡ None → All IsEntryValue (drop place h) → All (λ (e : Entry). e.turn ≤ most_turns) (drop place h) → AreKeepable (drop place h)
-  keepable_behind h place = keepable_from [] h place none_numbered
+  -- the entries of an account behind the first so many, which are sound behind these
+  pub keepable_behind : (h : List Entry) (place : ℕ) → are_numbered [] (changes_of h) ≡ true → AreSoundFrom zones place h → All IsEntryValue (drop place h) → All (λ (e : Entry). e.turn ≤ most_turns) (drop place h)
+      → AreKeepable (drop place h)
+  keepable_behind h place numbered sound =
+      let split : changes_of h ≡ changes_of (take place h) ++ changes_of (drop place h) = ap changes_of (sym (take-append-drop place h)) ∙ map-append (λ (e : Entry). e.change) (take place h) (drop place h) in
+      keepable_all (changes_of (take place h)) (drop place h)
+      (live_numbers (changes_of (take place h)) (parts_numbered [] (changes_of (take place h)) (changes_of (drop place h)) (sym (ap (are_numbered []) split) ∙ numbered)).0) sound
