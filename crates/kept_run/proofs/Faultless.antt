@@ -18,13 +18,13 @@ use Rattle.kept_run.proofs.EndLemmas.{rose_later}
 use Rattle.kept_run.proofs.InputLines.{all_lines, lines_held, status_done, status_too_long, status_too_many}
 use Rattle.kept_run.specs.Completes.{FaultlessKeptRunsWork, GivesLinesStatus, GoodListsAreTaken, IsFaultFree, TellsGoodLists, lines_status}
 use Rattle.kept_run.specs.Lines.{Accounts, Line}
-use Rattle.kept_run.specs.Opened.{bad_place}
+use Rattle.kept_run.specs.Opened.{RunGoesOn}
 use Rattle.jmapd_run.specs.SiteIds.{HasId}
-use Rattle.kept_run.specs.Runs.{HoldsLines, IsAnswerable, IsBadJournal, KeptEnds, KeptSetting, NotBegun, RunsLines}
+use Rattle.kept_run.specs.Runs.{HoldsLines, IsAnswerable, IsBadJournal, IsForeignJournal, KeptEnds, KeptSetting, NotBegun, RunsLines}
 use Rattle.kept_run.specs.declared.lines.TheConstants.{MAX_LINES}
 use Rattle.kept_run.specs.declared.status.KeptDone.{KeptDone}
 use Rattle.jmapd_run.specs.declared.kept_status.KeptStatus.{KeptStatus}
-use Rattle.jmapd_run.specs.declared.kept_status.KeptStatus.TheVariants.{BadJournal, Damaged, KeepFault, Plain}
+use Rattle.jmapd_run.specs.declared.kept_status.KeptStatus.TheVariants.{BadJournal, Damaged, ForeignJournal, KeepFault, Plain}
 use Rattle.line_edge.specs.Lines.{IsTooLong, lines_of}
 use Rattle.spec_core.specs.declared.limits.TheConstants.{MAX_SIZE_REQUEST}
 use Rattle.spec_history.specs.declared.entry.Entry.{Entry}
@@ -50,28 +50,36 @@ module _ (site : Site) where
       let g = good has.0 has.1 nameless_account in
       no_damage g.0 (texts_of id k.texts) place text (subst (λ (i : List ℕ). AreEntriesOf g.0 (texts_of i k.texts)) (sym (has.2 nameless_account)) g.1) first
 
-  pub never_bad : (told : Option Kept) → TellsGoodLists site told → (id : List ℕ) (place : ℕ) → IsBadJournal site told id place → ⊥
-  never_bad None good id place bad = good
-  never_bad (Some k) good id place bad =
-      let has = bad.0 in
+  -- a list of the account is the good one
+  the_list : (k : Kept) → TellsGoodLists site (Some k) → (id : List ℕ) → HasId site id → (list : List Entry) → AreEntriesOf list (texts_of id k.texts) → RunGoesOn site.zones list
+  the_list k good id has list are =
       let g = good has.0 has.1 nameless_account in
-      let same : bad.1 ≡ g.0 = one_list bad.1 g.0 (texts_of id k.texts) bad.2 (subst (λ (i : List ℕ). AreEntriesOf g.0 (texts_of i k.texts)) (sym (has.2 nameless_account)) g.1) in
-      let wrong : Some place ≡ None = sym bad.3 ∙ (ap (bad_place site.zones) same ∙ g.2) in
-      cc
+      let same : list ≡ g.0 = one_list list g.0 (texts_of id k.texts) are (subst (λ (i : List ℕ). AreEntriesOf g.0 (texts_of i k.texts)) (sym (has.2 nameless_account)) g.1) in
+      subst (RunGoesOn site.zones) (sym same) g.2
+
+  pub never_foreign : (told : Option Kept) → TellsGoodLists site told → (id : List ℕ) (place : ℕ) → IsForeignJournal site told id place → ⊥
+  never_foreign None good id place bad = good
+  never_foreign (Some k) good id place bad = let wrong : Some place ≡ None = sym bad.3 ∙ (the_list k good id bad.0 bad.1 bad.2).own in cc
+
+  pub never_bad : (told : Option Kept) → TellsGoodLists site told → (id : List ℕ) → IsBadJournal site told id → ⊥
+  never_bad None good id bad = good
+  never_bad (Some k) good id bad = bad.3 (the_list k good id bad.0 bad.1 bad.2).goes_on
 
 module _ (asked : KeptCommand) (o o' : OpenerShown) (x x' : KeptSetting) (calm : Rose x.keeper.faults x'.keeper.faults → ⊥) where
   not_begun_plainly : ((site : Site) → IsLoaded o o' asked.config (Ok site) → TellsGoodLists site x.keeper.told) → (s : KeptStatus) → NotBegun asked o o' x x' s → (status : Status) × (s ≡ Plain status)
   not_begun_plainly good (Plain status) how = (status, refl)
   not_begun_plainly good KeepFault how = absurd (calm how)
   not_begun_plainly good (Damaged account place text) how = absurd (never_damaged how.0 x.keeper.told (good how.0 how.1) account how.2 place text.items how.4)
-  not_begun_plainly good (BadJournal account place) how = absurd (never_bad how.0 x.keeper.told (good how.0 how.1) account place how.2)
+  not_begun_plainly good (ForeignJournal account place) how = absurd (never_foreign how.0 x.keeper.told (good how.0 how.1) account place how.2)
+  not_begun_plainly good (BadJournal account kind number) how = absurd (never_bad how.0 x.keeper.told (good how.0 how.1) account how.2)
 
   ended_plainly : (y : KeptSetting) (site : Site) (user : ℕ) (before : Accounts) (written unwritten : List Line) (tail behind : List ℕ) (more : List ℤ) → x.keeper.faults ≤ y.keeper.faults
       → (s : KeptStatus) → KeptEnds site user before y x' written unwritten tail behind more s → (status : Status) × (s ≡ Plain status)
   ended_plainly y site user before written unwritten tail behind more later (Plain status) how = (status, refl)
   ended_plainly y site user before written unwritten tail behind more later KeepFault how = absurd (calm (rose_later x.keeper.faults y.keeper.faults x'.keeper.faults later how.1))
   ended_plainly y site user before written unwritten tail behind more later (Damaged account place text) how = absurd how
-  ended_plainly y site user before written unwritten tail behind more later (BadJournal account place) how = absurd how
+  ended_plainly y site user before written unwritten tail behind more later (ForeignJournal account place) how = absurd how
+  ended_plainly y site user before written unwritten tail behind more later (BadJournal account kind number) how = absurd how
 
 pub good_lists_are_taken : GoodListsAreTaken
 good_lists_are_taken asked o o' x x' done (inl h) calm good = not_begun_plainly asked o o' x x' calm good done.status h.1
@@ -176,7 +184,8 @@ module _ {site : Site} {user : ℕ} {before : Accounts} {x x' : KeptSetting} {do
     works (Plain (Config f i)) how = absurd how
     works KeepFault how = absurd (calm_keeper how.1)
     works (Damaged account place text) how = absurd how
-    works (BadJournal account place) how = absurd how
+    works (ForeignJournal account place) how = absurd how
+    works (BadJournal account kind number) how = absurd how
 
 -- ---- from the words on
 
@@ -199,7 +208,8 @@ module _ (asked : KeptCommand) (o o' : OpenerShown) (x x' : KeptSetting) (fine :
   begins (Plain WriteFault) how = absurd how
   begins KeepFault how = absurd (fine.kept how)
   begins (Damaged account place text) how = absurd (never_damaged how.0 x.keeper.told (good_for how.0 how.1) account how.2 place text.items how.4)
-  begins (BadJournal account place) how = absurd (never_bad how.0 x.keeper.told (good_for how.0 how.1) account place how.2)
+  begins (ForeignJournal account place) how = absurd (never_foreign how.0 x.keeper.told (good_for how.0 how.1) account place how.2)
+  begins (BadJournal account kind number) how = absurd (never_bad how.0 x.keeper.told (good_for how.0 how.1) account how.2)
 
 pub faultless_kept_runs_work : FaultlessKeptRunsWork
 faultless_kept_runs_work asked o o' x x' done (inl h) fine site user accepted is_user good = begins asked o o' x x' fine site user accepted is_user good done.status h.1

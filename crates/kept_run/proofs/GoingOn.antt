@@ -16,11 +16,11 @@ use Rattle.journal_keeper.specs.EntryText.{entry_text}
 use Rattle.journal_keeper.specs.Journals.{AreEntriesOf, FailsToKeep, Kept, Labelled, labelled, texts_of}
 use Rattle.kept_run.specs.Completes.{RunsGoOn}
 use Rattle.kept_run.specs.Lines.{Accounts, AreAnsweredLines, AreReadBack, HasMore, IsAnsweredLine, Line, MayAllGoOn, NewAreReadBack, all_texts, counts, left_by, line_texts, texts_behind}
-use Rattle.kept_run.specs.Opened.{AreOpened, GoesOn}
+use Rattle.kept_run.specs.Opened.{AreOpened, HasGoodList}
 use Rattle.kept_run.specs.Runs.{KeptEnds, KeptSetting, RunsLines}
 use Rattle.kept_run.specs.declared.status.KeptDone.{KeptDone}
 use Rattle.jmapd_run.specs.declared.kept_status.KeptStatus.{KeptStatus}
-use Rattle.jmapd_run.specs.declared.kept_status.KeptStatus.TheVariants.{BadJournal, Damaged, KeepFault, Plain}
+use Rattle.jmapd_run.specs.declared.kept_status.KeptStatus.TheVariants.{BadJournal, Damaged, ForeignJournal, KeepFault, Plain}
 use Rattle.kept_run.proofs.TextLemmas.{nameless, no_account, same_count}
 use Rattle.spec_batch.proofs.Chains.{summary}
 use Rattle.spec_history.specs.Base.{Base}
@@ -252,7 +252,8 @@ module _ {site : Site} {user : ℕ} {before : Accounts} {x x' : KeptSetting} {do
       let u = how.3 in
       subst (HasTexts x.keeper.told x'.keeper.told) (only_written how.0.0) (texts_unkept x.keeper.told u.told x'.keeper.told _ _ u.kept u.fails)
   texts_left (Damaged account place bad) how = absurd how
-  texts_left (BadJournal account place) how = absurd how
+  texts_left (ForeignJournal account place) how = absurd how
+  texts_left (BadJournal account kind number) how = absurd how
 
 -- ---- the accounts of the next run
 
@@ -298,7 +299,7 @@ module _ (site : Site) (user : ℕ) (apart : AreApart site.accounts) (ls : List 
       let listed = listed_left k o in
       record {
         bases = is;
-        go_on = All-from_get_or (GoesOn (Some k')) left no_account (λ n below.
+        go_on = All-from_get_or (HasGoodList (Some k')) left no_account (λ n below.
             let there : n < length site.accounts = omega (arith, below, count) in
             record {
               listed = subst (λ (y : Base × List Labelled). AreEntriesOf (get_or left n no_account).1 (texts_of y.0.account_id y.1)) (λ i. (sym (base_is site left n is there below) i, sym texts i)) (listed n there);

@@ -1,13 +1,10 @@
 -- Accounts that go on from lists.
-use Rattle.std.proofs.Common.{◌≡◌, ◌+◌, ◌≤◌, ℕ, List, [], ◌∷◌, Bool, true, false, not, cond, Option, Some, None, drop, length, refl, sym, ap, ◌∙◌, arith, ◌==◌}
+use Rattle.std.proofs.Common.{◌≡◌, ◌+◌, ◌≤◌, ℕ, List, [], ◌∷◌, Bool, true, false, not, cond, Option, Some, None, drop, length, option_map, ◌++◌, refl, sym, ap, ◌∙◌, arith, ◌==◌}
 use Rattle.std.specs.List.{position_from}
 use Rattle.std.proofs.lemmas.Iterator.Adapters.{position_from-zero}
-use Rattle.kept_run.specs.Opened.{bad_place, foreign_place, earlier_place}
-use Rattle.cal_model.specs.Sound.{unsound_place}
-use Rattle.spec_history.specs.History.{changes_of}
+use Rattle.kept_run.specs.Opened.{foreign_place}
 use Rattle.spec_history.specs.Signed.{written_by}
 use Rattle.spec_history.specs.declared.entry.Entry.{Entry}
-use Rattle.spec_site.specs.TimeZones.{ZoneText}
 
 abbrev is_foreign : Entry → Bool
 is_foreign e = not (e.author == 0)
@@ -20,16 +17,11 @@ own_from : (i : ℕ) (es : List Entry) → position_from is_foreign i es ≡ Non
 own_from i [] none = refl
 own_from i (e ∷ es) none = own_first e es i (e.author == 0) refl (own_from (i + 1) es) none
 
-none_first : (p q : Option ℕ) → earlier_place p q ≡ None → p ≡ None
-none_first None q is = refl
-none_first (Some p) None is = cc
-none_first (Some p) (Some q) is = cc
+-- where none is of another author the entries are the desk's own
+pub own_entries : (es : List Entry) → foreign_place es ≡ None → written_by 0 es ≡ es
+own_entries es none = own_from 0 es (sym (position_from-zero is_foreign es) ∙ none)
 
--- the entries of a list from which an account goes on are the desk's own
-pub own_entries : (zones : List ZoneText) (es : List Entry) → bad_place zones es ≡ None → written_by 0 es ≡ es
-own_entries zones es good = own_from 0 es (sym (position_from-zero is_foreign es) ∙ none_first _ _ good)
-
--- an account goes on from sound entries, which are all the desk's own
+-- and the other way round
 
 no_more : (e : Entry) (own es : List Entry) (b : Bool) → length own ≤ length es → length (cond b (e ∷ own) own) ≤ length (e ∷ es)
 no_more e own es true few = omega (arith, few)
@@ -47,18 +39,29 @@ none_from : (i : ℕ) (es : List Entry) → written_by 0 es ≡ es → position_
 none_from i [] own = refl
 none_from i (e ∷ es) own = let r = rest_own e es (e.author == 0) own in rw r.0 (none_from (i + 1) es r.1)
 
-pub sound_goes_on : (zones : List ZoneText) (es : List Entry) → written_by 0 es ≡ es → unsound_place zones (changes_of es) ≡ None → bad_place zones es ≡ None
-sound_goes_on zones es own sound = λ i. earlier_place ((position_from-zero is_foreign es ∙ none_from 0 es own) i) (sound i)
+pub none_foreign : (es : List Entry) → written_by 0 es ≡ es → foreign_place es ≡ None
+none_foreign es own = position_from-zero is_foreign es ∙ none_from 0 es own
 
--- ---- lists that are refused
+-- ---- entries behind the desk's own
 
-pub bad_at : (zones : List ZoneText) (es : List Entry) (foreign : Option ℕ) (unsound place : ℕ) → foreign ≡ foreign_place es → unsound_place zones (changes_of es) ≡ Some unsound → Some place ≡ earlier_place foreign (Some unsound)
-    → bad_place zones es ≡ Some place
-bad_at zones es foreign unsound place is found sooner_is =
-    (λ i. earlier_place (sym is i) (found i)) ∙ sym sooner_is
+later_from : (i : ℕ) (es : List Entry) → position_from is_foreign i es ≡ option_map (λ n. i + n) (position_from is_foreign 0 es)
+later_from i [] = refl
+later_from i (e ∷ es) = by_test (e.author == 0)
+  where
+    add : (o : Option ℕ) → option_map (λ n. i + n) (option_map (λ n. 1 + n) o) ≡ option_map (λ n. (i + 1) + n) o
+    add None = refl
+    add (Some n) = ap Some (omega arith)
 
-pub foreign_at : (zones : List ZoneText) (es : List Entry) (place : ℕ) → Some place ≡ foreign_place es → unsound_place zones (changes_of es) ≡ None → bad_place zones es ≡ Some place
-foreign_at zones es place is sound = λ i. earlier_place (sym is i) (sound i)
+    by_test : (b : Bool) → cond (not b) (Some i) (position_from is_foreign (i + 1) es) ≡ option_map (λ n. i + n) (cond (not b) (Some 0) (position_from is_foreign 1 es))
+    by_test false = ap Some (omega arith)
+    by_test true = later_from (i + 1) es ∙ sym (ap (option_map (λ n. i + n)) (later_from 1 es) ∙ add (position_from is_foreign 0 es))
 
-pub good_list : (zones : List ZoneText) (es : List Entry) → None ≡ foreign_place es → unsound_place zones (changes_of es) ≡ None → bad_place zones es ≡ None
-good_list zones es is sound = λ i. earlier_place (sym is i) (sound i)
+behind_from : (i : ℕ) (past es : List Entry) → written_by 0 past ≡ past → position_from is_foreign i (past ++ es) ≡ position_from is_foreign (i + length past) es
+behind_from i [] es own = ap (λ n. position_from is_foreign n es) (omega arith)
+behind_from i (e ∷ past) es own = let r = rest_own e past (e.author == 0) own in rw r.0 (behind_from (i + 1) past es r.1 ∙ ap (λ n. position_from is_foreign n es) (omega arith))
+
+-- the first of another author stands among what lies behind
+pub foreign_behind : (past es : List Entry) → written_by 0 past ≡ past → foreign_place (past ++ es) ≡ option_map (λ n. length past + n) (foreign_place es)
+foreign_behind past es own =
+    position_from-zero is_foreign (past ++ es) ∙ behind_from 0 past es own ∙ ap (λ n. position_from is_foreign n es) (omega arith) ∙ later_from (length past) es
+    ∙ ap (option_map (λ n. length past + n)) (sym (position_from-zero is_foreign es))

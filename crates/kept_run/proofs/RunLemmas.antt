@@ -14,7 +14,7 @@ use Rattle.kept_run.specs.Runs.{NotBegun, RunsKept, RunsLines, KeptSetting}
 use Rattle.kept_run.specs.Steps.{IsDone, IsLoad, NotOpened}
 use Rattle.kept_run.specs.declared.status.KeptDone.{KeptDone}
 use Rattle.jmapd_run.specs.declared.kept_status.KeptStatus.{KeptStatus}
-use Rattle.jmapd_run.specs.declared.kept_status.KeptStatus.TheVariants.{BadJournal, Damaged, KeepFault, Plain}
+use Rattle.jmapd_run.specs.declared.kept_status.KeptStatus.TheVariants.{BadJournal, Damaged, ForeignJournal, KeepFault, Plain}
 use Rattle.spec_history.specs.Base.{Base}
 use Rattle.spec_history.specs.declared.entry.Entry.{Entry}
 use Rattle.spec_site.specs.Configuration.{Site, user_named}
@@ -63,7 +63,8 @@ module _ (asked : KeptCommand) (o o' : OpenerShown) (x : KeptSetting) where
       pub without_accounts : (e : KeptStatus) → NotOpened site x.keeper j e → NotBegun asked o o' x (with_keeper x j) e
       without_accounts KeepFault how = how
       without_accounts (Damaged account place text) how = (site, loaded, how.0, how.1, how.2, how.3)
-      without_accounts (BadJournal account place) how = (site, loaded, how)
+      without_accounts (ForeignJournal account place) how = (site, loaded, how)
+      without_accounts (BadJournal account kind number) how = (site, loaded, how)
       without_accounts (Plain NoMemory) how = tt
       without_accounts (Plain Done) how = absurd how
       without_accounts (Plain Refused) how = absurd how

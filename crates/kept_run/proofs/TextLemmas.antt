@@ -7,7 +7,7 @@ use Rattle.std.proofs.Math.ListN.{get_or}
 use Rattle.account_desk.specs.SoleDesk.{account_at, shown_of}
 use Rattle.journal_keeper.specs.Journals.{Labelled, labelled}
 use Rattle.kept_run.specs.Lines.{Accounts, AreReadBack, MayAllGoOn, NewAreReadBack, counts, texts_behind}
-use Rattle.kept_run.specs.Opened.{bad_place}
+use Rattle.kept_run.specs.Opened.{RunGoesOn}
 use Rattle.kept_run.specs.Steps.{AreWithin}
 use Rattle.spec_batch.proofs.Chains.{accounts_stay, summary}
 use Rattle.spec_batch.specs.Chain.{Chain, Made}
@@ -86,12 +86,12 @@ all_read_back n places accounts over beyond h =
 -- ---- accounts that may go on
 
 abbrev goes_on : Base × List Entry → Type 0
-goes_on a = bad_place a.0.zones a.1 ≡ None
+goes_on a = RunGoesOn a.0.zones a.1
 
 pub none_goes_on : (accounts : List (Base × List Entry)) → MayAllGoOn (take 0 accounts)
 none_goes_on accounts = All-nil goes_on
 
-pub more_go_on : (n : ℕ) (accounts : List (Base × List Entry)) → n < length accounts → MayAllGoOn (take n accounts) → bad_place (get_or accounts n no_account).0.zones (get_or accounts n no_account).1 ≡ None
+pub more_go_on : (n : ℕ) (accounts : List (Base × List Entry)) → n < length accounts → MayAllGoOn (take n accounts) → RunGoesOn (get_or accounts n no_account).0.zones (get_or accounts n no_account).1
     → MayAllGoOn (take (n + 1) accounts)
 more_go_on n accounts there so_far h = subst (All goes_on) (sym (take_more accounts n no_account there)) (All-push goes_on (take n accounts) (get_or accounts n no_account) so_far h)
 

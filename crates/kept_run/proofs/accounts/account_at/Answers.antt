@@ -1,13 +1,10 @@
-use Rattle.std.proofs.Common.{◌≡◌, ◌∙◌, None, Some, ap, rules, sym}
-use Rattle.cal_model.specs.Sound.{unsound_place}
-use Rattle.kept_run.proofs.OpenLemmas.{foreign_at}
+use Rattle.std.proofs.Common.{◌≡◌, ◌∙◌, Some, sym}
 use Rattle.kept_run.proofs.StartLemmas.{tells_open}
 use Rattle.kept_run.specs.Opened.{foreign_place}
-use Rattle.spec_history.specs.History.{changes_of}
 use Rattle.kept_run.proofs.accounts.account_at.Goals as goal
 
 pub returns-in-Some : goal.returns-in-Some
 returns-in-Some c =
-    let foreign : Some c.in-Some.place ≡ foreign_place c.args.list.items = sym c.in-Some.is ∙ (c.foreign_place-foreign.ensures ∙ ap foreign_place c.deref.ensures.value) in
-    let sound : unsound_place c.args.site.now.zones (changes_of c.args.list.items) ≡ None = search rules in
-    tells_open c.args.site.now c.args.id.now c.args.list.items c.in-Some.place (foreign_at c.args.site.now.zones c.args.list.items c.in-Some.place foreign sound) c.bad_journal.result c.bad_journal.ensures
+    let told = c.args.loaded.told.items in
+    let foreign : foreign_place told ≡ Some c.in-Some.place = sym (c.foreign_place.ensures told c.requires) ∙ c.in-Some.is in
+    tells_open c.args.site.now c.args.id.now told c.in-Some.place foreign c.foreign_journal.result c.foreign_journal.ensures

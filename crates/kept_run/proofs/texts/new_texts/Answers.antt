@@ -3,12 +3,13 @@ use Rattle.std.specs.Prelude.{All}
 use Rattle.std.proofs.Math.ListN.{get_or}
 use Rattle.journal_keeper.specs.Journals.{AreKeepable, labelled}
 use Rattle.kept_account.proofs.Keepables.{keepable_behind}
-use Rattle.kept_run.proofs.OpenLemmas.{sound_goes_on}
+use Rattle.kept_run.proofs.OpenLemmas.{none_foreign}
 use Rattle.kept_run.proofs.TextLemmas.{all_go_on, all_read_back, more_go_on, more_read_back, nameless, no_account, none_goes_on, texts_more, within_at}
 use Rattle.kept_run.proofs.TurnLemmas.{turns_at}
 use Rattle.kept_run.specs.Lines.{AreReadBack}
 use Rattle.kept_account.specs.Values.{IsEntryValue}
-use Rattle.cal_model.specs.Sound.{unsound_place}
+use Rattle.account_core.specs.Trails.{AreSoundFrom}
+use Rattle.cal_model.specs.GoesOn.{GoesOn}
 use Rattle.spec_history.specs.History.{changes_of}
 use Rattle.spec_history.specs.Base.{Base}
 use Rattle.spec_history.specs.declared.entry.Entry.{Entry}
@@ -30,20 +31,21 @@ loop-n-preserved c =
     let beside : c.loop-n.n < length c.args.desk.now.0 = omega (arith, c.accounts-n-end.ensures, c.requires.all) in
     let account : c.account-account.result.now ≡ get_or c.args.desk.now.0 c.loop-n.n no_account = c.account-account.ensures in
     let added : c.in-Some.added.now ≡ drop (get_or c.args.places.now c.loop-n.n 0) (get_or c.args.desk.now.0 c.loop-n.n no_account).1 =
-    c.in-Some.ensures ∙ ap (λ (a : Base × List Entry). drop (get_or c.args.places.now c.loop-n.n 0) a.1) account in
+    c.in-Some.ensures.entries ∙ ap (λ (a : Base × List Entry). drop (get_or c.args.places.now c.loop-n.n 0) a.1) account in
     let more : c.in_ok-more.more.items ≡ labelled (get_or c.args.site.now.accounts c.loop-n.n nameless).id (drop (get_or c.args.places.now c.loop-n.n 0) (get_or c.args.desk.now.0 c.loop-n.n no_account).1) =
     c.in_ok-more.ensures.texts ∙ (λ i. labelled (c.account_id.ensures nameless i) (added i)) in
     let place : ℕ = get_or c.args.places.now c.loop-n.n 0 in
     let own : Base × List Entry = get_or c.args.desk.now.0 c.loop-n.n no_account in
-    let sound : unsound_place own.0.zones (changes_of own.1) ≡ None = subst (λ (a : Base × List Entry). unsound_place a.0.zones (changes_of a.1) ≡ None) account c.has_sound_entries.ensures in
+    let goes : GoesOn own.0.zones (changes_of own.1) = subst (λ (a : Base × List Entry). GoesOn a.0.zones (changes_of a.1)) account c.goes_on.ensures in
+    let sound : AreSoundFrom own.0.zones place own.1 = subst (λ (a : Base × List Entry). AreSoundFrom a.0.zones place a.1) account c.in-Some.ensures.sound in
     let keepable : AreKeepable (drop place own.1) =
-    keepable_behind own.0.zones own.1 place sound (subst (All IsEntryValue) added c.are_entry_values.ensures) (turns_at c.loop-n.n c.args.places.now c.args.desk.now.0 there beside c.requires.turns) in
+    keepable_behind own.0.zones own.1 place goes.numbered sound (subst (All IsEntryValue) added c.are_entry_values.ensures) (turns_at c.loop-n.n c.args.places.now c.args.desk.now.0 there beside c.requires.turns) in
     let back : AreReadBack (drop place own.1) = subst AreReadBack added (c.in_ok-more.ensures.read_back (subst AreKeepable (sym added) keepable)) in
     record {
       texts = texts_more c.loop-n.n c.args.site.now.accounts c.args.places.now c.args.desk.now.0 inside there beside _ _ _ c.loop-n.invariant.texts more c.in_ok-append.ensures.items;
       read_back = more_read_back c.loop-n.n c.args.places.now c.args.desk.now.0 there beside c.loop-n.invariant.read_back back;
       go_on = more_go_on c.loop-n.n c.args.desk.now.0 beside c.loop-n.invariant.go_on
-          (sound_goes_on _ _ (c.all_entries_are_its_own.ensures c.loop-n.n) sound);
+          (record { own = none_foreign _ (c.all_entries_are_its_own.ensures c.loop-n.n); goes_on = goes });
     }
 
 pub returns-clause-read_back : goal.returns-clause-read_back
