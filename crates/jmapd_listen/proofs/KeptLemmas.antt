@@ -9,7 +9,7 @@ use mathlib.Core.Logic.{inl, inr}
 use Rattle.account_desk.specs.FreshDesk.{bases, kept_rules}
 use Rattle.account_desk.specs.SharedDesk.{shown_by_passes}
 use Rattle.account_lock.specs.Passes.{PassState}
-use Rattle.cal_model.specs.Sound.{unsound_place}
+use Rattle.cal_model.specs.GoesOn.{GoesOn}
 use Rattle.command_line.specs.Commands.{Listen, all_workers, listen}
 use Rattle.io_edge.specs.Outside.{OpenerShown}
 use Rattle.jmapd_listen.proofs.DeskLemmas.{are_desks_at}
@@ -42,7 +42,7 @@ module _ {D : Type 0} (shown : D → Shown) (site : Site) (told : List ℕ → O
 
 -- desks that share accounts whose keepers tell nothing
 pub untold_desks : {A : Type 0} (base : A → Base) (entries : A → List Entry) (site : Site) (workers : ℕ) (accounts : List A) (desks : List (List PassState × ℕ)) → map base accounts ≡ bases site
-    → All (λ a. unsound_place (base a).zones (changes_of (entries a)) ≡ None) accounts → length desks ≡ workers → ShareAccounts (map (λ a. (base a, entries a)) accounts) desks
+    → All (λ a. GoesOn (base a).zones (changes_of (entries a))) accounts → length desks ≡ workers → ShareAccounts (map (λ a. (base a, entries a)) accounts) desks
     → AreKeptDesks site (λ id. None) workers (map (shown_by_passes kept_rules) desks)
 untold_desks base entries site workers accounts desks are sound many share =
     let these : List (Base × List Entry) = map (λ a. (base a, entries a)) accounts in

@@ -5,10 +5,10 @@ use Rattle.io_edge.specs.Outside.{OpenerShown, Rose, SinkShown, SourceShown}
 use Rattle.jmapd_run.specs.Completes.{IsAccepted}
 use Rattle.jmapd_run.specs.Starts.{IsLoaded, IsUser}
 use Rattle.jmapd_run.specs.declared.kept_status.KeptStatus.{KeptStatus}
-use Rattle.jmapd_run.specs.declared.kept_status.KeptStatus.TheVariants.{BadJournal, Damaged, KeepFault, Plain}
+use Rattle.jmapd_run.specs.declared.kept_status.KeptStatus.TheVariants.{BadJournal, Damaged, ForeignJournal, KeepFault, Plain}
 use Rattle.jmapd_run.specs.declared.status.Status.{Status}
 use Rattle.jmapd_run.specs.declared.status.Status.TheVariants.{Config, Cut, Done, NoMemory, OpenFault, ReadFault, Refused, Usage, WriteFault}
-use Rattle.kept_run.proofs.Faultless.{is_opened, loaded_is, loaded_site, named_user, never_bad, never_damaged}
+use Rattle.kept_run.proofs.Faultless.{is_opened, loaded_is, loaded_site, named_user, never_bad, never_foreign, never_damaged}
 use Rattle.kept_run.specs.Completes.{IsFaultFree, TellsGoodLists}
 use Rattle.kept_run.specs.Runs.{KeptSetting, NotBegun}
 use Rattle.slot_run.specs.Completes.{FaultlessLooksAnswer}
@@ -43,7 +43,8 @@ module _ (asked : KeptCommand) (o o' : OpenerShown) (x x' : KeptSetting) (fine :
   begins (Plain WriteFault) how = absurd how
   begins KeepFault how = absurd (fine.kept how)
   begins (Damaged account place text) how = absurd (never_damaged how.0 x.keeper.told (good_for how.0 how.1) account how.2 place text.items how.4)
-  begins (BadJournal account place) how = absurd (never_bad how.0 x.keeper.told (good_for how.0 how.1) account place how.2)
+  begins (ForeignJournal account place) how = absurd (never_foreign how.0 x.keeper.told (good_for how.0 how.1) account place how.2)
+  begins (BadJournal account kind number) how = absurd (never_bad how.0 x.keeper.told (good_for how.0 how.1) account how.2)
 
 ends : (grants : List Grant) (accounts : List (Base × List Entry)) (s s' : SourceShown) (k k' : SinkShown) → (Rose s.faults s'.faults → ⊥) → (Rose k.faults k'.faults → ⊥) → (status : Status)
     → SlotEnds grants accounts s s' k k' status → Answered (Plain status)

@@ -9,7 +9,7 @@ returns-in-Damaged-clause-refused c =
     let why = subst (OpensNot None (account_base c.args.site.now (slice_index_or c.args.site.now.accounts c.args.n nameless).id)) c.in-Damaged.is (c.requires.why nameless) in
     ((c.args.n, c.requires.within, λ d. c.in-Ok.ensures ∙ c.account_id.ensures d), why.0, tt, c.rise-in-Damaged.ensures.rose)
 
-pub returns-in-BadEntries-clause-refused : goal.returns-in-BadEntries-clause-refused
-returns-in-BadEntries-clause-refused c =
-    let why = subst (OpensNot None (account_base c.args.site.now (slice_index_or c.args.site.now.accounts c.args.n nameless).id)) c.in-BadEntries.is (c.requires.why nameless) in
+pub returns-in-BadObject-clause-refused : goal.returns-in-BadObject-clause-refused
+returns-in-BadObject-clause-refused c =
+    let why = subst (OpensNot None (account_base c.args.site.now (slice_index_or c.args.site.now.accounts c.args.n nameless).id)) c.in-BadObject.is (c.requires.why nameless) in
     ((c.args.n, c.requires.within, λ d. c.in-Ok.ensures ∙ c.account_id.ensures d), why)
