@@ -71,11 +71,7 @@ pub fn open_parts(alloc: Global, zones: &Zones, loaded: Loaded) -> Result<Opened
 fn store_of(alloc: Global, zones: &Zones, loaded: Loaded) -> Result<Store, OpeningError> {
     match open_store(alloc, zones, loaded) {
         Ok(store) => Ok(store),
-        Err(StoreError::Unnumbered { kind, id }) => Err(OpeningError::BadObject { kind, id }),
-        Err(StoreError::TooMany) => Err(OpeningError::BadObject {
-            kind: Kind::Event,
-            id: 0,
-        }),
+        Err(StoreError::BadChange { kind, id }) => Err(OpeningError::BadObject { kind, id }),
         Err(StoreError::NoMemory) => Err(OpeningError::NoMemory),
     }
 }
