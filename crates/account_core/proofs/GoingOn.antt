@@ -1,11 +1,12 @@
 -- An account goes on behind one change more that fits.
 use Rattle.std.proofs.Common.{◌≡◌, ◌∙◌, ◌⊎◌, inl, inr, ◌≤◌, ◌++◌, ◌∷◌, ◌&&◌, ◌||◌, List, [], true, false, length, arith, ap, sym}
-use Rattle.account_core.proofs.SoundObjectLemmas.{none_unsound_where_all_are_sound, sound_objects_more, sound_where_none_is_unsound}
+use Rattle.account_core.proofs.SoundObjectLemmas.{sound_objects_more}
 use Rattle.account_rooms.specs.Rooms.{AreRooms, BookedRoom}
 use Rattle.cal_model.specs.Fits.{IsFit}
 use Rattle.cal_model.specs.GoesOn.{GoesOn}
 use Rattle.cal_model.specs.Quota.{live_objects, live_size}
 use Rattle.cal_model.specs.declared.limits.TheConstants.{MAX_CHANGES, MAX_OBJECT_BYTES, MAX_OBJECTS}
+use Rattle.object_outcomes.proofs.SoundObjects.{none_unsound_where_all_are_sound, sound_where_none_is_unsound}
 use Rattle.spec_bookings.specs.Resources.{resources_at}
 use Rattle.spec_bookings.specs.declared.limits.TheConstants.{MAX_RESOURCES}
 use Rattle.spec_history.specs.History.{ids_at, next_number}

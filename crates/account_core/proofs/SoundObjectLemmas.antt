@@ -18,6 +18,7 @@ use Rattle.cal_model.specs.declared.outcome.Outcome.{Outcome}
 use Rattle.cal_model.specs.declared.outcome.Outcome.TheVariants.{Accepted, Refused}
 use Rattle.object_outcomes.proofs.NameLemmas.{none_named}
 use Rattle.object_outcomes.proofs.SoundLemmas.{accepted_is, is_object, sound_parts}
+use Rattle.object_outcomes.proofs.SoundObjects.{AreSoundObjects, live_is_numbered}
 use Rattle.spec_bookings.proofs.Numbered.{in_filter, numbered_if_live}
 use Rattle.spec_bookings.proofs.Tables.{by_test, number_same, same_number}
 use Rattle.spec_bookings.specs.BookedResources.{clash_of_event, has_full_resource}
@@ -164,10 +165,7 @@ module _ (zones : List ZoneText) (cs : List Change) (n : ℕ) where
       let is : kept ≡ out.0 = accepted_is cs (exceeds_resources cs n d) None kept out.0 bad out.1 in
       record { valid = parts.1; zone = parts.0; form = subst (λ (b : Change). same_object b.object (Some t) ≡ true) (sym is) out.2 }
 
--- ---- What stands.
-
-abbrev pub AreSoundObjects : List ZoneText → List Change → Type 0
-AreSoundObjects zones cs = (kind : Kind) (n : ℕ) (t : Tree) → live_object cs kind n ≡ Some t → is_sound_object zones cs kind n (data_of t) ≡ true
+-- ---- What is sound.
 
 -- of the object that a change leaves of its number, and of any other as it was
 leaves_one : (P : Tree → Type 0) (same : Bool) (o before : Option Tree) (t : Tree) → (if same then o else before) ≡ Some t → (same ≡ true → (u : Tree) → o ≡ Some u → P u) → (same ≡ false → before ≡ Some t → P t) → P t
@@ -227,9 +225,6 @@ calendars_live : (zones : List ZoneText) (cs : List Change) (d : Data) → bad_o
 calendars_live zones cs d none n named =
     let missing = none_named (names_missing_calendar cs d) (codes "calendarIds") (bad_of_booking zones cs d (bad_properties_of_event zones d)) none in
     all_of (λ m. is_some (live_object cs Calendar m)) (calendars_of d) n (not-false _ missing.0) named
-
-live_is_numbered : (cs : List Change) (kind : Kind) (n : ℕ) → is_some (live_object cs kind n) ≡ true → is_in (ids_at cs kind) n ≡ true
-live_is_numbered cs kind n h = numbered_if_live cs kind n None [] (λ e. absurd (false≢true e)) h
 
 module _ (zones : List ZoneText) (cs : List Change) (id : ℕ) (o : Option Tree) where
   abbrev after : List Change
@@ -309,46 +304,3 @@ more_by zones cs Calendar id o stands new number fit sound =
 
 pub sound_objects_more : (zones : List ZoneText) (cs : List Change) (c : Change) → AreSoundObjects zones cs → is_in (ids_at cs Calendar) (next_number cs Calendar) ≡ false → IsFit zones cs c → AreSoundObjects zones (cs ++ c ∷ [])
 sound_objects_more zones cs c stands new fit = more_by zones cs c.kind c.id c.object stands new fit.number fit.object fit.sound
-
--- ---- No object is unsound.
-
-module _ (zones : List ZoneText) (cs : List Change) where
-  sound_by : (kind : Kind) (m : ℕ) (ms : List ℕ) (b : Bool) → option_map_or (λ t. is_sound_object zones cs kind m (data_of t)) (live_object cs kind m) true ≡ b
-      → (if b then unsound_among zones cs kind ms else Some m) ≡ None → (b ≡ true) × (unsound_among zones cs kind ms ≡ None)
-  sound_by kind m ms true e h = (refl, h)
-  sound_by kind m ms false e h = absurd (cc h)
-
-  sound_among : (kind : Kind) (ns : List ℕ) → unsound_among zones cs kind ns ≡ None → (n : ℕ) (t : Tree) → is_in ns n ≡ true → live_object cs kind n ≡ Some t → is_sound_object zones cs kind n (data_of t) ≡ true
-  sound_among kind [] h n t there live = absurd (false≢true there)
-  sound_among kind (m ∷ ms) h n t there live =
-      let first = sound_by kind m ms (option_map_or (λ u. is_sound_object zones cs kind m (data_of u)) (live_object cs kind m) true) refl h in
-      by_cases (m == n) refl there first.0 (λ r. sound_among kind ms first.1 n t r live)
-    where
-      by_cases : (same : Bool) → (m == n) ≡ same → (same || is_in ms n) ≡ true → option_map_or (λ u. is_sound_object zones cs kind m (data_of u)) (live_object cs kind m) true ≡ true
-          → (is_in ms n ≡ true → is_sound_object zones cs kind n (data_of t) ≡ true) → is_sound_object zones cs kind n (data_of t) ≡ true
-      by_cases true e r first rest =
-          let is = same_number m n e in
-          sym (ap (λ o. option_map_or (λ u. is_sound_object zones cs kind n (data_of u)) o true) live) ∙ subst (λ (k : ℕ). option_map_or (λ u. is_sound_object zones cs kind k (data_of u)) (live_object cs kind k) true ≡ true) is first
-      by_cases false e r first rest = rest r
-
-  none_unsound : (kind : Kind) (ns : List ℕ) → AreSoundObjects zones cs → unsound_among zones cs kind ns ≡ None
-  none_unsound kind [] stands = refl
-  none_unsound kind (n ∷ ns) stands = by_cases (live_object cs kind n) refl (none_unsound kind ns stands)
-    where
-      by_cases : (o : Option Tree) → live_object cs kind n ≡ o → unsound_among zones cs kind ns ≡ None → unsound_among zones cs kind (n ∷ ns) ≡ None
-      by_cases None e rest = ap (λ p. if option_map_or (λ t. is_sound_object zones cs kind n (data_of t)) p true then unsound_among zones cs kind ns else Some n) e ∙ rest
-      by_cases (Some t) e rest =
-          ap (λ p. if option_map_or (λ u. is_sound_object zones cs kind n (data_of u)) p true then unsound_among zones cs kind ns else Some n) e
-          ∙ ap (λ b. if b then unsound_among zones cs kind ns else Some n) (stands kind n t e) ∙ rest
-
-  neither : (a b : Option ℕ) → option_or {T = Kind × ℕ} (option_map (λ n. (Calendar, n)) a) (option_map (λ n. (Event, n)) b) ≡ None → (a ≡ None) × (b ≡ None)
-  neither None None h = (refl, refl)
-  neither None (Some b) h = absurd (cc h)
-  neither (Some a) b h = absurd (cc h)
-
-  pub sound_where_none_is_unsound : unsound_object zones cs ≡ None → AreSoundObjects zones cs
-  sound_where_none_is_unsound h Calendar n t live = sound_among Calendar (ids_at cs Calendar) (neither (unsound_among zones cs Calendar (ids_at cs Calendar)) (unsound_among zones cs Event (ids_at cs Event)) h).0 n t (live_is_numbered cs Calendar n (ap is_some live)) live
-  sound_where_none_is_unsound h Event n t live = sound_among Event (ids_at cs Event) (neither (unsound_among zones cs Calendar (ids_at cs Calendar)) (unsound_among zones cs Event (ids_at cs Event)) h).1 n t (live_is_numbered cs Event n (ap is_some live)) live
-
-  pub none_unsound_where_all_are_sound : AreSoundObjects zones cs → unsound_object zones cs ≡ None
-  none_unsound_where_all_are_sound stands = rw (none_unsound Calendar (ids_at cs Calendar) stands, none_unsound Event (ids_at cs Event) stands) refl

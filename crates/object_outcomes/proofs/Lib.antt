@@ -9,3 +9,4 @@ mod SameLemmas
 mod ServerLemmas
 pub mod SoundLemmas
 mod AgainLemmas
+pub mod SoundObjects

@@ -178,13 +178,3 @@ pub some_place : (zones : List ZoneText) (before cs : List Change) (c : Change) 
     → (is_sound zones before c ≡ true) × (first_unsound zones (before ++ c ∷ []) cs ≡ None)
 some_place zones before cs c true e h = (e, sym (rw e refl) ∙ h)
 some_place zones before cs c false e h = let none : first_unsound zones before (c ∷ cs) ≡ Some (length before) = rw e refl in absurd (cc (sym none ∙ h))
-
-form_from : (zones : List ZoneText) (kind : Kind) (n : ℕ) (before cs : List Change) (o : Option Tree) → has_stored_form kind n o ≡ true → first_unsound zones before cs ≡ None
-    → has_stored_form kind n (object_from o cs kind n) ≡ true
-form_from zones kind n before [] o form h = form
-form_from zones kind n before (c ∷ cs) o form h =
-    let first = some_place zones before cs c (is_sound zones before c) refl h in
-    form_from zones kind n (before ++ c ∷ []) cs (if names kind n c then c.object else o) (named_form kind n c o (names kind n c) refl (sound_parts zones before c first.0).0.1 form) first.1
-
-pub live_form : (zones : List ZoneText) (cs : List Change) (kind : Kind) (n : ℕ) → unsound_place zones cs ≡ None → has_stored_form kind n (live_object cs kind n) ≡ true
-live_form zones cs kind n h = form_from zones kind n [] cs None refl h
