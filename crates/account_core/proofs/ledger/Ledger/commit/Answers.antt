@@ -5,9 +5,9 @@ use Rattle.std.specs.Arc.{arc_value}
 use Rattle.account_core.proofs.Committing.{changes_committed, tally_committed}
 use Rattle.account_core.proofs.InUse.{in_use_committed}
 use Rattle.account_core.proofs.Rooms.{none_staged, rooms_committed}
-use Rattle.account_core.proofs.PushLemmas.{numbered_by_sound}
 use Rattle.account_core.proofs.SeriesRead.{none_read}
 use Rattle.account_core.specs.declared.reading.Reading.{Reading}
+use Rattle.spec_snapshots.proofs.NumberedPast.{parts_numbered}
 use Rattle.spec_snapshots.specs.Numbered.{are_numbered}
 use Rattle.account_core.specs.Tally.{Tallies}
 use Rattle.account_core.specs.Uses.{has_staged_event}
@@ -16,7 +16,8 @@ use Rattle.account_rooms.specs.RoomsView.{RoomsView}
 use Rattle.account_store.specs.Store.{entries}
 use Rattle.cal_model.specs.Answer.{entries_from}
 use Rattle.cal_model.specs.Quota.{size_of_object}
-use Rattle.cal_model.specs.Sound.{unsound_place}
+use Rattle.cal_model.specs.GoesOn.{GoesOn}
+use Rattle.cal_model.specs.Sound.{first_unsound}
 use Rattle.event_store.specs.ReadSeries.{AreRead}
 use Rattle.spec_bookings.specs.SeriesPut.{series_put}
 use Rattle.spec_history.specs.declared.entry.Change.{Change}
@@ -33,7 +34,7 @@ push_all-requires-clause-few c =
 pub push_all-requires-clause-numbered : goal.push_all-requires-clause-numbered
 push_all-requires-clause-numbered c =
     let l = c.args.self.now in
-    ap (λ v. are_numbered (changes_of (entries l.store)) v.items) c.replace-staged.ensures.value ∙ numbered_by_sound (arc_value l.zones) (changes_of (entries l.store)) l.staged.items l.sound
+    ap (λ v. are_numbered (changes_of (entries l.store)) v.items) c.replace-staged.ensures.value ∙ (parts_numbered [] (changes_of (entries l.store)) l.staged.items l.goes_on.numbered).1
 
 pub push_all-requires-clause-sizes : goal.push_all-requires-clause-sizes
 push_all-requires-clause-sizes c =
@@ -54,7 +55,7 @@ invariant_of-self c =
     let told = c.still_in_use.ensures
     ∙ ap (λ ds. if has_staged_event ds then None else c.replace-known.result) (c.deref.ensures.value ∙ ap (λ v. v.items) c.replace-staged.ensures.value)
     ∙ ap (λ o. if has_staged_event c.args.self.now.staged.items then None else o) c.replace-known.ensures.value in
-    let sound = ap (unsound_place zones) added ∙ c.args.self.now.sound in
+    let goes = subst (GoesOn zones) (sym added) c.args.self.now.goes_on in
     record {
       kept_told = kept;
       told = subst (λ items. Tallies c.args.self.now.tally (changes_of (entries c.compact.new.self) ++ items)) (sym emptied) (rw append-nil kept);
@@ -66,6 +67,7 @@ invariant_of-self c =
       kept_rooms = subst (AreRooms zones (changes_of (entries c.compact.new.self))) (sym before) rooms;
       rooms_now = none_staged zones _ _ c.args.self.now.rooms.rooms c.keep.new.self.rooms rooms emptied now;
       used = in_use_committed (changes_of (entries c.args.self.now.store)) c.args.self.now.staged.items c.args.self.now.in_use _ _ c.args.self.now.used added told;
-      kept_sound = sound;
-      sound = ap (λ ds. unsound_place zones (changes_of (entries c.compact.new.self) ++ ds)) emptied ∙ ap (unsound_place zones) (append-nil (changes_of (entries c.compact.new.self))) ∙ sound;
+      kept_goes_on = goes;
+      goes_on = subst (λ ds. GoesOn zones (changes_of (entries c.compact.new.self) ++ ds)) (sym emptied) (subst (GoesOn zones) (sym (append-nil (changes_of (entries c.compact.new.self)))) goes);
+      sound = ap (first_unsound zones (changes_of (entries c.compact.new.self))) emptied;
     }

@@ -64,7 +64,9 @@ invariant_of-self c =
       kept_rooms = subst (AreRooms zones (history l)) (sym c.follow.ensures.kept) l.kept_rooms;
       rooms_now = one_staged zones (history l) (staged l) c.push_reserved-in-Ok.new.self.items c.args.change l.rooms.rooms c.follow.new.rooms.rooms l.rooms_now c.requires.fit new more after;
       used = l.used;
-      kept_sound = l.kept_sound;
+      kept_goes_on = l.kept_goes_on;
+      goes_on = subst (GoesOn zones) (sym (ap (λ ds. history l ++ ds) more ∙ sym (append_assoc (history l) (staged l) (c.args.change ∷ []))))
+          (goes_on_staged zones cs c.args.change c.count.new.self c.follow.new.rooms.rooms l.goes_on c.requires.fit new rooms tallied);
       sound = one_sound zones (history l) (staged l) c.push_reserved-in-Ok.new.self.items c.args.change l.sound c.requires.fit.sound more;
     }
 
