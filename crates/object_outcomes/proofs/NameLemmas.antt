@@ -42,6 +42,11 @@ none_left names b e h = no_names names (sym e ∙ h)
 pub some_left : (names : List (List ℕ)) (b : Bool) → b ≡ false → b ≡ (length names == 0) → names ≡ [] → ⊥
 some_left names b e h none = let no : (length names == 0) ≡ true = ap (λ ns. length ns == 0) none in false≢true (sym e ∙ h ∙ no)
 
+-- names that aren't none are some
+pub not_none : (names : List (List ℕ)) → (names ≡ [] → ⊥) → (length names == 0) ≡ false
+not_none [] h = absurd (h refl)
+not_none (n ∷ names) h = refl
+
 -- names that are some are told
 pub refused_names : (cs : List Change) (is_full : Bool) (clash : Option (ℕ × Clash)) (c : Change) (names : List (List ℕ)) → (names ≡ [] → ⊥)
     → Refused (InvalidProperties names) ≡ after_tests cs is_full clash c names
