@@ -1,9 +1,12 @@
 //! How what an account keeps beside its entries is opened.
-ghost use Rattle.std.specs.Prelude.{◌≡◌, IfErr, IfOk};
+ghost use Rattle.std.specs.Prelude.{◌≡◌, ◌≤◌, ◌^◌, [], IfErr, IfOk, OnOk, length, true};
 ghost use Rattle.account_opening.specs.Opening.{IsOpened, IsRefusal};
 ghost use Rattle.account_opening.specs.declared.open.OpeningError.TheVariants.{NoMemory as no_memory};
+ghost use Rattle.account_store.specs.Store.{entries, event_puts};
+ghost use Rattle.event_store.specs.ReadSeries.{AreRead};
 ghost use Rattle.spec_history.specs.History.{changes_of};
 ghost use Rattle.spec_snapshots.specs.Kept.{IsKeptFrom};
+ghost use Rattle.spec_snapshots.specs.Numbered.{are_numbered};
 
 use crate::judge::{judge_calendars, judge_events, weigh};
 use account_rooms::Rooms;
@@ -68,7 +71,15 @@ pub fn open_parts(alloc: Global, zones: &Zones, loaded: Loaded) -> Result<Opened
     })
 }
 
-fn store_of(alloc: Global, zones: &Zones, loaded: Loaded) -> Result<Store, OpeningError> {
+// The store, where the changes gave the numbers of objects in order.
+fn store_of(alloc: Global, zones: &Zones, loaded: Loaded) -> Result<Store, OpeningError>
+    requires { IsKeptFrom loaded.told.items loaded.kept }
+    ensures entries { IfOk result (λ s. entries s ≡ loaded.told.items) }
+    ensures read { IfOk result (λ s. AreRead zones.now (event_puts s)) }
+    ensures numbered { OnOk result (are_numbered [] (changes_of loaded.told.items) ≡ true) }
+    ensures few { OnOk result (length loaded.told.items ≤ 2 ^ 40) }
+    ensures refused { IfErr result (IsRefusal zones.now (changes_of loaded.told.items)) }
+{
     match open_store(alloc, zones, loaded) {
         Ok(store) => Ok(store),
         Err(StoreError::BadChange { kind, id }) => Err(OpeningError::BadObject { kind, id }),
