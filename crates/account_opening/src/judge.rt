@@ -1,16 +1,20 @@
 //! Live objects, judged as if they were stored anew.
-ghost use Rattle.std.specs.Prelude.{◌≡◌, ◌≤◌, ◌++◌, IfErr, IfOk, OnOk, Some, length};
+ghost use Rattle.std.specs.Prelude.{◌≡◌, ◌≤◌, ◌++◌, IfErr, IfOk, List, OnOk, Some, false, length, true};
 ghost use Rattle.account_opening.specs.Again.{AreSound, put_again, put_of, puts_of};
 ghost use Rattle.account_opening.specs.Opening.{IsRefusal};
 ghost use Rattle.account_rooms.specs.Rooms.{AreRooms};
 ghost use Rattle.account_store.specs.Earlier.{live_ids};
 ghost use Rattle.account_store.specs.Store.{entries};
 ghost use Rattle.cal_model.specs.Quota.{live_objects, live_size};
+ghost use Rattle.cal_model.specs.SoundObjects.{is_sound_object};
 ghost use Rattle.cal_model.specs.declared.limits.TheConstants.{MAX_OBJECT_BYTES, MAX_OBJECTS};
 ghost use Rattle.spec_bookings.specs.Resources.{resources_at};
 ghost use Rattle.spec_bookings.specs.declared.limits.TheConstants.{MAX_RESOURCES};
-ghost use Rattle.spec_history.specs.History.{changes_of};
+ghost use Rattle.spec_history.specs.History.{changes_of, ids_at};
+ghost use Rattle.spec_history.specs.Pages.{is_in};
+ghost use Rattle.spec_history.specs.declared.entry.Change.{Change as AnyChange};
 ghost use Rattle.spec_history.specs.declared.entry.Kind.TheVariants.{Calendar as calendar_kind, Event as event_kind};
+ghost use Rattle.spec_json.specs.TreeData.{data_of};
 
 use crate::again::Again;
 use crate::open::OpeningError;
@@ -102,14 +106,20 @@ pub(crate) fn judge_calendars<'a>(
     Ok(again)
 }
 
-// Puts a calendar again, where it is sound.
+// Puts a calendar again under a number that none has yet, where it is sound.
 fn put_calendar(
     alloc: Global,
     again: &mut Again<'_>,
     id: u64,
     calendar: &Tree,
 ) -> Result<(), OpeningError>
+    requires rooms { AreRooms again.old.zones.now again.old.put.items again.old.rooms.rooms }
+    requires new { is_in (ids_at again.old.put.items calendar_kind) id ≡ false }
     ensures put { OnOk result (again.new.put.items ≡ again.old.put.items ++ put_of calendar_kind id (Some calendar.now)) }
+    ensures rooms { OnOk result (AreRooms again.old.zones.now again.new.put.items again.new.rooms.rooms) }
+    ensures sound { OnOk result ((cs : List AnyChange) → is_sound_object again.old.zones.now cs calendar_kind id (data_of calendar.now) ≡ true) }
+    ensures refused { IfErr result (λ e. (kind : _) (n : _) → e ≡ OpeningError.BadObject kind n → (cs : List AnyChange) → is_sound_object again.old.zones.now cs calendar_kind id (data_of calendar.now) ≡ false) }
+    ensures same { (again.new.store ≡ again.old.store) × (again.new.zones ≡ again.old.zones) }
 {
     if !is_sound_calendar(alloc, again.zones, id, calendar)? {
         return Err(bad(Kind::Calendar, id));
