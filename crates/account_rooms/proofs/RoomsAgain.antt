@@ -27,7 +27,7 @@ weaker_by p q n ns ms false true e f h rest = rw e rest
 weaker_by p q n ns ms false false e f h rest = rest
 weaker_by p q n ns ms true false e f h rest = absurd (false≢true (h refl))
 
-weaker : (p q : ℕ → Bool) → ((n : ℕ) → p n ≡ true → q n ≡ true) → (ns : List ℕ) → filter p (filter q ns) ≡ filter p ns
+pub weaker : (p q : ℕ → Bool) → ((n : ℕ) → p n ≡ true → q n ≡ true) → (ns : List ℕ) → filter p (filter q ns) ≡ filter p ns
 weaker p q h [] = refl
 weaker p q h (n ∷ ns) = weaker_by p q n ns (filter q ns) (p n) (q n) refl refl (h n) (weaker p q h ns)
 
@@ -37,7 +37,7 @@ given_by : {X : Type 0} (f : ℕ → List X) (p : ℕ → Bool) (n : ℕ) (ns : 
 given_by f p n ns true e h rest = ap (λ l. f n ++ l) rest
 given_by f p n ns false e h rest = rest ∙ ap (λ l. l ++ flat_map f ns) (sym (h e))
 
-given : {X : Type 0} (f : ℕ → List X) (p : ℕ → Bool) → ((n : ℕ) → p n ≡ false → f n ≡ []) → (ns : List ℕ) → flat_map f (filter p ns) ≡ flat_map f ns
+pub given : {X : Type 0} (f : ℕ → List X) (p : ℕ → Bool) → ((n : ℕ) → p n ≡ false → f n ≡ []) → (ns : List ℕ) → flat_map f (filter p ns) ≡ flat_map f ns
 given f p h [] = refl
 given f p h (n ∷ ns) = given_by f p n ns (p n) refl (h n) (given f p h ns)
 

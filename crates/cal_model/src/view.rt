@@ -1,5 +1,5 @@
 //! What a set sees of an account while it is planned.
-ghost use Rattle.std.specs.Prelude.{◌≡◌, ◌≤◌, ◌+◌, ◌++◌, ◌∷◌, [], None, IfNone, IfOk, IfSome, List, OnErr, OnOk, length, not, option_map, true, ⊥};
+ghost use Rattle.std.specs.Prelude.{◌≡◌, ◌≤◌, ◌+◌, ◌++◌, ◌∷◌, [], None, IfNone, IfOk, List, OnErr, OnOk, length, not, option_map, true};
 ghost use Rattle.cal_model.specs.EventObject.{has_event};
 ghost use Rattle.cal_model.specs.Fits.{IsFit};
 ghost use Rattle.cal_model.specs.Quota.{exceeds_quota, size_of_object};
@@ -52,8 +52,7 @@ pub trait CalendarsView {
         requires resource { is_resource (changes self.now) calendar ≡ true }
         requires week { IsWeekLong series.now }
         ensures exact { result ≡ first_clash (other_bookings (base self.now).zones (changes self.now) event calendar) series.now }
-        ensures clear { IfNone result (IsClear (other_bookings (base self.now).zones (changes self.now) event calendar) series.now) }
-        ensures there { IfSome result (λ c. IsClear (other_bookings (base self.now).zones (changes self.now) event calendar) series.now → ⊥) };
+        ensures clear { IfNone result (IsClear (other_bookings (base self.now).zones (changes self.now) event calendar) series.now) };
 }
 
 /// What a set sees of an account: its history, with the changes of this call that were accepted so far.
