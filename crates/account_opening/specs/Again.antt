@@ -1,5 +1,5 @@
 -- The live objects of a history, put again one after the other: calendars first and then events, each in order of number.
-use Rattle.std.specs.Prelude.{ℕ, List, [], ◌∷◌, ◌++◌, Option, Some, None, flat_map, ◌≡◌, true}
+use Rattle.std.specs.Prelude.{ℕ, List, [], ◌∷◌, ◌++◌, Option, Some, None, flat_map, take, ◌≡◌, true}
 use Rattle.account_store.specs.Earlier.{live_ids}
 use Rattle.cal_model.specs.SoundObjects.{is_sound_object}
 use Rattle.spec_history.specs.History.{live_object}
@@ -17,6 +17,10 @@ put_of kind n (Some t) = (record { kind = kind; id = n; object = Some t }) ∷ [
 -- those of some numbers of a kind
 abbrev pub puts_of : List Change → Kind → List ℕ → List Change
 puts_of cs kind ns = flat_map (λ n. put_of kind n (live_object cs kind n)) ns
+
+-- all calendars, and so many events
+abbrev pub again_at : List Change → ℕ → List Change
+again_at cs k = puts_of cs Calendar (live_ids cs Calendar) ++ puts_of cs Event (take k (live_ids cs Event))
 
 -- all of them
 abbrev pub put_again : List Change → List Change

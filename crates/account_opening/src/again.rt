@@ -1,37 +1,118 @@
 //! The live objects of a store, put again one after the other.
-ghost use Rattle.std.specs.Prelude.{◌≡◌, List, true};
+ghost use Rattle.std.specs.Prelude.{◌≡◌, ◌+◌, ◌<◌, ◌^◌, [], IfErr, IfNone, IfOk, IfSome, None, OnOk, Some, false, slice_get, true, ⊥};
+ghost use Rattle.account_opening.specs.Again.{again_at};
+ghost use Rattle.account_opening.specs.Opening.{IsRefusal};
 ghost use Rattle.account_rooms.specs.Rooms.{AreRooms};
+ghost use Rattle.account_store.specs.Earlier.{live_ids};
+ghost use Rattle.account_store.specs.Store.{entries};
+ghost use Rattle.cal_model.specs.Fits.{IsEventFit};
+ghost use Rattle.cal_model.specs.SoundObjects.{is_sound_object};
+ghost use Rattle.spec_bookings.specs.BookedResources.{clash_of_event, has_full_resource};
 ghost use Rattle.spec_history.specs.Base.{Base};
 ghost use Rattle.spec_history.specs.History.{changes_of, live_object};
-ghost use Rattle.spec_history.specs.declared.entry.Change.{Change as AnyChange};
-ghost use Rattle.spec_history.specs.declared.entry.Kind.TheVariants.{Calendar};
-ghost use Rattle.spec_site.specs.TimeZones.{ZoneText};
+ghost use Rattle.spec_history.specs.declared.entry.Kind.TheVariants.{Event as event_kind};
+ghost use Rattle.spec_json.specs.TreeData.{data_of};
+ghost use Rattle.spec_recurrence.specs.SeriesOf.{series_in};
+ghost use Rattle.spec_snapshots.specs.Numbered.{are_numbered};
 
+use crate::open::OpeningError;
 use account_rooms::Rooms;
 use account_store::Store;
 use cal_model::view::CalendarsView;
-use ghost_list::GhostList;
+use object_outcomes::against::stands_against;
+use object_outcomes::resources::resources_of;
+use object_outcomes::sound::sound_event;
 use spec_bookings::clash::Clash;
-use spec_history::entry::{Change, Kind};
+use spec_history::entry::Kind;
 use spec_json::tree::Tree;
 use spec_series::series::Series;
 use std::alloc::{AllocError, Global};
 use zone_table::Zones;
 
-/// All live calendars of a store, and those of its live events that were put again, with the rooms of these.
+/// All live calendars of a store, and the first of its live events in order of creation, with the rooms of these.
 ///
-/// Contracts see the changes that put them, in the place of the store's history: as long as no object is live twice, the two have the same rooms.
+/// Contracts see the changes that put them, in the place of the store's history: once all are there, both have the same rooms.
+#[derive(Drop)]
 pub(crate) struct Again<'a> {
     pub store: &'a Store,
     pub zones: &'a Zones,
     pub rooms: Rooms,
-    pub put: GhostList<Change>,
+    /// How many events there are.
+    pub events: usize,
+    ghost booked: { AreRooms zones.now (again_at (changes_of (entries store.now)) events) rooms.rooms },
+}
+
+impl<'a> Again<'a> {
+    /// One event more, the next of the store's live ones, where it is sound, and nothing stands against its bookings.
+    pub(crate) fn with_event(
+        self,
+        alloc: Global,
+        id: u64,
+        event: &Tree,
+    ) -> Result<Again<'a>, OpeningError>
+        requires numbered { are_numbered [] (changes_of (entries self.store.now)) ≡ true }
+        requires next { slice_get (live_ids (changes_of (entries self.store.now)) event_kind) self.events ≡ Some id }
+        requires live { live_object (changes_of (entries self.store.now)) event_kind id ≡ Some event.now }
+        requires few { self.events < 2 ^ 63 }
+        ensures of { IfOk result (λ a. (a.store ≡ self.store) × (a.zones ≡ self.zones)) }
+        ensures events { IfOk result (λ a. a.events ≡ self.events + 1) }
+        ensures sound { OnOk result (is_sound_object self.zones.now (changes_of (entries self.store.now)) event_kind id (data_of event.now) ≡ true) }
+        ensures refused { IfErr result (IsRefusal self.zones.now (changes_of (entries self.store.now))) }
+    {
+        let Some(series) = self.series_fit(alloc, id, event)? else {
+            return Err(OpeningError::BadObject {
+                kind: Kind::Event,
+                id,
+            });
+        };
+        let Again {
+            store,
+            zones,
+            mut rooms,
+            events,
+        } = self;
+        rooms.put_event(id, event, Some(&series))?;
+        Ok(Again {
+            store,
+            zones,
+            rooms,
+            events: events + 1,
+        })
+    }
+
+    // The series of an event, where it is sound, and nothing stands against its bookings.
+    fn series_fit(
+        &self,
+        alloc: Global,
+        id: u64,
+        event: &Tree,
+    ) -> Result<Option<Series>, AllocError>
+        ensures series { IfOk result (λ s. IfSome s (λ series. series_in self.now.zones.now (data_of event.now) ≡ Some series)) }
+        ensures sound { IfOk result (λ s. IfSome s (λ series. is_sound_object self.now.zones.now (again_at (changes_of (entries self.now.store.now)) self.now.events) event_kind id (data_of event.now) ≡ true)) }
+        ensures fit { IfOk result (λ s. IfSome s (λ series. IsEventFit self.now.zones.now (again_at (changes_of (entries self.now.store.now)) self.now.events) id (data_of event.now))) }
+        ensures none { IfOk result (λ s. IfNone s (is_sound_object self.now.zones.now (again_at (changes_of (entries self.now.store.now)) self.now.events) event_kind id (data_of event.now) ≡ true
+            → has_full_resource self.now.zones.now (again_at (changes_of (entries self.now.store.now)) self.now.events) id (data_of event.now) ≡ false
+            → clash_of_event self.now.zones.now (again_at (changes_of (entries self.now.store.now)) self.now.events) id (data_of event.now) ≡ None → ⊥)) }
+    {
+        let resources = resources_of(alloc, self, event)?;
+        let Some(series) = sound_event(alloc, self, self.zones, id, event, &resources)? else {
+            return Ok(None);
+        };
+        let against = stands_against(self, id, event, &resources, &series);
+        if against.is_full {
+            return Ok(None);
+        }
+        match against.clash {
+            Some(_) => Ok(None),
+            None => Ok(Some(series)),
+        }
+    }
 }
 
 impl CalendarsView for Again<'_> {
     ghost base = { λ a. record { account_id = []; zones = a.zones.now; generation = 0 } };
 
-    ghost changes = { λ a. a.put.items };
+    ghost changes = { λ a. again_at (changes_of (entries a.store.now)) a.events };
 
     fn calendar(&self, id: u64) -> Option<&Tree> {
         self.store.object(Kind::Calendar, id)

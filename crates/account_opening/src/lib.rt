@@ -4,5 +4,6 @@
 mod again;
 mod judge;
 mod open;
+mod weigh;
 
 pub use open::{Opened, OpeningError, open_parts};

@@ -8,7 +8,8 @@ ghost use Rattle.spec_history.specs.History.{changes_of};
 ghost use Rattle.spec_snapshots.specs.Kept.{IsKeptFrom};
 ghost use Rattle.spec_snapshots.specs.Numbered.{are_numbered};
 
-use crate::judge::{judge_calendars, judge_events, weigh};
+use crate::judge::{judge_calendars, judge_events};
+use crate::weigh::weigh;
 use account_rooms::Rooms;
 use account_store::Store;
 use journal_keeper::loaded::Loaded;
@@ -62,7 +63,7 @@ pub fn open_parts(alloc: Global, zones: &Zones, loaded: Loaded) -> Result<Opened
     let store = store_of(alloc, zones, loaded)?;
     let load = weigh(alloc, &store)?;
     let calendars = judge_calendars(alloc, zones, &store)?;
-    let rooms = judge_events(alloc, calendars)?;
+    let rooms = judge_events(alloc, zones, &store, calendars)?;
     Ok(Opened {
         store,
         objects: load.objects,
