@@ -8,5 +8,4 @@ mod BookingLemmas
 mod SameLemmas
 mod ServerLemmas
 pub mod SoundLemmas
-mod AgainLemmas
 pub mod SoundObjects

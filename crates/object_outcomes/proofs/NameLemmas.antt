@@ -45,7 +45,7 @@ some_left names b e h none = let no : (length names == 0) ≡ true = ap (λ ns. 
 -- names that aren't none are some
 pub not_none : (names : List (List ℕ)) → (names ≡ [] → ⊥) → (length names == 0) ≡ false
 not_none [] h = absurd (h refl)
-not_none (n ∷ names) h = refl
+not_none (n ∷ names) h = grind (arith, nat_tests)
 
 -- names that are some are told
 pub refused_names : (cs : List Change) (is_full : Bool) (clash : Option (ℕ × Clash)) (c : Change) (names : List (List ℕ)) → (names ≡ [] → ⊥)

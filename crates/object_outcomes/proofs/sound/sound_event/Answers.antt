@@ -20,10 +20,10 @@ returns-then-is_empty-clause-sound g c =
     let cs = g.V.CalendarsView.changes c.args.view.now in
     let d = data_of c.args.event.now in
     let series = c.in-Ok.series in
-    let names = c.in_ok-names.names in
+    let names = c.in_ok-names-in-Ok.names in
     let long = c.has_long_exception-is_long.ensures ∙ long_of_series zones cs d series _ c.in-Ok.ensures.value c.requires.resources in
     let own = c.new-none.ensures.items ∙ sym (series_is_valid zones d series c.in-Ok.ensures.value) in
-    let told = all_names zones cs None false c.has_long_exception-is_long.result d _ names.items own long c.in_ok-names.ensures in
+    let told = all_names zones cs None false c.has_long_exception-is_long.result d _ names.items own long c.in_ok-names-in-Ok.ensures in
     let same : vec_len names ≡ length names.items = omega (arith, names.ok) in
     let none = none_left names.items c.is_empty.result c.if-is_empty.true (c.is_empty.ensures ∙ ap (λ n. n == 0) same) in
     and_from (has_server_values Event c.args.number d) _ (sym c.in_ok-has_server_values.ensures ∙ c.if-not-branch.false) (ap (λ ns. length ns == 0) (sym told ∙ none))
@@ -34,24 +34,24 @@ returns-then-is_empty-clause-storable g c =
     let cs = g.V.CalendarsView.changes c.args.view.now in
     let d = data_of c.args.event.now in
     let series = c.in-Ok.series in
-    let names = c.in_ok-names.names in
+    let names = c.in_ok-names-in-Ok.names in
     let long = c.has_long_exception-is_long.ensures ∙ long_of_series zones cs d series _ c.in-Ok.ensures.value c.requires.resources in
     let own = c.new-none.ensures.items ∙ sym (series_is_valid zones d series c.in-Ok.ensures.value) in
-    let told = all_names zones cs None false c.has_long_exception-is_long.result d _ names.items own long c.in_ok-names.ensures in
+    let told = all_names zones cs None false c.has_long_exception-is_long.result d _ names.items own long c.in_ok-names-in-Ok.ensures in
     let same : vec_len names ≡ length names.items = omega (arith, names.ok) in
     let none = none_left names.items c.is_empty.result c.if-is_empty.true (c.is_empty.ensures ∙ ap (λ n. n == 0) same) in
     storable zones cs None false d series c.in-Ok.ensures.value (sym told ∙ none)
 
-pub returns-else-is_empty-clause-unsound : goal.returns-else-is_empty-clause-unsound
-returns-else-is_empty-clause-unsound g c =
+pub returns-in-Ok-clause-unsound : goal.returns-in-Ok-clause-unsound
+returns-in-Ok-clause-unsound g c =
     let zones = c.args.zones.now in
     let cs = g.V.CalendarsView.changes c.args.view.now in
     let d = data_of c.args.event.now in
     let series = c.in-Ok.series in
-    let names = c.in_ok-names.names in
+    let names = c.in_ok-names-in-Ok.names in
     let long = c.has_long_exception-is_long.ensures ∙ long_of_series zones cs d series _ c.in-Ok.ensures.value c.requires.resources in
     let own = c.new-none.ensures.items ∙ sym (series_is_valid zones d series c.in-Ok.ensures.value) in
-    let told = all_names zones cs None false c.has_long_exception-is_long.result d _ names.items own long c.in_ok-names.ensures in
+    let told = all_names zones cs None false c.has_long_exception-is_long.result d _ names.items own long c.in_ok-names-in-Ok.ensures in
     let same : vec_len names ≡ length names.items = omega (arith, names.ok) in
     and_right (has_server_values Event c.args.number d) _ (ap (λ ns. length ns == 0) (sym told) ∙ sym (c.is_empty.ensures ∙ ap (λ n. n == 0) same) ∙ c.if-is_empty.false)
 
