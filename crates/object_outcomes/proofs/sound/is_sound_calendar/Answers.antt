@@ -19,7 +19,7 @@ pub returns-in-Ok : goal.returns-in-Ok
 returns-in-Ok c cs =
     let d = data_of c.args.calendar.now in
     let same = λ (b : Bool). b && same_data (object (members_of (stored (calendar_in d)))) d in
-    c.same.ensures ∙ ap (λ t. same_data (data_of t) d) c.in_ok-tree.ensures ∙ ap (λ k. same_data (object (members_of (stored k))) d) c.in-Ok.ensures.value
+    c.same.ensures ∙ ap (λ t. same_data (data_of t) d) c.in_ok-tree-in-Ok.ensures ∙ ap (λ k. same_data (object (members_of (stored k))) d) c.in-Ok.ensures.value
     ∙ sym (ap (λ b. same (b && (length (bad_properties c.args.zones.now d) == 0))) (sym c.in_ok-has_own_id.ensures ∙ c.if-not-branch.false) ∙ ap (λ ns. same (length ns == 0)) c.in-Ok.ensures.valid)
 
 pub returns-in-Err-BadCalendar : goal.returns-in-Err-BadCalendar
