@@ -1,5 +1,5 @@
 -- What comes of opening an account at what its keeper has of it.
-use Rattle.std.specs.Prelude.{◌≡◌, List, Option, ⊤, ⊥}
+use Rattle.std.specs.Prelude.{◌≡◌, List, Option, ⊤}
 use Rattle.cal_model.specs.GoesOn.{GoesOn}
 use Rattle.journal_keeper.specs.EntryText.{IsNoEntryText}
 use Rattle.journal_keeper.specs.Journals.{HasDamage, Kept, KeeperShown, Lists}

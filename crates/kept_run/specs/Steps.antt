@@ -1,5 +1,5 @@
 -- What the steps of a kept run do.
-use Rattle.std.specs.Prelude.{◌≡◌, ◌+◌, ◌<◌, ◌≤◌, ℕ, ℤ, List, [], ◌∷◌, ◌++◌, All, Option, Result, Ok, Err, Some, None, drop, length, ⊤, ⊥}
+use Rattle.std.specs.Prelude.{◌≡◌, ◌+◌, ◌<◌, ◌≤◌, ℕ, ℤ, List, [], ◌∷◌, ◌++◌, All, Option, Result, Ok, Err, Some, None, drop, length, ⊤}
 use Rattle.io_edge.specs.Outside.{Grows, GrowsByPrefix, Rose, SinkShown, SourceShown, Ticks}
 use Rattle.std.specs.Io.KnownBytes.{IsAtEnd}
 use Rattle.jmapd_run.specs.declared.status.Status.{Status}
