@@ -1,2 +1,5 @@
+pub mod NumberedLemmas
 pub mod PutAgainLemmas
+pub mod CalendarLemmas
 pub mod ClearLemmas
+pub mod FitLemmas

@@ -1,5 +1,5 @@
 //! The live objects of a store, put again one after the other.
-ghost use Rattle.std.specs.Prelude.{◌≡◌, ◌+◌, ◌<◌, ◌^◌, [], IfErr, IfNone, IfOk, IfSome, None, OnOk, Some, false, slice_get, true, ⊥};
+ghost use Rattle.std.specs.Prelude.{◌≡◌, ◌+◌, ◌<◌, ◌^◌, [], IfErr, IfNone, IfOk, IfSome, None, OnOk, Some, false, slice_get, true,};
 ghost use Rattle.account_opening.specs.Again.{again_at};
 ghost use Rattle.account_opening.specs.Opening.{IsRefusal};
 ghost use Rattle.account_rooms.specs.Rooms.{AreRooms};
@@ -54,10 +54,10 @@ impl<'a> Again<'a> {
         requires next { slice_get (live_ids (changes_of (entries self.store.now)) event_kind) self.events ≡ Some id }
         requires live { live_object (changes_of (entries self.store.now)) event_kind id ≡ Some event.now }
         requires few { self.events < 2 ^ 63 }
-        ensures of { IfOk result (λ a. (a.store ≡ self.store) × (a.zones ≡ self.zones)) }
-        ensures events { IfOk result (λ a. a.events ≡ self.events + 1) }
-        ensures sound { OnOk result (is_sound_object self.zones.now (changes_of (entries self.store.now)) event_kind id (data_of event.now) ≡ true) }
-        ensures refused { IfErr result (IsRefusal self.zones.now (changes_of (entries self.store.now))) }
+        ensures of { IfOk result (λ a. (a.store ≡ self.entry.store) × (a.zones ≡ self.entry.zones)) }
+        ensures events { IfOk result (λ a. a.events ≡ self.entry.events + 1) }
+        ensures sound { OnOk result (is_sound_object self.entry.zones.now (changes_of (entries self.entry.store.now)) event_kind id (data_of event.now) ≡ true) }
+        ensures refused { IfErr result (IsRefusal self.entry.zones.now (changes_of (entries self.entry.store.now))) }
     {
         let Some(series) = self.series_fit(alloc, id, event)? else {
             return Err(OpeningError::BadObject {
