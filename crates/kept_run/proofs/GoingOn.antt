@@ -273,7 +273,7 @@ module _ (site : Site) (user : ℕ) (apart : AreApart site.accounts) (ls : List 
   same_site is = all_bases site user apart ls (accounts, 0) answered ∙ is
 
   may_go_on : (told : Option Kept) → AreOpened site told accounts → MayAllGoOn left
-  may_go_on told o = all_may_go_on site user apart ls (accounts, 0) (λ k d below. (o.go_on k d below).sound) answered
+  may_go_on told o = all_may_go_on site user apart ls (accounts, 0) (λ k d below. (o.go_on k d below).good) answered
 
   -- each account has just the entries that are kept of it
   listed_left : (k : Kept) → AreOpened site (Some k) accounts → AllListed site user apart (k.texts ++ all_texts site (accounts, 0) ls) left
@@ -288,7 +288,7 @@ module _ (site : Site) (user : ℕ) (apart : AreApart site.accounts) (ls : List 
   opened_next : (told told' : Option Kept) → HasTexts told told' (all_texts site (accounts, 0) ls) → AreOpened site told accounts → AreOpened site told' left
   opened_next None None has o = record {
     bases = same_site o.bases;
-    go_on = λ k d below. record { listed = tt; sound = may_go_on None o k d below };
+    go_on = λ k d below. record { listed = tt; good = may_go_on None o k d below };
   }
   opened_next (Some k) None has o = absurd (let wrong : None ≡ Some (k.texts ++ all_texts site (accounts, 0) ls) = has in cc)
   opened_next None (Some k) has o = absurd (let wrong : Some k.texts ≡ None = has in cc)
@@ -303,7 +303,7 @@ module _ (site : Site) (user : ℕ) (apart : AreApart site.accounts) (ls : List 
             let there : n < length site.accounts = omega (arith, below, count) in
             record {
               listed = subst (λ (y : Base × List Labelled). AreEntriesOf (get_or left n no_account).1 (texts_of y.0.account_id y.1)) (λ i. (sym (base_is site left n is there below) i, sym texts i)) (listed n there);
-              sound = may_go_on (Some k) o n no_account below;
+              good = may_go_on (Some k) o n no_account below;
             });
       }
 

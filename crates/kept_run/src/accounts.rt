@@ -1,5 +1,5 @@
 //! The accounts of a site that go on from what a keeper has of them.
-ghost use Rattle.std.specs.Prelude.{◌≡◌, ◌<◌, ◌^◌, All, IfErr, IfOk, List, length, slice_index_or};
+ghost use Rattle.std.specs.Prelude.{◌≡◌, ◌<◌, ◌^◌, All, IfErr, IfNone, IfOk, IfSome, List, None, Some, length, slice_index_or};
 ghost use Rattle.kept_run.specs.Opened.{AreOpened, foreign_place};
 ghost use Rattle.kept_run.specs.Steps.{IsLoad, AccountLoadHow, NotOpened, OpenHow, TellsOf};
 ghost use Rattle.spec_history.specs.Signed.{written_by};
@@ -103,13 +103,14 @@ fn foreign_journal(id: &Text, place: u64) -> KeptStatus
     }
 }
 
-// The place of the first entry of another author than the desk's. What isn't kept any more counts as the desk's own.
+// The place of the first entry of another author than the desk's, where a number tells it. What isn't kept any more counts as the desk's own.
 fn foreign_place(kept: &KeptHistory) -> Option<u64>
-    ensures { (h : List AnyEntry) → IsKeptFrom h kept.now → result ≡ foreign_place h }
+    ensures some { IfSome result (λ place. (h : List AnyEntry) → IsKeptFrom h kept.now → foreign_place h ≡ Some place) }
+    ensures none { IfNone result ((h : List AnyEntry) → IsKeptFrom h kept.now → length h < 2 ^ 64 → foreign_place h ≡ None) }
 {
     let place = place_of_foreign(&kept.behind)?;
-    let front = kept.calendars.state.saturating_add(kept.events.state);
-    Some(front.saturating_add(place as u64))
+    let front = kept.calendars.state.checked_add(kept.events.state)?;
+    front.checked_add(place as u64)
 }
 
 fn place_of_foreign(list: &[Entry]) -> Option<usize>

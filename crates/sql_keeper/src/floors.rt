@@ -115,9 +115,11 @@ fn write_floor<S: Alter>(
         ValueRef::Int(stored(floor.created)),
         ValueRef::Int(stored(floor.place)),
     ];
-    let update = "UPDATE floor SET state = ?3, created = ?4, place = ?5 WHERE account = ?1 AND kind = ?2";
+    let update =
+        "UPDATE floor SET state = ?3, created = ?4, place = ?5 WHERE account = ?1 AND kind = ?2";
     if transaction.execute(update, values)? == 0 {
-        let insert = "INSERT INTO floor (account, kind, state, created, place) VALUES (?1, ?2, ?3, ?4, ?5)";
+        let insert =
+            "INSERT INTO floor (account, kind, state, created, place) VALUES (?1, ?2, ?3, ?4, ?5)";
         transaction.execute(insert, values)?;
     }
     Ok(())

@@ -58,7 +58,12 @@ impl Reading {
 
     /// The place that the next row must have, or one in front of the floors from there on. All entries behind both floors are there.
     pub(crate) fn due(&self) -> u64 {
-        let whole_from = self.rows.calendars.floor.place.max(self.rows.events.floor.place);
+        let whole_from = self
+            .rows
+            .calendars
+            .floor
+            .place
+            .max(self.rows.events.floor.place);
         self.rows.next.max(whole_from)
     }
 

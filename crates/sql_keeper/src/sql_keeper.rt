@@ -62,7 +62,9 @@ impl<S: Alter + Drop + 'static> SqlKeeper<S> {
                 Err(_) => Err(Error::SqliteFailure(ErrorCode::OutOfMemory)),
             },
             Err(Trouble::Base(error)) => Err(error),
-            Err(Trouble::Text(JournalError::NoMemory)) => Err(Error::SqliteFailure(ErrorCode::OutOfMemory)),
+            Err(Trouble::Text(JournalError::NoMemory)) => Err(Error::SqliteFailure(
+                ErrorCode::OutOfMemory,
+            )),
             Err(Trouble::Text(_)) => Err(Error::SqliteFailure(ErrorCode::DatabaseCorrupt)),
         }
     }

@@ -206,7 +206,9 @@ fn a_journal_is_one_accounts(rt: HostRuntime) -> Result<(), Fail> {
 fn puts(alloc: Global, first: u64, count: u64) -> Result<Vec<KeptText>, Fail> {
     let mut texts = Vec::new(alloc);
     for turn in first..first.saturating_add(count) {
-        let text = format!(in alloc; "{{\"author\":0,\"id\":1,\"kind\":\"event\",\"moment\":0,\"object\":{{\"n\":{turn}}},\"part\":0,\"turn\":{turn}}}")?;
+        let text = format!(in alloc;
+            "{{\"author\":0,\"id\":1,\"kind\":\"event\",\"moment\":0,\"object\":{{\"n\":{turn}}},\"part\":0,\"turn\":{turn}}}"
+        )?;
         texts.push(kept(alloc, "A1", text.as_str())?)?;
     }
     Ok(texts)
@@ -241,7 +243,8 @@ fn a_journal_lets_go_of_what_is_not_answered_from(rt: HostRuntime) -> Result<(),
     Ok(())
 }
 
-const WITHOUT_FLOORS: &str = "CREATE TABLE about (program TEXT NOT NULL, version INTEGER NOT NULL) STRICT; CREATE TABLE entry (account TEXT NOT NULL, place INTEGER NOT NULL, text BLOB NOT NULL) STRICT; INSERT INTO about VALUES ('jmapd', 1)";
+const WITHOUT_FLOORS: &str =
+    "CREATE TABLE about (program TEXT NOT NULL, version INTEGER NOT NULL) STRICT; CREATE TABLE entry (account TEXT NOT NULL, place INTEGER NOT NULL, text BLOB NOT NULL) STRICT; INSERT INTO about VALUES ('jmapd', 1)";
 
 #[test]
 fn a_journal_without_floors_is_brought_up_to_date(rt: HostRuntime) -> Result<(), Fail> {
@@ -253,7 +256,10 @@ fn a_journal_without_floors_is_brought_up_to_date(rt: HostRuntime) -> Result<(),
         panic!(rt; "no journal");
     };
     loads(&rt, alloc, &mut keeper, "A1", &[CALENDAR, REMOVAL])?;
-    let version: i64 = keeper.conn.query_row("SELECT version FROM about", &[])?.get(0)?;
+    let version: i64 = keeper
+        .conn
+        .query_row("SELECT version FROM about", &[])?
+        .get(0)?;
     assert_eq!(rt; version, VERSION);
     Ok(())
 }
@@ -264,7 +270,12 @@ fn a_floor_that_nothing_leaves_is_damage(rt: HostRuntime) -> Result<(), Fail> {
     let Ok(mut keeper) = open_keeper(alloc, Connection::open_in_memory(alloc)?) else {
         panic!(rt; "no journal");
     };
-    assert!(rt; keeper.conn.execute("INSERT INTO floor VALUES ('A1', 'calendar', 7, 3, 9)", &[]).is_ok());
+    assert!(rt;
+        keeper
+            .conn
+            .execute("INSERT INTO floor VALUES ('A1', 'calendar', 7, 3, 9)", &[])
+            .is_ok()
+    );
     assert!(rt; put(&mut keeper.conn, 4, CALENDAR) && put(&mut keeper.conn, 9, REMOVAL));
     is_damaged(&rt, &mut keeper, 10, "");
     Ok(())
