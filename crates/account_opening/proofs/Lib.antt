@@ -1,5 +1,6 @@
 pub mod NumberedLemmas
 pub mod PutAgainLemmas
 pub mod CalendarLemmas
+pub mod RoomLemmas
 pub mod ClearLemmas
 pub mod FitLemmas

@@ -1,13 +1,12 @@
 //! The live objects of a store, put again one after the other.
-ghost use Rattle.std.specs.Prelude.{◌≡◌, ◌+◌, ◌<◌, ◌^◌, [], IfErr, IfNone, IfOk, IfSome, None, OnOk, Some, false, slice_get, true,};
-ghost use Rattle.account_opening.specs.Again.{again_at};
+ghost use Rattle.std.specs.Prelude.{◌≡◌, ◌+◌, ◌<◌, ◌^◌, [], IfErr, IfNone, IfOk, IfSome, OnOk, Some, slice_get, true};
+ghost use Rattle.account_opening.specs.Again.{NothingStandsAgainst, again_at};
 ghost use Rattle.account_opening.specs.Opening.{IsRefusal};
 ghost use Rattle.account_rooms.specs.Rooms.{AreRooms};
 ghost use Rattle.account_store.specs.Earlier.{live_ids};
 ghost use Rattle.account_store.specs.Store.{entries};
 ghost use Rattle.cal_model.specs.Fits.{IsEventFit};
 ghost use Rattle.cal_model.specs.SoundObjects.{is_sound_object};
-ghost use Rattle.spec_bookings.specs.BookedResources.{clash_of_event, has_full_resource};
 ghost use Rattle.spec_history.specs.Base.{Base};
 ghost use Rattle.spec_history.specs.History.{changes_of, live_object};
 ghost use Rattle.spec_history.specs.declared.entry.Kind.TheVariants.{Event as event_kind};
@@ -88,11 +87,10 @@ impl<'a> Again<'a> {
         event: &Tree,
     ) -> Result<Option<Series>, AllocError>
         ensures series { IfOk result (λ s. IfSome s (λ series. series_in self.now.zones.now (data_of event.now) ≡ Some series)) }
-        ensures sound { IfOk result (λ s. IfSome s (λ series. is_sound_object self.now.zones.now (again_at (changes_of (entries self.now.store.now)) self.now.events) event_kind id (data_of event.now) ≡ true)) }
-        ensures fit { IfOk result (λ s. IfSome s (λ series. IsEventFit self.now.zones.now (again_at (changes_of (entries self.now.store.now)) self.now.events) id (data_of event.now))) }
+        ensures sound { IfOk result (λ s. IfSome s (λ _. is_sound_object self.now.zones.now (again_at (changes_of (entries self.now.store.now)) self.now.events) event_kind id (data_of event.now) ≡ true)) }
+        ensures fit { IfOk result (λ s. IfSome s (λ _. IsEventFit self.now.zones.now (again_at (changes_of (entries self.now.store.now)) self.now.events) id (data_of event.now))) }
         ensures none { IfOk result (λ s. IfNone s (is_sound_object self.now.zones.now (again_at (changes_of (entries self.now.store.now)) self.now.events) event_kind id (data_of event.now) ≡ true
-            → has_full_resource self.now.zones.now (again_at (changes_of (entries self.now.store.now)) self.now.events) id (data_of event.now) ≡ false
-            → clash_of_event self.now.zones.now (again_at (changes_of (entries self.now.store.now)) self.now.events) id (data_of event.now) ≡ None → ⊥)) }
+            → NothingStandsAgainst self.now.zones.now (again_at (changes_of (entries self.now.store.now)) self.now.events) id (data_of event.now) → ⊥)) }
     {
         let resources = resources_of(alloc, self, event)?;
         let Some(series) = sound_event(alloc, self, self.zones, id, event, &resources)? else {

@@ -1,5 +1,5 @@
 //! How much live objects take.
-ghost use Rattle.std.specs.Prelude.{◌≡◌, ◌⊎◌, ◌+◌, ◌<◌, ◌≤◌, IfErr, IfNone, IfOk, IfSome, List, length, sum_by,};
+ghost use Rattle.std.specs.Prelude.{◌≡◌, ◌⊎◌, ◌+◌, ◌<◌, ◌≤◌, IfErr, IfNone, IfOk, IfSome, List, length, sum_by};
 ghost use Rattle.account_opening.specs.Opening.{IsRefusal};
 ghost use Rattle.account_opening.specs.declared.open.OpeningError.TheVariants.{BadObject as bad_object};
 ghost use Rattle.account_store.specs.Store.{entries};
