@@ -4,3 +4,5 @@ pub mod CalendarLemmas
 pub mod RoomLemmas
 pub mod ClearLemmas
 pub mod FitLemmas
+pub mod LoadLemmas
+pub mod JudgeLemmas

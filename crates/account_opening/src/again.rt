@@ -42,6 +42,21 @@ pub(crate) struct Again<'a> {
 }
 
 impl<'a> Again<'a> {
+    /// The live calendars of a store, which have these rooms, and no event. Takes no memory.
+    pub(crate) fn new(store: &'a Store, zones: &'a Zones, rooms: Rooms) -> Again<'a>
+        requires { AreRooms zones.now (again_at (changes_of (entries store.now)) 0) rooms.rooms }
+        ensures store { result.store.now ≡ store.now }
+        ensures zones { result.zones.now ≡ zones.now }
+        ensures events { result.events ≡ 0 }
+    {
+        Again {
+            store,
+            zones,
+            rooms,
+            events: 0,
+        }
+    }
+
     /// One event more, the next of the store's live ones, where it is sound, and nothing stands against its bookings.
     pub(crate) fn with_event(
         self,
@@ -77,6 +92,16 @@ impl<'a> Again<'a> {
             rooms,
             events: events + 1,
         })
+    }
+
+    /// The rooms of these objects, which can be gone back to. Takes no memory.
+    pub(crate) fn into_rooms(self) -> Rooms
+        ensures rooms { result.rooms ≡ self.entry.rooms.rooms }
+        ensures kept { result.kept ≡ result.rooms }
+    {
+        let mut rooms = self.rooms;
+        rooms.keep();
+        rooms
     }
 
     // The series of an event, where it is sound, and nothing stands against its bookings.

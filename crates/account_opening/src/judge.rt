@@ -34,13 +34,13 @@ pub(crate) fn judge_calendars(
 {
     let rooms = calendar_rooms(alloc, zones, store)?;
     let resources = rooms.calendars(alloc)?;
-    match resources.get(MAX_RESOURCES) {
-        Some(id) => Err(OpeningError::BadObject {
+    if resources.len() > MAX_RESOURCES {
+        return Err(OpeningError::BadObject {
             kind: Kind::Calendar,
-            id: *id,
-        }),
-        None => Ok(rooms),
+            id: resources[MAX_RESOURCES],
+        });
     }
+    Ok(rooms)
 }
 
 // The rooms of the live calendars, where each is sound.
@@ -81,12 +81,7 @@ pub(crate) fn judge_events(
     ensures sound { OnOk result (AreSound zones.now (changes_of (entries store.now)) event_kind) }
     ensures refused { IfErr result (IsRefusal zones.now (changes_of (entries store.now))) }
 {
-    let mut again = Again {
-        store,
-        zones,
-        rooms,
-        events: 0,
-    };
+    let mut again = Again::new(store, zones, rooms);
     let ids = store.live_ids(alloc, Kind::Event)?;
     for id in &ids {
         let Some(event) = store.object(Kind::Event, *id) else {
@@ -94,7 +89,5 @@ pub(crate) fn judge_events(
         };
         again = again.with_event(alloc, *id, event)?;
     }
-    let Again { mut rooms, .. } = again;
-    rooms.keep();
-    Ok(rooms)
+    Ok(again.into_rooms())
 }

@@ -1,0 +1,95 @@
+-- Live objects of a kind, one after the other.
+use Rattle.std.proofs.Common.{◌≡◌, ◌∙◌, ◌<◌, ◌≤◌, ◌+◌, ◌==◌, ◌||◌, ◌++◌, All, append-nil, get_or, take, ℕ, List, [], ◌∷◌, Bool, true, false, Option, Some, None, is_some, length, map, arith, refl, sym, ap, subst}
+use Rattle.std.proofs.lemmas.Bool.{false≢true}
+use Rattle.std.proofs.lemmas.List.{take_all}
+use Rattle.std.proofs.lemmas.List.Elements.{All-head, All-more, All-tail}
+use Rattle.std.proofs.lemmas.Option.{same_Some, slice_get-get_or}
+use Rattle.std.specs.List.{slice_get}
+use Rattle.account_opening.proofs.NumberedLemmas.{numbers_in_order}
+use Rattle.account_opening.proofs.PutAgainLemmas.{are_put_again, live_there, new_put, puts_more, resources_are}
+use Rattle.account_opening.proofs.RoomLemmas.{rooms_listed}
+use Rattle.account_opening.specs.Again.{AreSound, again_at, put_again, puts_of}
+use Rattle.account_rooms.proofs.CalendarsAgain.{calendar_again}
+use Rattle.account_rooms.proofs.RoomsAgain.{same_rooms}
+use Rattle.account_rooms.specs.RoomChanges.{rooms_by}
+use Rattle.account_rooms.specs.Rooms.{AreRooms, BookedRoom}
+use Rattle.account_store.specs.Earlier.{live_ids}
+use Rattle.cal_model.specs.GoesOn.{GoesOn}
+use Rattle.cal_model.specs.SoundObjects.{is_sound_object}
+use Rattle.object_outcomes.proofs.SoundObjects.{live_is_numbered, sound_where_none_is_unsound}
+use Rattle.spec_bookings.proofs.Numbered.{in_filter}
+use Rattle.spec_bookings.proofs.Tables.{same_number}
+use Rattle.spec_bookings.specs.Resources.{resources_at}
+use Rattle.spec_history.specs.History.{ids_at, live_object}
+use Rattle.spec_history.specs.Pages.{is_in}
+use Rattle.spec_history.specs.declared.entry.Change.{Change}
+use Rattle.spec_history.specs.declared.entry.Kind.{Kind}
+use Rattle.spec_history.specs.declared.entry.Kind.TheVariants.{Calendar, Event}
+use Rattle.spec_json.specs.TreeData.{data_of}
+use Rattle.spec_json.specs.declared.tree.Tree.{Tree}
+use Rattle.spec_site.specs.TimeZones.{ZoneText}
+use Rattle.spec_snapshots.specs.Numbered.{are_numbered}
+use Rattle.std.proofs.lemmas.List.MinMax.{IsStrictWeakOrder-by_number}
+
+all_in : (P : ℕ → Type 0) (ns : List ℕ) (n : ℕ) → is_in ns n ≡ true → All P ns → P n
+all_in P [] n h all = absurd (false≢true h)
+all_in P (m ∷ ns) n h all = by_test (m == n) refl h (λ g. all_in P ns n g (All-tail P m ns all))
+  where
+    by_test : (t : Bool) → (m == n) ≡ t → (t || is_in ns n) ≡ true → (is_in ns n ≡ true → P n) → P n
+    by_test true e g rest = subst P (same_number m n e) (All-head P m ns all)
+    by_test false e g rest = rest g
+
+module _ (zones : List ZoneText) (cs : List Change) (kind : Kind) (ids : List ℕ) (are : ids ≡ live_ids cs kind) where
+  -- the object of this number is sound, where it is live
+  abbrev pub IsSoundAt : ℕ → Type 0
+  IsSoundAt n = (t : Tree) → live_object cs kind n ≡ Some t → is_sound_object zones cs kind n (data_of t) ≡ true
+
+  pub at_place : (k : ℕ) → k < length ids → slice_get (live_ids cs kind) k ≡ Some (get_or ids k 0)
+  at_place k lt = ap (λ l. slice_get l k) (sym are) ∙ slice_get-get_or ids k 0 lt
+
+  -- there is an object at each of these numbers
+  pub object_there : (k : ℕ) → k < length ids → live_object cs kind (get_or ids k 0) ≡ None → ⊥
+  object_there k lt none = false≢true (sym (ap is_some none) ∙ live_there cs kind k (get_or ids k 0) (at_place k lt))
+
+  pub sound_more : (k : ℕ) (t : Tree) → k < length ids → All IsSoundAt (take k ids) → live_object cs kind (get_or ids k 0) ≡ Some t
+      → is_sound_object zones cs kind (get_or ids k 0) (data_of t) ≡ true → All IsSoundAt (take (k + 1) ids)
+  sound_more k t lt before live sound =
+      All-more IsSoundAt ids k 0 lt before (λ u e. subst (λ (v : Tree). is_sound_object zones cs kind (get_or ids k 0) (data_of v) ≡ true) (same_Some t u (sym live ∙ e)) sound)
+
+  pub all_sound : (k : ℕ) → length ids ≤ k → All IsSoundAt (take k ids) → AreSound zones cs kind
+  all_sound k done all n t live =
+      all_in IsSoundAt (live_ids cs kind) n (in_filter (λ m. is_some (live_object cs kind m)) (ids_at cs kind) n (ap is_some live) (live_is_numbered cs kind n (ap is_some live)))
+      (subst (All IsSoundAt) (take_all k ids done ∙ are) all) t live
+
+-- an object that isn't sound is a reason to refuse
+pub unsound_refused : (zones : List ZoneText) (cs : List Change) (kind : Kind) (n : ℕ) (t : Tree) → live_object cs kind n ≡ Some t → is_sound_object zones cs kind n (data_of t) ≡ false → GoesOn zones cs → ⊥
+unsound_refused zones cs kind n t live unsound goes_on = false≢true (sym unsound ∙ sound_where_none_is_unsound zones cs goes_on.objects kind n t live)
+
+-- one calendar more
+module _ (zones : List ZoneText) (cs : List Change) (numbered : are_numbered [] cs ≡ true) (ids : List ℕ) (are : ids ≡ live_ids cs Calendar) where
+  pub calendar_more : (k : ℕ) (t : Tree) (rs qs : List BookedRoom) → k < length ids → live_object cs Calendar (get_or ids k 0) ≡ Some t → AreRooms zones (puts_of cs Calendar (take k ids)) rs
+      → qs ≡ rooms_by Calendar (get_or ids k 0) (Some t) None rs → AreRooms zones (puts_of cs Calendar (take (k + 1) ids)) qs
+  calendar_more k t rs qs lt live rooms is =
+      let n = get_or ids k 0 in
+      let e = at_place zones cs Calendar ids are k lt in
+      let before = subst (λ ns. AreRooms zones (puts_of cs Calendar (take k ns)) rs) are rooms in
+      let after = calendar_again zones (puts_of cs Calendar (take k (live_ids cs Calendar))) n t rs before (new_put cs (λ q. length (ids_at cs q)) (numbers_in_order cs numbered) Calendar k n e) in
+      subst (AreRooms zones (puts_of cs Calendar (take (k + 1) ids))) (sym is)
+      (subst (λ ns. AreRooms zones (puts_of cs Calendar (take (k + 1) ns)) (rooms_by Calendar n (Some t) None rs)) (sym are)
+      (subst (λ ds. AreRooms zones ds (rooms_by Calendar n (Some t) None rs)) (sym (puts_more cs Calendar k n t e live)) after))
+
+  pub all_calendars : (k : ℕ) (rs : List BookedRoom) → length ids ≤ k → AreRooms zones (puts_of cs Calendar (take k ids)) rs → AreRooms zones (again_at cs 0) rs
+  all_calendars k rs done rooms =
+      subst (λ ds. AreRooms zones ds rs) (sym (append-nil (puts_of cs Calendar (live_ids cs Calendar)))) (subst (λ ns. AreRooms zones (puts_of cs Calendar ns) rs) (take_all k ids done ∙ are) rooms)
+
+-- once all events are there, the rooms are those of the history
+pub all_events : (zones : List ZoneText) (cs : List Change) → are_numbered [] cs ≡ true → (ids : List ℕ) → ids ≡ live_ids cs Event → (k : ℕ) (rs : List BookedRoom) → length ids ≤ k
+    → AreRooms zones (again_at cs k) rs → AreRooms zones cs rs
+all_events zones cs numbered ids are k rs done rooms =
+    same_rooms (IsStrictWeakOrder-by_number (λ n. n)) zones (put_again cs) cs (are_put_again cs (λ q. length (ids_at cs q)) (numbers_in_order cs numbered)) rs
+    (subst (λ ns. AreRooms zones (puts_of cs Calendar (live_ids cs Calendar) ++ puts_of cs Event ns) rs) (ap (take k) (sym are) ∙ take_all k ids done ∙ are) rooms)
+
+-- the resources that have rooms are those of the history
+pub resource_count : (zones : List ZoneText) (cs : List Change) → are_numbered [] cs ≡ true → (rs : List BookedRoom) (ns : List ℕ) → AreRooms zones (again_at cs 0) rs → ns ≡ map (λ r. r.calendar) rs → length ns ≡ length (resources_at cs)
+resource_count zones cs numbered rs ns rooms are =
+    ap (λ (l : List ℕ). length l) (are ∙ rooms_listed zones (again_at cs 0) rs rooms ∙ resources_are cs (λ q. length (ids_at cs q)) (numbers_in_order cs numbered) 0)

@@ -1,0 +1,28 @@
+-- What live objects take, one after the other.
+use Rattle.std.proofs.Common.{◌≡◌, ◌∙◌, ◌+◌, ◌<◌, ◌≤◌, ◌++◌, drop, flat_map, get_or, ℕ, List, [], ◌∷◌, Option, Some, None, drop-cons, length, length-append, sum_by, arith, refl, sym, ap}
+use Rattle.std.proofs.lemmas.List.Sums.{sum_by-append, sum_by-cons}
+use Rattle.spec_history.specs.History.{live_object, some_object}
+use Rattle.spec_history.specs.declared.entry.Change.{Change}
+use Rattle.spec_history.specs.declared.entry.Kind.{Kind}
+use Rattle.spec_json.specs.declared.tree.Tree.{Tree}
+
+module _ (cs : List Change) (kind : Kind) (w : Tree → ℕ) where
+  -- the live objects of these numbers
+  abbrev pub objects_of : List ℕ → List Tree
+  objects_of ns = flat_map (λ n. some_object (live_object cs kind n)) ns
+
+  module _ (ids : List ℕ) (k : ℕ) (lt : k < length ids) where
+    first : objects_of (drop k ids) ≡ some_object (live_object cs kind (get_or ids k 0)) ++ objects_of (drop (k + 1) ids)
+    first = ap objects_of (drop-cons ids k 0 lt) ∙ ap (λ i. some_object (live_object cs kind (get_or ids k 0)) ++ objects_of (drop i ids)) (omega arith)
+
+    pub none_there : live_object cs kind (get_or ids k 0) ≡ None → objects_of (drop k ids) ≡ objects_of (drop (k + 1) ids)
+    none_there none = first ∙ ap (λ o. some_object o ++ objects_of (drop (k + 1) ids)) none
+
+    one_there : (t : Tree) → live_object cs kind (get_or ids k 0) ≡ Some t → objects_of (drop k ids) ≡ t ∷ objects_of (drop (k + 1) ids)
+    one_there t live = first ∙ ap (λ o. some_object o ++ objects_of (drop (k + 1) ids)) live
+
+    pub one_counted : (t : Tree) → live_object cs kind (get_or ids k 0) ≡ Some t → length (objects_of (drop k ids)) ≡ length (objects_of (drop (k + 1) ids)) + 1
+    one_counted t live = let l = ap (λ (os : List Tree). length os) (one_there t live) in omega (arith, l)
+
+    pub one_weighed : (t : Tree) → live_object cs kind (get_or ids k 0) ≡ Some t → sum_by w (objects_of (drop k ids)) ≡ w t + sum_by w (objects_of (drop (k + 1) ids))
+    one_weighed t live = ap (sum_by w) (one_there t live) ∙ sum_by-cons w t (objects_of (drop (k + 1) ids))
