@@ -15,11 +15,14 @@ use Rattle.account_rooms.specs.RoomChanges.{rooms_by}
 use Rattle.account_rooms.specs.Rooms.{AreRooms, BookedRoom}
 use Rattle.account_store.specs.Earlier.{live_ids}
 use Rattle.cal_model.specs.GoesOn.{GoesOn}
+use Rattle.cal_model.specs.Quota.{live_objects, live_size}
 use Rattle.cal_model.specs.SoundObjects.{is_sound_object}
-use Rattle.object_outcomes.proofs.SoundObjects.{live_is_numbered, sound_where_none_is_unsound}
+use Rattle.cal_model.specs.declared.limits.TheConstants.{MAX_CHANGES, MAX_OBJECT_BYTES, MAX_OBJECTS}
+use Rattle.object_outcomes.proofs.SoundObjects.{AreSoundObjects, live_is_numbered, none_unsound_where_all_are_sound, sound_where_none_is_unsound}
 use Rattle.spec_bookings.proofs.Numbered.{in_filter}
 use Rattle.spec_bookings.proofs.Tables.{same_number}
 use Rattle.spec_bookings.specs.Resources.{resources_at}
+use Rattle.spec_bookings.specs.declared.limits.TheConstants.{MAX_RESOURCES}
 use Rattle.spec_history.specs.History.{ids_at, live_object}
 use Rattle.spec_history.specs.Pages.{is_in}
 use Rattle.spec_history.specs.declared.entry.Change.{Change}
@@ -93,3 +96,21 @@ all_events zones cs numbered ids are k rs done rooms =
 pub resource_count : (zones : List ZoneText) (cs : List Change) → are_numbered [] cs ≡ true → (rs : List BookedRoom) (ns : List ℕ) → AreRooms zones (again_at cs 0) rs → ns ≡ map (λ r. r.calendar) rs → length ns ≡ length (resources_at cs)
 resource_count zones cs numbered rs ns rooms are =
     ap (λ (l : List ℕ). length l) (are ∙ rooms_listed zones (again_at cs 0) rs rooms ∙ resources_are cs (λ q. length (ids_at cs q)) (numbers_in_order cs numbered) 0)
+
+-- an account goes on from what was judged
+pub judged_goes_on : (zones : List ZoneText) (cs : List Change) (rs : List BookedRoom) → are_numbered [] cs ≡ true → AreSound zones cs Calendar → AreSound zones cs Event → AreRooms zones cs rs
+    → length (resources_at cs) ≤ MAX_RESOURCES → length cs ≤ MAX_CHANGES → length (live_objects cs) ≤ MAX_OBJECTS → live_size cs ≤ MAX_OBJECT_BYTES → GoesOn zones cs
+judged_goes_on zones cs rs numbered calendars events rooms resources changes live size = record {
+  numbered = numbered;
+  objects = none_unsound_where_all_are_sound zones cs each;
+  free = rooms.free;
+  few = rooms.few;
+  resources = resources;
+  changes = changes;
+  live = live;
+  size = size;
+}
+  where
+    each : AreSoundObjects zones cs
+    each Calendar = calendars
+    each Event = events

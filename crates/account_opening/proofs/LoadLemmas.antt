@@ -1,5 +1,5 @@
 -- What live objects take, one after the other.
-use Rattle.std.proofs.Common.{◌≡◌, ◌∙◌, ◌+◌, ◌<◌, ◌≤◌, ◌++◌, drop, flat_map, get_or, ℕ, List, [], ◌∷◌, Option, Some, None, drop-cons, length, length-append, sum_by, arith, refl, sym, ap}
+use Rattle.std.proofs.Common.{◌≡◌, ◌∙◌, ◌+◌, ◌<◌, ◌≤◌, ◌++◌, drop, flat_map, get_or, ℕ, suc, List, [], ◌∷◌, Option, Some, None, drop-cons, length, length-append, sum_by, arith, refl, sym, ap}
 use Rattle.std.proofs.lemmas.List.Sums.{sum_by-append, sum_by-cons}
 use Rattle.spec_history.specs.History.{live_object, some_object}
 use Rattle.spec_history.specs.declared.entry.Change.{Change}
@@ -13,10 +13,10 @@ module _ (cs : List Change) (kind : Kind) (w : Tree → ℕ) where
 
   module _ (ids : List ℕ) (k : ℕ) (lt : k < length ids) where
     first : objects_of (drop k ids) ≡ some_object (live_object cs kind (get_or ids k 0)) ++ objects_of (drop (k + 1) ids)
-    first = ap objects_of (drop-cons ids k 0 lt) ∙ ap (λ i. some_object (live_object cs kind (get_or ids k 0)) ++ objects_of (drop i ids)) (omega arith)
-
-    pub none_there : live_object cs kind (get_or ids k 0) ≡ None → objects_of (drop k ids) ≡ objects_of (drop (k + 1) ids)
-    none_there none = first ∙ ap (λ o. some_object o ++ objects_of (drop (k + 1) ids)) none
+    first = ap objects_of (drop-cons ids k 0 lt) ∙ ap (λ i. some_object (live_object cs kind (get_or ids k 0)) ++ objects_of (drop i ids)) same
+      where
+        same : suc k ≡ k + 1
+        same = omega arith
 
     one_there : (t : Tree) → live_object cs kind (get_or ids k 0) ≡ Some t → objects_of (drop k ids) ≡ t ∷ objects_of (drop (k + 1) ids)
     one_there t live = first ∙ ap (λ o. some_object o ++ objects_of (drop (k + 1) ids)) live

@@ -57,12 +57,13 @@ fn with_kind(
     let mut load = load;
     let ids = store.live_ids(alloc, kind)?;
     for id in &ids {
-        if let Some(object) = store.object(kind, *id) {
-            let Some(more) = with_object(load, object) else {
-                return Err(OpeningError::BadObject { kind, id: *id });
-            };
-            load = more;
-        }
+        let Some(object) = store.object(kind, *id) else {
+            unreachable!()
+        };
+        let Some(more) = with_object(load, object) else {
+            return Err(OpeningError::BadObject { kind, id: *id });
+        };
+        load = more;
     }
     Ok(load)
 }

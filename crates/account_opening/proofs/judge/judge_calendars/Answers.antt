@@ -4,12 +4,6 @@ use Rattle.account_store.specs.Store.{entries}
 use Rattle.spec_history.specs.History.{changes_of}
 use Rattle.account_opening.proofs.judge.judge_calendars.Goals as goal
 
-pub returns-then-resources-clause-refused : goal.returns-then-resources-clause-refused
-returns-then-resources-clause-refused c = λ goes_on.
-    let count = resource_count c.args.zones.now (changes_of (entries c.args.store.now)) c.requires c.in_ok-rooms.rooms.rooms c.in_ok-resources.resources.items c.in_ok-rooms.ensures.rooms c.in_ok-resources.ensures in
-    omega (arith, count, goes_on.resources, ?)
-
 pub returns-clause-resources : goal.returns-clause-resources
 returns-clause-resources c =
-    let count = resource_count c.args.zones.now (changes_of (entries c.args.store.now)) c.requires c.in_ok-rooms.rooms.rooms c.in_ok-resources.resources.items c.in_ok-rooms.ensures.rooms c.in_ok-resources.ensures in
-    omega (arith, count, ?)
+    let count = resource_count c.args.zones.now (changes_of (entries c.args.store.now)) c.requires c.in_ok-rooms.rooms.rooms c.in_ok-resources.resources.items c.in_ok-rooms.ensures.rooms c.in_ok-resources.ensures in ?
