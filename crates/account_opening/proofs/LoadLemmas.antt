@@ -1,7 +1,10 @@
 -- What live objects take, one after the other.
 use Rattle.std.proofs.Common.{◌≡◌, ◌∙◌, ◌+◌, ◌<◌, ◌≤◌, ◌++◌, drop, flat_map, get_or, ℕ, suc, List, [], ◌∷◌, Option, Some, None, drop-cons, length, length-append, sum_by, arith, refl, sym, ap}
 use Rattle.std.proofs.lemmas.List.Sums.{sum_by-append, sum_by-cons}
-use Rattle.spec_history.specs.History.{live_object, some_object}
+use Rattle.std.proofs.lemmas.List.{drop_all}
+use Rattle.account_store.proofs.LiveLemmas.{objects_of_live}
+use Rattle.account_store.specs.Earlier.{live_ids}
+use Rattle.spec_history.specs.History.{live_at, live_object, some_object}
 use Rattle.spec_history.specs.declared.entry.Change.{Change}
 use Rattle.spec_history.specs.declared.entry.Kind.{Kind}
 use Rattle.spec_json.specs.declared.tree.Tree.{Tree}
@@ -26,3 +29,10 @@ module _ (cs : List Change) (kind : Kind) (w : Tree → ℕ) where
 
     pub one_weighed : (t : Tree) → live_object cs kind (get_or ids k 0) ≡ Some t → sum_by w (objects_of (drop k ids)) ≡ w t + sum_by w (objects_of (drop (k + 1) ids))
     one_weighed t live = ap (sum_by w) (one_there t live) ∙ sum_by-cons w t (objects_of (drop (k + 1) ids))
+
+  -- those of the live numbers are all, and behind the last there is none
+  pub all_of : (ids : List ℕ) → ids ≡ live_ids cs kind → objects_of ids ≡ live_at cs kind
+  all_of ids are = ap objects_of are ∙ objects_of_live cs kind
+
+  pub none_left : (ids : List ℕ) (k : ℕ) → length ids ≤ k → objects_of (drop k ids) ≡ []
+  none_left ids k done = ap objects_of (drop_all k ids done)
