@@ -1,5 +1,5 @@
 -- What an event's calendars make bad of it, where the live calendars are the same.
-use Rattle.std.proofs.Common.{◌≡◌, ◌==◌, ◌&&◌, not, ℕ, List, Bool, true, false, None, refl, filter, is_some, length, option_and_then, ap}
+use Rattle.std.proofs.Common.{◌≡◌, not, ℕ, List, true, false, None, refl, filter, is_some, option_and_then, ap}
 use Rattle.std.specs.List.{list_all}
 use Rattle.std.specs.Option.{option_map_or}
 use Rattle.cal_model.specs.EventObject.{names_missing_calendar}

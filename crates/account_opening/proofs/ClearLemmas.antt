@@ -1,11 +1,11 @@
 -- A resource of which no second is covered twice takes each of its bookings beside some of the others.
-use Rattle.std.proofs.Common.{◌≤◌, length, ◌≡◌, ◌∙◌, ◌<◌, ◌==◌, ◌&&◌, ◌||◌, ℕ, ℤ, List, [], ◌∷◌, Bool, true, false, Option, Some, None, arith, refl, sym, ap, subst, if◌then◌else◌}
+use Rattle.std.proofs.Common.{◌≤◌, length, ◌≡◌, ◌∙◌, ◌<◌, ◌==◌, ◌&&◌, ◌||◌, ℕ, ℤ, List, [], ◌∷◌, Bool, true, false, Some, None, arith, refl, sym, ap, subst, if◌then◌else◌}
 use Rattle.std.proofs.lemmas.Bool.{false≢true}
 use Rattle.account_rooms.proofs.Counts.{length-with}
 use Rattle.spec_bookings.proofs.Placed.{in_again_other, in_again_same, rise_again}
 use Rattle.spec_bookings.proofs.Tables.{number_same, or_false, other_number, same_number}
 use Rattle.spec_bookings.specs.Bookings.{with_booking, without_booking}
-use Rattle.spec_bookings.specs.Clashes.{IsClear, any_covers, is_clash}
+use Rattle.spec_bookings.specs.Clashes.{IsClear, any_covers}
 use Rattle.spec_bookings.specs.Free.{IsFree, is_double}
 use Rattle.spec_bookings.specs.Rising.{AreAbove, Rise, series_booked}
 use Rattle.spec_bookings.specs.declared.booking.Booking.{Booking}

@@ -1,12 +1,12 @@
 -- Nothing stands against an event that is put again, where an account goes on from the history.
-use Rattle.std.proofs.Common.{take, ◌≡◌, ◌∙◌, ◌≤◌, ◌<◌, ◌+◌, ◌==◌, ◌||◌, ℕ, zero, suc, List, [], ◌∷◌, Bool, true, false, Option, Some, None, is_some, length, nat_le, option_and_then, option_map, arith, refl, sym, ap, subst, if◌then◌else◌}
+use Rattle.std.proofs.Common.{take, ◌≡◌, ◌∙◌, ◌<◌, ◌||◌, ℕ, suc, List, [], ◌∷◌, Bool, true, false, Option, Some, None, is_some, length, nat_le, option_and_then, option_map, arith, refl, sym, ap, if◌then◌else◌}
 use Rattle.std.proofs.lemmas.Bool.{false≢true}
 use Rattle.std.proofs.lemmas.Bool.Decides.{nat_tests}
 use Rattle.std.specs.List.{list_any, slice_get}
 use Rattle.std.specs.Option.{option_or}
 use Rattle.account_opening.proofs.ClearLemmas.{clear_beside, fewer_beside}
 use Rattle.account_opening.proofs.NumberedLemmas.{numbers_in_order}
-use Rattle.account_opening.proofs.PutAgainLemmas.{calendars_are, events_are, new_there, resources_are}
+use Rattle.account_opening.proofs.PutAgainLemmas.{calendars_are, events_are, new_there}
 use Rattle.account_opening.specs.Again.{again_at}
 use Rattle.account_rooms.proofs.Resources.{at_resource}
 use Rattle.account_rooms.proofs.Seconds.{least_first_clash}
@@ -16,7 +16,6 @@ use Rattle.resource_book.proofs.Clashes.{to_clash}
 use Rattle.rule_expand.specs.Least.{IsLeastOf}
 use Rattle.spec_bookings.proofs.Listed.{live_booked, live_rise}
 use Rattle.spec_bookings.specs.BookedResources.{booked_in, bookings_of, clash_of_event, first_clash_in, has_full_resource, other_bookings}
-use Rattle.spec_bookings.specs.Bookings.{without_booking}
 use Rattle.spec_bookings.specs.Clashes.{IsClash, IsClear, first_clash, second_of}
 use Rattle.spec_bookings.specs.HistoryBookings.{booked_by}
 use Rattle.spec_bookings.specs.Resources.{is_resource, resources_of, zone_of_resource}
@@ -28,8 +27,7 @@ use Rattle.spec_events.specs.Events.{names_calendar}
 use Rattle.spec_history.specs.History.{ids_at, live_object}
 use Rattle.spec_history.specs.Pages.{is_in}
 use Rattle.spec_history.specs.declared.entry.Change.{Change}
-use Rattle.spec_history.specs.declared.entry.Kind.{Kind}
-use Rattle.spec_history.specs.declared.entry.Kind.TheVariants.{Calendar, Event}
+use Rattle.spec_history.specs.declared.entry.Kind.TheVariants.{Event}
 use Rattle.spec_json.specs.TreeData.{data_of}
 use Rattle.spec_json.specs.declared.tree.Tree.{Tree}
 use Rattle.spec_recurrence.specs.SeriesOf.{series_in}

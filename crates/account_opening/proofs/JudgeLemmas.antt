@@ -1,5 +1,5 @@
 -- Live objects of a kind, one after the other.
-use Rattle.std.proofs.Common.{◌≡◌, ◌∙◌, ◌<◌, ◌≤◌, ◌+◌, ◌==◌, ◌||◌, ◌++◌, All, append-nil, get_or, take, ℕ, List, [], ◌∷◌, Bool, true, false, Option, Some, None, is_some, length, map, arith, refl, sym, ap, subst}
+use Rattle.std.proofs.Common.{◌≡◌, ◌∙◌, ◌<◌, ◌≤◌, ◌+◌, ◌==◌, ◌||◌, ◌++◌, All, append-nil, get_or, take, ℕ, List, [], ◌∷◌, Bool, true, false, Some, None, is_some, length, map, refl, sym, ap, subst}
 use Rattle.std.proofs.lemmas.Bool.{false≢true}
 use Rattle.std.proofs.lemmas.List.{take_all}
 use Rattle.std.proofs.lemmas.List.Elements.{All-head, All-more, All-tail}

@@ -1,6 +1,6 @@
 -- What live objects take, one after the other.
-use Rattle.std.proofs.Common.{◌≡◌, ◌∙◌, ◌+◌, ◌<◌, ◌≤◌, ◌++◌, drop, flat_map, get_or, ℕ, suc, List, [], ◌∷◌, Option, Some, None, drop-cons, length, length-append, sum_by, arith, refl, sym, ap}
-use Rattle.std.proofs.lemmas.List.Sums.{sum_by-append, sum_by-cons}
+use Rattle.std.proofs.Common.{◌≡◌, ◌∙◌, ◌+◌, ◌<◌, ◌≤◌, ◌++◌, drop, flat_map, get_or, ℕ, suc, List, [], ◌∷◌, Some, drop-cons, length, sum_by, arith, ap}
+use Rattle.std.proofs.lemmas.List.Sums.{sum_by-cons}
 use Rattle.std.proofs.lemmas.List.{drop_all}
 use Rattle.account_store.proofs.LiveLemmas.{objects_of_live}
 use Rattle.account_store.specs.Earlier.{live_ids}

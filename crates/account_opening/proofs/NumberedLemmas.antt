@@ -1,5 +1,5 @@
 -- Changes that give the numbers of objects in order.
-use Rattle.std.proofs.Common.{◌≡◌, ◌∙◌, ◌==◌, ◌&&◌, ◌||◌, ◌++◌, ◌+◌, append-nil, append_assoc, cond, ℕ, zero, suc, List, [], ◌∷◌, Bool, true, false, inl, inr, is_some, length, arith, refl, sym, ap, subst}
+use Rattle.std.proofs.Common.{◌≡◌, ◌∙◌, ◌==◌, ◌++◌, ◌+◌, append-nil, append_assoc, cond, ℕ, zero, suc, List, [], ◌∷◌, Bool, true, false, inl, inr, is_some, length, arith, refl, sym, ap, subst}
 use Rattle.std.proofs.lemmas.Bool.{and_parts, eqb-true, false≢true, or_cases}
 use Rattle.std.specs.List.{range_with_len}
 use Rattle.account_rooms.proofs.Changes.{ids_from-push, with_known, with_new}
@@ -31,7 +31,6 @@ next_in_order : (ids : List ℕ) → ids ≡ range_with_len 1 (length ids) → w
 next_in_order ids h =
     with_new ids (suc (length ids)) (ap (λ l. is_in l (suc (length ids))) h ∙ past_range 1 (length ids) (suc (length ids)) (omega arith))
     ∙ ap (λ l. l ++ suc (length ids) ∷ []) h ∙ ap (λ m. range_with_len 1 (length ids) ++ m ∷ []) (omega arith) ∙ range_end 1 (length ids)
-
 
 of_range : (ns : List ℕ) (n : ℕ) → ns ≡ range_with_len 1 n → ns ≡ range_with_len 1 (length ns)
 of_range ns n h = h ∙ ap (range_with_len 1) (sym (ap (λ (l : List ℕ). length l) h ∙ long 1 n))

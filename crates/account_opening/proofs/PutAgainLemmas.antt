@@ -1,5 +1,5 @@
 -- The live objects of a history, put again.
-use Rattle.std.proofs.Common.{take, option_and_then, ◌≡◌, ◌∙◌, ◌≤◌, ◌<◌, ◌+◌, ◌==◌, ◌&&◌, ◌||◌, ◌++◌, append-nil, cond, ℕ, zero, suc, List, [], ◌∷◌, Bool, true, false, Option, Some, None, append_assoc, filter, flat_map, is_some, arith, refl, sym, ap, subst, if◌then◌else◌}
+use Rattle.std.proofs.Common.{take, option_and_then, ◌≡◌, ◌∙◌, ◌≤◌, ◌<◌, ◌+◌, ◌==◌, ◌&&◌, ◌||◌, ◌++◌, append-nil, cond, ℕ, zero, suc, List, [], ◌∷◌, Bool, true, false, Option, Some, None, append_assoc, filter, is_some, arith, refl, sym, ap, subst, if◌then◌else◌}
 use Rattle.std.proofs.lemmas.Bool.{false≢true}
 use Rattle.std.proofs.lemmas.Bool.Decides.{nat_tests}
 use Rattle.std.proofs.lemmas.List.Folds.{list_any-append}

@@ -1,5 +1,5 @@
 -- What an account keeps beside its entries.
-use Rattle.std.specs.Prelude.{◌≡◌, ℕ, List, length, ⊤}
+use Rattle.std.specs.Prelude.{◌≡◌, List, length, ⊤}
 use Rattle.account_opening.specs.declared.open.Opened.{Opened}
 use Rattle.account_opening.specs.declared.open.OpeningError.{OpeningError}
 use Rattle.account_opening.specs.declared.open.OpeningError.TheVariants.{BadObject, NoMemory}

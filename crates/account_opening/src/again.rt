@@ -105,12 +105,7 @@ impl<'a> Again<'a> {
     }
 
     // The series of an event, where it is sound, and nothing stands against its bookings.
-    fn series_fit(
-        &self,
-        alloc: Global,
-        id: u64,
-        event: &Tree,
-    ) -> Result<Option<Series>, AllocError>
+    fn series_fit(&self, alloc: Global, id: u64, event: &Tree) -> Result<Option<Series>, AllocError>
         ensures series { IfOk result (λ s. IfSome s (λ series. series_in self.now.zones.now (data_of event.now) ≡ Some series)) }
         ensures sound { IfOk result (λ s. IfSome s (λ _. is_sound_object self.now.zones.now (again_at (changes_of (entries self.now.store.now)) self.now.events) event_kind id (data_of event.now) ≡ true)) }
         ensures fit { IfOk result (λ s. IfSome s (λ _. IsEventFit self.now.zones.now (again_at (changes_of (entries self.now.store.now)) self.now.events) id (data_of event.now))) }

@@ -1,4 +1,4 @@
-use Rattle.std.proofs.Common.{◌≡◌, ◌∙◌, [], List, arith, ap, subst, sym}
+use Rattle.std.proofs.Common.{◌∙◌, [], List, arith, ap, subst, sym}
 use Rattle.std.specs.Option.{option_copied}
 use Rattle.account_opening.proofs.JudgeLemmas.{all_calendars, all_sound, calendar_more, object_there, sound_more, unsound_refused}
 use Rattle.account_rooms.proofs.Following.{no_rooms}

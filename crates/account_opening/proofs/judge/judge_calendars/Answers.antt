@@ -1,4 +1,4 @@
-use Rattle.std.proofs.Common.{◌∙◌, arith, length, ap, List, ℕ}
+use Rattle.std.proofs.Common.{arith}
 use Rattle.account_opening.proofs.JudgeLemmas.{resource_count}
 use Rattle.account_store.specs.Store.{entries}
 use Rattle.spec_history.specs.History.{changes_of}

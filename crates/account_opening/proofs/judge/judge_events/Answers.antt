@@ -1,4 +1,4 @@
-use Rattle.std.proofs.Common.{◌≡◌, ◌∙◌, ◌+◌, [], List, Some, arith, ap, get_or, length, subst, sym, true, ℕ}
+use Rattle.std.proofs.Common.{◌∙◌, ◌+◌, [], List, arith, ap, get_or, length, subst, sym, ℕ}
 use Rattle.std.specs.Option.{option_copied}
 use Rattle.std.specs.List.{slice_get}
 use Rattle.account_opening.proofs.JudgeLemmas.{all_events, all_sound, at_place, object_there, sound_more}

@@ -1,4 +1,4 @@
-use Rattle.std.proofs.Common.{◌≡◌, ◌∙◌, [], List, arith, ap, length, subst, sym}
+use Rattle.std.proofs.Common.{◌∙◌, [], List, arith, ap, length, subst}
 use Rattle.std.proofs.lemmas.List.{length-map}
 use Rattle.std.proofs.lemmas.Result.{err_from_is_err_and}
 use Rattle.account_opening.proofs.JudgeLemmas.{judged_goes_on}

@@ -1,4 +1,4 @@
-use Rattle.std.proofs.Common.{arith, length}
+use Rattle.std.proofs.Common.{arith}
 use Rattle.std.proofs.lemmas.List.{length-map}
 use Rattle.spec_history.specs.declared.entry.Entry.{Entry}
 use Rattle.account_opening.proofs.open.store_of.Goals as goal

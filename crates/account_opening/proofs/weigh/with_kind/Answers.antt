@@ -1,4 +1,4 @@
-use Rattle.std.proofs.Common.{◌≡◌, ◌∙◌, ◌≤◌, ◌<◌, ◌+◌, ◌⊎◌, inl, inr, List, [], ℕ, ap, arith, drop, length, refl, sum_by, sym}
+use Rattle.std.proofs.Common.{◌≡◌, ◌∙◌, inl, inr, List, [], ℕ, ap, arith, drop, length, refl, sum_by, sym}
 use Rattle.std.specs.Option.{option_copied}
 use Rattle.account_opening.proofs.JudgeLemmas.{object_there}
 use Rattle.account_opening.proofs.LoadLemmas.{all_of, none_left, objects_of, one_counted, one_weighed}
@@ -10,15 +10,15 @@ use Rattle.spec_json.specs.declared.tree.Tree.{Tree}
 use Rattle.account_opening.proofs.weigh.with_kind.Goals as goal
 
 pub loop-id-init : goal.loop-id-init
-loop-id-init c = record { objects = refl; bytes = refl; }
+loop-id-init c = record { objects = refl; bytes = refl }
 
 pub unreachable-requires : goal.unreachable-requires
 unreachable-requires c =
     object_there [] (changes_of (entries c.args.store.now)) c.args.kind c.deref-id-items.result.now (c.deref-id-items.ensures.value ∙ c.in_ok-ids.ensures) c.loop-id.id-index c.loop-id-test.true
     (sym c.object.ensures ∙ ap option_copied c.in_default.is)
 
-size : Tree → ℕ
-size t = length (text_of (data_of t))
+abbrev size : Tree → ℕ
+size = λ t. length (text_of (data_of t))
 
 pub loop-id-preserved : goal.loop-id-preserved
 loop-id-preserved c =

@@ -1,12 +1,11 @@
-use Rattle.std.proofs.Common.{◌≡◌, ◌∙◌, ◌++◌, ◌∷◌, [], List, Some, ap, subst, sym, true}
+use Rattle.std.proofs.Common.{◌∙◌, ◌++◌, ◌∷◌, [], List, Some, ap, subst, sym}
 use Rattle.account_opening.proofs.CalendarLemmas.{same_sound}
 use Rattle.account_opening.proofs.FitLemmas.{none_clashes, none_full}
-use Rattle.account_opening.proofs.JudgeLemmas.{unsound_refused}
 use Rattle.account_opening.proofs.NumberedLemmas.{numbers_in_order}
 use Rattle.account_opening.proofs.PutAgainLemmas.{calendars_are, event_more, resources_are}
 use Rattle.account_opening.specs.Again.{again_at}
 use Rattle.account_rooms.proofs.Following.{event_follows, resource_of_room}
-use Rattle.account_rooms.specs.RoomChanges.{IsShortSeries, booked_again}
+use Rattle.account_rooms.specs.RoomChanges.{booked_again}
 use Rattle.account_rooms.specs.Rooms.{AreRooms, BookedRoom, has_room}
 use Rattle.account_store.specs.Store.{entries}
 use Rattle.object_outcomes.proofs.SoundObjects.{sound_where_none_is_unsound}
