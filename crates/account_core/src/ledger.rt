@@ -12,7 +12,7 @@ ghost use Rattle.account_store.specs.Store.{entries, event_puts, spare};
 ghost use Rattle.cal_model.specs.Answer.{entries_from};
 ghost use Rattle.cal_model.specs.Quota.{size_of_object};
 ghost use Rattle.account_core.specs.Staged.{MayBeKept};
-ghost use Rattle.account_opening.specs.Opening.{IsOpened};
+ghost use Rattle.account_opening.specs.Opening.{IsOpenedFrom};
 ghost use Rattle.cal_model.specs.GoesOn.{GoesOn};
 ghost use Rattle.cal_model.specs.Sound.{first_unsound};
 ghost use Rattle.event_store.specs.EventsBase.{base_of};
@@ -118,7 +118,7 @@ impl Ledger {
         generation: u64,
         opened: Opened,
     ) -> Ledger
-        requires { IsOpened (arc_value zones) (entries opened.store) opened }
+        requires { IsOpenedFrom (arc_value zones) (entries opened.store) opened }
         ensures base { base result ≡ record { account_id = id; zones = arc_value zones; generation = generation } }
         ensures entries { ledger_entries result ≡ entries opened.store }
         ensures staged { staged result ≡ [] }

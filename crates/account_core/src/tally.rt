@@ -56,7 +56,7 @@ impl Tally {
 
     /// The tally of what was opened. Takes no memory.
     pub fn at(opened: &Opened) -> Tally
-        requires { (zones : List ZoneText) × IsOpened zones (entries opened.now.store) opened.now }
+        requires { (zones : List ZoneText) × IsOpenedFrom zones (entries opened.now.store) opened.now }
         ensures { Tallies result (changes_of (entries opened.now.store)) }
     {
         Tally {

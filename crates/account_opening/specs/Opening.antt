@@ -14,7 +14,7 @@ use Rattle.spec_history.specs.declared.entry.Entry.{Entry}
 use Rattle.spec_site.specs.TimeZones.{ZoneText}
 
 -- this is kept beside these entries, from which an account goes on
-pub record IsOpened (zones : List ZoneText) (es : List Entry) (o : Opened) : Type 0 where
+pub record IsOpenedFrom (zones : List ZoneText) (es : List Entry) (o : Opened) : Type 0 where
   pub entries : entries o.store ≡ es
   pub read : AreRead zones (event_puts o.store)
   pub objects : o.objects ≡ length (live_objects (changes_of es))

@@ -1,6 +1,6 @@
 //! How what an account keeps beside its entries is opened.
 ghost use Rattle.std.specs.Prelude.{◌≡◌, ◌≤◌, ◌^◌, [], IfErr, IfOk, OnOk, length, true};
-ghost use Rattle.account_opening.specs.Opening.{IsOpened, IsRefusal};
+ghost use Rattle.account_opening.specs.Opening.{IsOpenedFrom, IsRefusal};
 ghost use Rattle.account_opening.specs.declared.open.OpeningError.TheVariants.{NoMemory as no_memory};
 ghost use Rattle.account_store.specs.Store.{entries, event_puts};
 ghost use Rattle.event_store.specs.ReadSeries.{AreRead};
@@ -57,7 +57,7 @@ impl From<AllocError> for OpeningError {
 /// of creation. Takes memory for what is live, and for what lies behind the floors.
 pub fn open_parts(alloc: Global, zones: &Zones, loaded: Loaded) -> Result<Opened, OpeningError>
     requires { IsKeptFrom loaded.told.items loaded.kept }
-    ensures opened { IfOk result (IsOpened zones.now loaded.told.items) }
+    ensures opened { IfOk result (IsOpenedFrom zones.now loaded.told.items) }
     ensures refused { IfErr result (IsRefusal zones.now (changes_of loaded.told.items)) }
 {
     let store = store_of(alloc, zones, loaded)?;
