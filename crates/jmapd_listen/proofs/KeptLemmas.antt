@@ -44,13 +44,13 @@ module _ {D : Type 0} (shown : D → Shown) (site : Site) (told : List ℕ → O
 pub untold_desks : {A : Type 0} (base : A → Base) (entries : A → List Entry) (site : Site) (workers : ℕ) (accounts : List A) (desks : List (List PassState × ℕ)) → map base accounts ≡ bases site
     → All (λ a. GoesOn (base a).zones (changes_of (entries a))) accounts → length desks ≡ workers → ShareAccounts (map (λ a. (base a, entries a)) accounts) desks
     → AreKeptDesks site (λ id. None) workers (map (shown_by_passes kept_rules) desks)
-untold_desks base entries site workers accounts desks are sound many share =
+untold_desks base entries site workers accounts desks are go_on many share =
     let these : List (Base × List Entry) = map (λ a. (base a, entries a)) accounts in
     let own : map (λ (a : Base × List Entry). a.0) these ≡ bases site = map-map (λ (a : Base × List Entry). a.0) (λ a. (base a, entries a)) accounts ∙ are in
     record {
       accounts = these;
       bases = own;
-      kept = All-map (IsKeptAccount (λ id. None)) (λ a. (base a, entries a)) accounts (λ k d within. record { listed = tt; sound = sound k d within });
+      kept = All-map (IsKeptAccount (λ id. None)) (λ a. (base a, entries a)) accounts (λ k d within. record { listed = tt; goes_on = go_on k d within });
       at = are_desks_at site kept_rules workers these desks own many share;
     }
 
