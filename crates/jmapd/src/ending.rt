@@ -2,7 +2,7 @@
 ghost use Rattle.std.specs.Prelude.{◌≡◌, ◌++◌, IfOk, codes, option_map, string_bytes};
 ghost use Rattle.std.specs.Fmt.{decimal};
 ghost use Rattle.std.specs.Process.{exit_status as ends_with};
-ghost use Rattle.jmapd.specs.Messages.{error_line, kept_error_line, place_line};
+ghost use Rattle.jmapd.specs.Messages.{error_line, kept_error_line, object_line, place_line};
 ghost use Rattle.jmapd_run.specs.Statuses.{exit_status};
 ghost use Rattle.kept_run.specs.Statuses.{kept_exit_status};
 ghost use Rattle.spec_site.specs.Configuration.{field_name};
@@ -12,6 +12,7 @@ use jmapd_run::status::Status;
 use spec_site::field::Field;
 use std::alloc::{AllocError, Global};
 use std::process::ExitCode;
+use time_text::object_id_text;
 
 /// Tells on standard error how the program ended, where memory suffices for the line, and gives what the process ends with.
 pub fn finish(rt: &HostRuntime, status: Status) -> ExitCode

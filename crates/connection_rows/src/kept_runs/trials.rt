@@ -18,6 +18,7 @@ use row_table::trial::not_read;
 use slot_run::run::run_slot;
 use spec_history::entry::Entry;
 use std::alloc::{AllocError, Global};
+use time_text::object_id_text;
 
 /// How a run ended, and what it wrote to.
 #[derive(Drop)]
