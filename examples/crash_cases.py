@@ -147,7 +147,7 @@ def foreign(site):
 def newer(site):
     once(site, "Work")
     change(site, "UPDATE about SET version = version + 1")
-    unopened(site, "journal of another version")
+    unopened(site, "journal of a later version: open it with the program that made it, or a later one")
 
 
 def damaged(site):
@@ -160,7 +160,7 @@ def unsound(site):
     once(site, "One", "Two", "Three")
     change(site, "DELETE FROM entry WHERE place = 1")
     change(site, "UPDATE entry SET place = 1 WHERE place = 2")
-    expect(site.refusal(), (11, f"jmapd: bad journal: {TEAM} 1\n"))
+    expect(site.refusal(), (11, f"jmapd: bad journal: {TEAM} object C3\n"))
 
 
 def swapped(*made):
@@ -194,7 +194,7 @@ def zone_gone(site):
         server.end()
         told = "it serves"
     else:
-        expect(server.ended(), (11, f"jmapd: bad journal: {TEAM} 1\n"))
+        expect(server.ended(), (11, f"jmapd: bad journal: {TEAM} object E1\n"))
         told = f"status 11: {server.told().strip()}"
     site.configure(configuration())
     with site.serving() as server, server.calling() as caller:

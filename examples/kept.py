@@ -216,7 +216,7 @@ def slots_need_a_sound_journal(room):
     book(room)
     room.change("DELETE FROM entry WHERE place = 0")
     room.change("UPDATE entry SET place = 0")
-    expect(room.look(), (11, None, "jmapd: bad journal: A1 0\n"))
+    expect(room.look(), (11, None, "jmapd: bad journal: A1 object E1\n"))
     room.change("UPDATE entry SET text = SUBSTR(text, 1, 40)")
     expect(room.look(), (10, None, "jmapd: damaged entry: A1 0\n"))
 
@@ -300,8 +300,8 @@ def another_file(room):
 
 def later_version(room):
     room.run(create("Work"))
-    room.change("UPDATE about SET version = 2")
-    unopened(room, "journal of another version")
+    room.change("UPDATE about SET version = version + 1")
+    unopened(room, "journal of a later version: open it with the program that made it, or a later one")
 
 
 def two_processes(room):
@@ -346,14 +346,14 @@ def missing_entry(room):
     three(room)
     room.change("DELETE FROM entry WHERE place = 1")
     room.change("UPDATE entry SET place = 1 WHERE place = 2")
-    refused(room, 11, "jmapd: bad journal: A1 1")
+    refused(room, 11, "jmapd: bad journal: A1 object C3")
 
 
 def removal_twice(room):
     three(room)
     room.run(destroy("C1"))
     room.change("INSERT INTO entry SELECT account, 4, text FROM entry WHERE place = 3")
-    refused(room, 11, "jmapd: bad journal: A1 4")
+    refused(room, 11, "jmapd: bad journal: A1 object C1")
 
 
 def another_first_id(room):
@@ -361,7 +361,7 @@ def another_first_id(room):
     for place in (0, 1):
         room.change("DELETE FROM entry WHERE place = ?", place)
     room.change("UPDATE entry SET place = 0")
-    refused(room, 11, "jmapd: bad journal: A1 0")
+    refused(room, 11, "jmapd: bad journal: A1 object C2")
 
 
 def another_author(room):
@@ -377,7 +377,7 @@ def removal_that_an_event_forbids(room):
     assert "e" in created(answers[1])["created"], answers
     text = json.loads(room.entries()[0]) | {"object": None, "turn": 9}
     room.change("INSERT INTO entry (account, place, text) VALUES ('A1', 2, ?)", json.dumps(text, separators=(",", ":")).encode())
-    refused(room, 11, "jmapd: bad journal: A1 2")
+    refused(room, 11, "jmapd: bad journal: A1 object E1")
 
 
 # ---- faults
