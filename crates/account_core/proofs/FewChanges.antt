@@ -5,7 +5,7 @@ use Rattle.std.proofs.lemmas.Bool.{ltb-false}
 use Rattle.std.proofs.lemmas.List.{length-map}
 use Rattle.cal_model.specs.CreatedIds.{resolved_id}
 use Rattle.cal_model.specs.Operations.{Ground, Operation, changes_in, create_outcome, created_id, destroy, outcome_of, outcomes, outcomes_of_creates}
-use Rattle.cal_model.specs.Sets.{NamedId, Objects, after_creates, after_updates, all_ids, are_values, create_outcomes, destroy_outcomes, ids_named, ids_to_destroy, is_in_state, names_id, set_changes, set_outcomes, set_refusal, update_outcomes, updates_after}
+use Rattle.cal_model.specs.Sets.{NamedId, Objects, after_creates, after_updates, all_ids, are_values, create_outcomes, destroy_outcomes, ids_to_destroy, is_in_state, names_id, set_changes, set_refusal, update_outcomes, updates_after}
 use Rattle.cal_model.specs.declared.outcome.Outcome.{Outcome}
 use Rattle.cal_model.specs.declared.outcome.Outcome.TheVariants.{Accepted, Refused}
 use Rattle.set_methods.proofs.PlanLemmas.{length-updates_after}

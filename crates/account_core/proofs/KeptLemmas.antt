@@ -1,7 +1,7 @@
 -- What comes of a call whose entries are kept before the account has them.
-use Rattle.std.proofs.Common.{◌≡◌, ◌∙◌, ◌++◌, [], ℕ, ℤ, List, Option, Some, None, Result, Ok, Err, IfOk, ap, append-nil, inl, inr, refl, sym, subst}
+use Rattle.std.proofs.Common.{◌≡◌, ◌∙◌, ◌++◌, [], ℕ, List, Option, Some, None, Result, Ok, Err, IfOk, ap, append-nil, inl, inr, refl, sym}
 use Rattle.account_core.specs.Kept.{SetCame, StagedCame}
-use Rattle.cal_model.specs.Answer.{added, answer, answer_to, answered, changes_by, entries_from, ground, refused, set_added, set_answer, unkept_answer, unless_error, unless_refused}
+use Rattle.cal_model.specs.Answer.{added, answer, answer_to, answered, changes_by, entries_from, ground, refused, unkept_answer, unless_error, unless_refused}
 use Rattle.cal_model.specs.SetReply.{set_arguments}
 use Rattle.cal_model.specs.Sets.{new_ids, objects_of, set_changes, set_refusal}
 use Rattle.spec_books.specs.Acting.{Came}

@@ -1,6 +1,7 @@
 pub mod Numbers
 pub mod Loads
 pub mod Counting
+pub mod InOrder
 pub mod Committing
 pub mod Trails
 pub mod Soundness
@@ -17,4 +18,5 @@ pub mod FewChanges
 pub mod KeptLemmas
 pub mod SlotLemmas
 pub mod SoundObjectLemmas
+pub mod ResourceLimit
 pub mod GoingOn

@@ -1,5 +1,5 @@
 -- The slot that an account has, from the room of the calendar on.
-use Rattle.std.proofs.Common.{◌≡◌, ℕ, ◌++◌, Bor, IfNone, IfSome, List, None, Ok, Option, Some, [], ap, append-nil, false, refl, subst, sym, true, ◌∙◌}
+use Rattle.std.proofs.Common.{◌≡◌, ℕ, ◌++◌, Bor, IfNone, IfSome, List, None, Option, Some, [], ap, append-nil, false, refl, subst, true, ◌∙◌}
 use Rattle.std.proofs.lemmas.Option.{IfSome_then}
 use Rattle.resource_book.specs.RoomView.{RoomView}
 use Rattle.spec_bookings.specs.BookedResources.{bookings_of}

@@ -1,28 +1,28 @@
 -- Live objects that are sound behind some changes are so behind one more that fits.
-use Rattle.std.proofs.Common.{◌≡◌, ◌∙◌, ◌⊎◌, inl, inr, ◌++◌, ◌==◌, ◌&&◌, ◌||◌, not, cond, ℕ, List, [], ◌∷◌, Bool, true, false, Option, Some, None, MatchOption, append-nil, codes, filter, is_some, length, option_and_then, option_map, if◌then◌else◌, arith, refl, sym, ap, subst}
-use Rattle.std.proofs.lemmas.Bool.{and_from, and_parts, false≢true, not-false}
+use Rattle.std.proofs.Common.{◌≡◌, ◌∙◌, ◌⊎◌, ◌++◌, ◌==◌, ◌||◌, not, cond, ℕ, List, [], ◌∷◌, Bool, true, false, Option, Some, None, append-nil, codes, filter, is_some, length, option_and_then, option_map, if◌then◌else◌, arith, refl, sym, ap, subst}
+use Rattle.std.proofs.lemmas.Bool.{and_from, and_parts, false≢true, not-false, or_parts}
 use Rattle.std.proofs.lemmas.Bool.Decides.{nat_tests}
 use Rattle.std.proofs.lemmas.List.Elements.{filter-append}
-use Rattle.std.proofs.lemmas.Option.{none-some, same_Some}
 use Rattle.std.proofs.lemmas.Slice.Eq.{bytes_eq-Decides}
 use Rattle.std.specs.List.{list_all}
-use Rattle.std.specs.Option.{option_map_or, option_or}
+use Rattle.std.specs.Option.{option_map_or}
 use Rattle.account_rooms.proofs.Changes.{calendar_now, change, event_leaves_calendars, event_leaves_resources, ids_from-push, with_known, with_new}
 use Rattle.account_rooms.proofs.Numbers.{any_object, not_in_filter}
 use Rattle.cal_model.specs.Calendar.{bad_properties, calendar_in, stored, text_or_null}
 use Rattle.cal_model.specs.EventObject.{has_event, has_other_uid, names_missing_calendar}
 use Rattle.cal_model.specs.Fits.{IsFit, IsObjectFit}
-use Rattle.cal_model.specs.Operations.{after_tests, bad_of_booking, bad_of_calendar, bad_of_event, exceeds_resources, has_other_zone, put, with_name_if, zone_given}
+use Rattle.cal_model.specs.Operations.{after_tests, bad_of_booking, bad_of_calendar, bad_of_event, exceeds_resources, has_other_zone, if_holds, put, unless, zone_given}
+use Rattle.cal_model.specs.Quota.{exceeds_quota}
 use Rattle.cal_model.specs.Sound.{has_own_id, has_server_values, has_stored_form, is_sound, leaves, outcome_again, same_object}
 use Rattle.cal_model.specs.declared.outcome.Outcome.{Outcome}
 use Rattle.cal_model.specs.declared.outcome.Outcome.TheVariants.{Accepted, Refused}
+use Rattle.cal_model.specs.declared.set_error.SetError.TheVariants.{Clashes, OverQuota}
 use Rattle.object_outcomes.proofs.NameLemmas.{none_named}
 use Rattle.object_outcomes.proofs.SoundLemmas.{accepted_is, is_object, sound_parts}
 use Rattle.object_outcomes.proofs.SoundObjects.{AreSoundObjects, live_is_numbered}
-use Rattle.spec_bookings.proofs.Numbered.{in_filter, numbered_if_live}
 use Rattle.spec_bookings.proofs.Tables.{by_test, number_same, same_number}
 use Rattle.spec_bookings.specs.BookedResources.{clash_of_event, has_full_resource}
-use Rattle.spec_bookings.specs.BookingRules.{has_long_override, is_booking, is_in_other_zone, is_in_zone, is_long_booking}
+use Rattle.spec_bookings.specs.BookingRules.{has_long_override, is_in_other_zone, is_in_zone, is_long_booking}
 use Rattle.spec_bookings.specs.Resources.{is_resource, resource_zone, resources_at, resources_of, zone_of_resource}
 use Rattle.spec_bookings.specs.declared.clash.Clash.{Clash}
 use Rattle.spec_events.specs.Events.{calendars_of, names_calendar}
@@ -31,15 +31,14 @@ use Rattle.spec_history.specs.Pages.{is_in}
 use Rattle.spec_history.specs.declared.entry.Change.{Change}
 use Rattle.spec_history.specs.declared.entry.Kind.{Kind}
 use Rattle.spec_history.specs.declared.entry.Kind.TheVariants.{Calendar, Event}
-use Rattle.spec_json.specs.Data.{Data, members_of, object, pairs_back}
+use Rattle.spec_json.specs.Data.{Data, members_of, object}
 use Rattle.spec_json.specs.Parts.{members_in}
 use Rattle.spec_json.specs.SameData.{same_data}
 use Rattle.spec_json.specs.TreeData.{data_of}
 use Rattle.spec_json.specs.declared.tree.Tree.{Tree}
-use Rattle.spec_json.specs.declared.tree.Tree.TheVariants.{Null, Truth, Whole, Text, List as Listed, Object}
 use Rattle.spec_recurrence.specs.Recurrence.{bad_properties_of_event}
 use Rattle.spec_site.specs.TimeZones.{ZoneText}
-use Rattle.cal_model.specs.SoundObjects.{is_sound_object, unsound_among, unsound_object}
+use Rattle.cal_model.specs.SoundObjects.{is_sound_object}
 
 -- ---- Lists of numbers.
 
@@ -131,6 +130,15 @@ accepted_names : (cs : List Change) (is_full : Bool) (clash : Option (ℕ × Cla
 accepted_names cs is_full clash c b [] h = refl
 accepted_names cs is_full clash c b (name ∷ names) h = absurd (cc h)
 
+-- where the account has room for it
+accepted_room : (cs : List Change) (is_full : Bool) (clash : Option (ℕ × Clash)) (c b : Change) (names : List (List ℕ)) → after_tests cs is_full clash c names ≡ Accepted b → is_full ≡ false
+accepted_room cs is_full clash c b (name ∷ names) h = absurd (cc h)
+accepted_room cs is_full clash c b [] h = (or_parts (exceeds_quota cs c) is_full (by_test (exceeds_quota cs c || is_full) h)).1
+  where
+    by_test : (over : Bool) → unless (None ∷ if_holds over OverQuota ∷ option_map (λ q. Clashes q.0 q.1) clash ∷ []) (Accepted c) ≡ Accepted b → over ≡ false
+    by_test false e = refl
+    by_test true e = absurd (cc e)
+
 taken : (o : Option Tree) (out : Outcome) → leaves o out ≡ true → (b : Change) × (out ≡ Accepted b) × (same_object b.object o ≡ true)
 taken o (Accepted b) h = (b, refl, h)
 taken o (Refused e) h = absurd (false≢true h)
@@ -150,12 +158,13 @@ module _ (zones : List ZoneText) (cs : List Change) (n : ℕ) where
       subst (λ (e : Data). bad_of_event zones cs None false e ≡ []) back (none_named (has_other_uid (live_object cs Event n) d) (codes "uid") _ none).1
 
   -- and so does a calendar, which stays that of its resource
-  record CalendarPut (t : Tree) : Type 0 where
-    valid : bad_properties zones (data_of t) ≡ []
-    zone : has_other_zone (live_object cs Calendar n) (data_of t) ≡ false
-    form : same_data (object (members_of (stored (calendar_in (data_of t))))) (data_of t) ≡ true
+  pub record CalendarPut (t : Tree) : Type 0 where
+    pub valid : bad_properties zones (data_of t) ≡ []
+    pub zone : has_other_zone (live_object cs Calendar n) (data_of t) ≡ false
+    pub few : exceeds_resources cs n (data_of t) ≡ false
+    pub form : same_data (object (members_of (stored (calendar_in (data_of t))))) (data_of t) ≡ true
 
-  calendar_put : (t : Tree) → leaves (Some t) (outcome_again zones cs Calendar n (Some t)) ≡ true → CalendarPut t
+  pub calendar_put : (t : Tree) → leaves (Some t) (outcome_again zones cs Calendar n (Some t)) ≡ true → CalendarPut t
   calendar_put t h =
       let d = data_of t in
       let kept = put Calendar n (stored (calendar_in d)) in
@@ -163,7 +172,12 @@ module _ (zones : List ZoneText) (cs : List Change) (n : ℕ) where
       let out = taken (Some t) (outcome_again zones cs Calendar n (Some t)) h in
       let parts = none_named (has_other_zone (live_object cs Calendar n) d) (codes "resourceZone") (bad_properties zones d) (accepted_names cs (exceeds_resources cs n d) None kept out.0 bad out.1) in
       let is : kept ≡ out.0 = accepted_is cs (exceeds_resources cs n d) None kept out.0 bad out.1 in
-      record { valid = parts.1; zone = parts.0; form = subst (λ (b : Change). same_object b.object (Some t) ≡ true) (sym is) out.2 }
+      record {
+        valid = parts.1;
+        zone = parts.0;
+        few = accepted_room cs (exceeds_resources cs n d) None kept out.0 bad out.1;
+        form = subst (λ (b : Change). same_object b.object (Some t) ≡ true) (sym is) out.2;
+      }
 
 -- ---- What is sound.
 

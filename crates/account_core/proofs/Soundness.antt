@@ -1,5 +1,5 @@
 -- Lists of sound changes with one more.
-use Rattle.std.proofs.Common.{◌≡◌, ◌∙◌, ◌++◌, ◌∷◌, List, [], true, false, None, append-nil, append_assoc, refl, sym, ap}
+use Rattle.std.proofs.Common.{◌≡◌, ◌∙◌, ◌++◌, ◌∷◌, List, [], true, None, append-nil, append_assoc, refl, sym, ap}
 use Rattle.cal_model.specs.Sound.{first_unsound, is_sound}
 use Rattle.object_outcomes.proofs.SoundLemmas.{some_place}
 use Rattle.spec_history.specs.declared.entry.Change.{Change}
@@ -19,6 +19,14 @@ module _ (zones : List ZoneText) where
   join_sound before (c ∷ cs) ds h g =
       let first = some_place zones before cs c (is_sound zones before c) refl h in
       rw first.0 (join_sound (before ++ c ∷ []) cs ds first.1 (ap (λ l. first_unsound zones l ds) (append_assoc before (c ∷ []) cs) ∙ g))
+
+  -- and what is left of them behind their front
+  pub behind_front : (before cs ds : List Change) → first_unsound zones before (cs ++ ds) ≡ None → first_unsound zones (before ++ cs) ds ≡ None
+  behind_front before [] ds h = ap (λ l. first_unsound zones l ds) (append-nil before) ∙ h
+  behind_front before (c ∷ cs) ds h =
+      let first = some_place zones before (cs ++ ds) c (is_sound zones before c) refl h in
+      ap (λ l. first_unsound zones l ds) (sym (append_assoc before (c ∷ []) cs)) ∙ behind_front (before ++ c ∷ []) cs ds first.1
+
   -- one change more is staged
   pub one_sound : (cs staged more : List Change) (c : Change) → first_unsound zones cs staged ≡ None → is_sound zones (cs ++ staged) c ≡ true → more ≡ staged ++ c ∷ [] → first_unsound zones cs more ≡ None
   one_sound cs staged more c none sound is = ap (first_unsound zones cs) is ∙ none_more cs staged c none sound

@@ -4,6 +4,7 @@ ghost use Rattle.cal_model.specs.declared.limits.TheConstants.{MAX_CHANGES, MAX_
 ghost use Rattle.spec_history.specs.History.{is_kind};
 ghost use Rattle.spec_history.specs.declared.entry.Kind.{Kind as AnyKind};
 
+use account_opening::Opened;
 use cal_model::limits::{MAX_CHANGES, MAX_OBJECT_BYTES, MAX_OBJECTS};
 use spec_history::entry::Kind;
 
@@ -39,7 +40,11 @@ pub struct Tally {
 
 impl Tally {
     ghost use Rattle.account_core.specs.Tally.{Tallies, count_created};
-    ghost use Rattle.std.specs.Prelude.{[]};
+    ghost use Rattle.account_opening.specs.Opening.{IsOpenedFrom};
+    ghost use Rattle.account_store.specs.Store.{entries};
+    ghost use Rattle.spec_history.specs.History.{changes_of};
+    ghost use Rattle.spec_site.specs.TimeZones.{ZoneText};
+    ghost use Rattle.std.specs.Prelude.{List, []};
 
     /// The tally of no entries. Takes no memory.
     pub fn new() -> Tally

@@ -1,9 +1,7 @@
-use Rattle.std.proofs.Common.{refl, subst, sym, IfOk}
+use Rattle.std.proofs.Common.{refl}
 use Rattle.account_core.proofs.KeptLemmas.{looked}
 use Rattle.account_core.specs.Ledger.{base, ledger_entries}
-use Rattle.cal_model.specs.Answer.{answer_to, changes_by, entries_from}
-use Rattle.spec_books.specs.Acting.{Came}
-use Rattle.spec_calls.specs.declared.call.Asks.TheVariants.{Availability, Changes, Get, Query, QueryChanges, Set, Slot}
+use Rattle.spec_calls.specs.declared.call.Asks.TheVariants.{Availability, Changes, Get, Query, QueryChanges, Slot}
 use Rattle.account_core.proofs.account.answer.Goals as goal
 
 pub returns-in-Get-clause-came : goal.returns-in-Get-clause-came

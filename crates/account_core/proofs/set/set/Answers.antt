@@ -1,4 +1,4 @@
-use Rattle.std.proofs.Common.{◌≡◌, IfOk, List, subst}
+use Rattle.std.proofs.Common.{IfOk, List, subst}
 use Rattle.account_core.specs.Kept.{SetCame}
 use Rattle.account_core.specs.Ledger.{base, ledger_entries}
 use Rattle.spec_history.specs.Base.{Base}

@@ -1,6 +1,6 @@
 use Rattle.std.proofs.Common.{IfOk, List, subst}
 use Rattle.account_core.proofs.Trails.{has_nothing}
-use Rattle.account_core.specs.Ledger.{ledger_entries}
+use Rattle.account_core.specs.Ledger.{base, ledger_entries}
 use Rattle.cal_model.specs.Answer.{added, answer}
 use Rattle.spec_books.specs.Acting.{Came}
 use Rattle.spec_history.specs.Base.{Base}
@@ -14,4 +14,4 @@ returns-clause-came g c =
 
 -- nothing is copied from here on
 pub invariant_of-self : goal.invariant_of-self
-invariant_of-self g c = (c.answer.ensures.staged, has_nothing c.none.result (ledger_entries c.answer.new.ledger) c.none.ensures)
+invariant_of-self g c = (c.answer.ensures.staged, has_nothing (base c.answer.new.ledger).zones c.none.result (ledger_entries c.answer.new.ledger) c.none.ensures)

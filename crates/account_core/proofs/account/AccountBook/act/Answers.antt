@@ -1,5 +1,6 @@
-use Rattle.std.proofs.Common.{IfOk, List, None, subst}
+use Rattle.std.proofs.Common.{IfOk, List, None, subst, sym}
 use Rattle.account_core.specs.Ledger.{ledger_entries}
+use Rattle.account_core.specs.Trails.{HasCopies}
 use Rattle.cal_model.specs.Answer.{added, answer}
 use Rattle.spec_books.specs.Acting.{Came}
 use Rattle.spec_history.specs.Base.{Base}
@@ -8,7 +9,10 @@ use Rattle.account_core.proofs.account.AccountBook.act.Goals as goal
 
 -- the trail goes on with what came
 pub invariant_of-self : goal.invariant_of-self
-invariant_of-self c = (c.answer.ensures.staged, c.answer.ensures.kept c.self.invariant.1)
+invariant_of-self c = (
+    c.answer.ensures.staged,
+    subst (λ (b : Base). HasCopies b.zones c.answer.new.keeper (ledger_entries c.answer.new.ledger)) (sym c.answer.ensures.base) (c.answer.ensures.kept c.self.invariant.1),
+)
 
 pub returns-clause-came : goal.returns-clause-came
 returns-clause-came c =
