@@ -2,7 +2,7 @@
 """Times calls of logs of objects behind a short and a long history; README.md tells what it prints.
 
 With --gate it holds one thing alone, and ends with 1 where it isn't so: a change, and a look at what there is, cost the same however many changes there were. Each may take at most so many times after
-a long history what it takes after a short one, in the same run and by the least of some rounds, so a loaded machine changes both."""
+a long history what it takes after a short one, in the same run, by turns, and by the least of them: what a loaded machine adds falls away."""
 
 import argparse
 import os
@@ -28,14 +28,17 @@ CALLS = (
 # How often the time after a short history may go into that after a long one.
 HELD = ("get", "put")
 MOST_TIMES = 3
+# How many turns of both are taken at most, since on a loaded machine all of a few may be slow.
+MOST_TURNS = 60
 
 
 def nanoseconds(chosen, call, entries, ids, back, most):
+    return min(one_round(chosen, call, entries, ids, back, most) for _ in range(chosen.rounds))
+
+
+def one_round(chosen, call, entries, ids, back, most):
     words = [chosen.binary, call, str(entries), str(ids or entries), str(back), most]
-    return min(
-        int(subprocess.run(words, stdin=subprocess.DEVNULL, capture_output=True, check=True).stdout)
-        for _ in range(chosen.rounds)
-    )
+    return int(subprocess.run(words, stdin=subprocess.DEVNULL, capture_output=True, check=True).stdout)
 
 
 def peak(chosen, entries, ids):
@@ -65,12 +68,22 @@ def tell_memory(chosen):
 def gate(chosen):
     missed = 0
     for call in HELD:
-        short = nanoseconds(chosen, call, SHORT, IDS, 0, "none")
-        long = nanoseconds(chosen, call, LONG, IDS, 0, "none")
+        short, long = held(chosen, call)
         times = long / max(short, 1)
         missed += times > MOST_TIMES
         print(f"{call}: {short:,} ns after {SHORT:,} changes, {long:,} ns after {LONG:,}, {times:.1f} times (at most {MOST_TIMES}: {'met' if times <= MOST_TIMES else 'missed'})")
     return 1 if missed else 0
+
+
+def held(chosen, call):
+    """The least times of a call after a short and a long history, by turns, until they are near enough or so many turns were taken."""
+    short = long = None
+    for turn in range(MOST_TURNS):
+        one, other = (one_round(chosen, call, entries, IDS, 0, "none") for entries in (SHORT, LONG))
+        short, long = min(one, short or one), min(other, long or other)
+        if turn >= chosen.rounds and long <= MOST_TIMES * max(short, 1):
+            break
+    return short, long
 
 
 def main():

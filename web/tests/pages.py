@@ -42,13 +42,22 @@ def missing():
 
 
 def until(holds, what, seconds=SECONDS):
-    """What `holds` gives once that is true."""
+    """What `holds` gives once that is true. Where it looked at a part of the page that the page has just drawn anew, it looks again."""
     end = time.monotonic() + seconds
-    while not (found := holds()):
+    while not (found := unless_redrawn(holds)):
         if time.monotonic() > end:
             raise AssertionError(f"after {seconds} s: {what}")
         time.sleep(0.1)
     return found
+
+
+def unless_redrawn(holds):
+    from selenium.common.exceptions import StaleElementReferenceException
+
+    try:
+        return holds()
+    except StaleElementReferenceException:
+        return False
 
 
 class Site:
@@ -195,14 +204,10 @@ class Window:
 
     def press_event(self, title, *keys):
         """Presses keys on an event, or clicks on it. The page may draw it anew meanwhile."""
-        from selenium.common.exceptions import StaleElementReferenceException
 
         def pressed():
             event = self.run(f"return ({FIND})(arguments[0])", title)
-            try:
-                event.send_keys(*keys) if keys else event.click()
-            except StaleElementReferenceException:
-                return False
+            event.send_keys(*keys) if keys else event.click()
             return True
 
         self.sees(title)
