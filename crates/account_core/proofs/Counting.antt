@@ -22,7 +22,7 @@ use Rattle.spec_json.specs.Json.{text_of}
 use Rattle.spec_json.specs.TreeData.{data_of}
 use Rattle.spec_json.specs.declared.tree.Tree.{Tree}
 
-pub same_kind : (a b : Kind) → is_kind a b ≡ true → a ≡ b
+same_kind : (a b : Kind) → is_kind a b ≡ true → a ≡ b
 same_kind Calendar Calendar h = refl
 same_kind Event Event h = refl
 same_kind Calendar Event h = absurd (false≢true h)

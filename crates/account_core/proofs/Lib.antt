@@ -1,7 +1,7 @@
 pub mod Numbers
 pub mod Loads
 pub mod Counting
-pub mod InOrder
+pub mod CreatedCount
 pub mod Committing
 pub mod Trails
 pub mod Soundness

@@ -44,8 +44,7 @@ module _ (zones : List ZoneText) where
   more_from (Some first) es more h sound are =
       let front = ap changes_of (take-append-le first h more are.0) in
       let rest = ap changes_of (drop-append-le first h more are.0) ∙ changes_of_both (drop first h) more in
-      let all : changes_of (take first h) ++ changes_of (drop first h) ≡ changes_of h = sym (changes_of_both (take first h) (drop first h)) ∙ ap changes_of (take-append-drop first h) in
-      (
+      let all : changes_of (take first h) ++ changes_of (drop first h) ≡ changes_of h = sym (changes_of_both (take first h) (drop first h)) ∙ ap changes_of (take-append-drop first h) in (
         omega (arith, are.0, length-append h more),
         drop-append-le first h more are.0 ∙ ap (λ (l : List Entry). l ++ more) are.1,
         ap (λ (cs : List Change). first_unsound zones cs (changes_of (drop first (h ++ more)))) front ∙ ap (first_unsound zones (changes_of (take first h))) rest

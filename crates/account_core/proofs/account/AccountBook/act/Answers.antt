@@ -10,8 +10,8 @@ use Rattle.account_core.proofs.account.AccountBook.act.Goals as goal
 -- the trail goes on with what came
 pub invariant_of-self : goal.invariant_of-self
 invariant_of-self c = (
-    c.answer.ensures.staged,
-    subst (λ (b : Base). HasCopies b.zones c.answer.new.keeper (ledger_entries c.answer.new.ledger)) (sym c.answer.ensures.base) (c.answer.ensures.kept c.self.invariant.1),
+  c.answer.ensures.staged,
+  subst (λ (b : Base). HasCopies b.zones c.answer.new.keeper (ledger_entries c.answer.new.ledger)) (sym c.answer.ensures.base) (c.answer.ensures.kept c.self.invariant.1),
 )
 
 pub returns-clause-came : goal.returns-clause-came

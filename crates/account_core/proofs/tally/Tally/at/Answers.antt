@@ -1,6 +1,7 @@
 use Rattle.std.proofs.Common.{arith, sym, ◌∙◌}
 use Rattle.std.proofs.lemmas.List.{length-map}
-use Rattle.account_core.proofs.InOrder.{are_in_order, few_ids, numbers_told}
+use Rattle.account_core.proofs.CreatedCount.{few_ids, numbers_told}
+use Rattle.account_opening.proofs.NumberedLemmas.{numbers_in_order}
 use Rattle.account_store.specs.Store.{entries}
 use Rattle.spec_history.specs.History.{changes_of}
 use Rattle.spec_history.specs.declared.entry.Entry.{Entry}
@@ -25,7 +26,7 @@ invariant_of-result c =
 pub returns : goal.returns
 returns c =
     let es = entries c.args.opened.now.store in
-    let order = are_in_order (changes_of es) c.requires.1.goes_on.numbered in
+    let order = numbers_in_order (changes_of es) c.requires.1.goes_on.numbered in
     record {
       entries = c.len.ensures ∙ sym (length-map es (λ (e : Entry). e.change));
       objects = c.requires.1.objects;
