@@ -8,10 +8,10 @@ use Rattle.account_opening.proofs.ClearLemmas.{clear_beside, fewer_beside}
 use Rattle.account_opening.proofs.NumberedLemmas.{numbers_in_order}
 use Rattle.account_opening.proofs.PutAgainLemmas.{calendars_are, events_are, new_there}
 use Rattle.account_opening.specs.Again.{again_at}
+use Rattle.account_opening.specs.Opening.{FitsButForObjects}
 use Rattle.account_rooms.proofs.Resources.{at_resource}
 use Rattle.account_rooms.proofs.Seconds.{least_first_clash}
 use Rattle.account_store.specs.Earlier.{live_ids}
-use Rattle.cal_model.specs.GoesOn.{GoesOn}
 use Rattle.resource_book.proofs.Clashes.{to_clash}
 use Rattle.rule_expand.specs.Least.{IsLeastOf}
 use Rattle.spec_bookings.proofs.Listed.{live_booked, live_rise}
@@ -59,7 +59,7 @@ not_full n h = grind (arith, nat_tests)
 
 -- ---- The next of the live events.
 
-module _ (zones : List ZoneText) (cs : List Change) (goes_on : GoesOn zones cs) (k id : ℕ) (t : Tree) (at : slice_get (live_ids cs Event) k ≡ Some id) (live : live_object cs Event id ≡ Some t)
+module _ (zones : List ZoneText) (cs : List Change) (fits : FitsButForObjects zones cs) (k id : ℕ) (t : Tree) (at : slice_get (live_ids cs Event) k ≡ Some id) (live : live_object cs Event id ≡ Some t)
     (s : Series) (valid : series_in zones (data_of t) ≡ Some s) where
   abbrev again : List Change
   again = again_at cs k
@@ -83,15 +83,15 @@ module _ (zones : List ZoneText) (cs : List Change) (goes_on : GoesOn zones cs) 
     new : series_booked id (bookings_of zones again n) ≡ None
     new =
         live_booked (booked_in zones n) again id
-        ∙ ap (booked_by (booked_in zones n)) (events_are cs k id ∙ ap (λ b. if b then live_object cs Event id else None) (new_there cs (λ q. length (ids_at cs q)) (numbers_in_order cs goes_on.numbered) Event k id at))
+        ∙ ap (booked_by (booked_in zones n)) (events_are cs k id ∙ ap (λ b. if b then live_object cs Event id else None) (new_there cs (λ q. length (ids_at cs q)) (numbers_in_order cs fits.numbered) Event k id at))
 
     clear : IsClear (other_bookings zones again id n) s
-    clear = clear_beside id s (bookings_of zones again n) (bookings_of zones cs n) (live_rise (booked_in zones n) again) (goes_on.free n there) own new some
+    clear = clear_beside id s (bookings_of zones again n) (bookings_of zones cs n) (live_rise (booked_in zones n) again) (fits.free n there) own new some
 
     room : length (other_bookings zones again id n) < MAX_BOOKINGS
     room =
         let fewer = fewer_beside id s (bookings_of zones again n) (bookings_of zones cs n) (live_rise (booked_in zones n) again) (live_rise (booked_in zones n) cs) own some in
-        omega (arith, fewer, goes_on.few n there)
+        omega (arith, fewer, fits.few n there)
 
   pub none_full : has_full_resource zones again id (data_of t) ≡ false
   none_full = none_of (λ n. nat_le MAX_BOOKINGS (length (other_bookings zones again id n))) (resources_of again (data_of t))

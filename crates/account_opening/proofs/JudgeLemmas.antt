@@ -1,14 +1,18 @@
 -- Live objects of a kind, one after the other.
-use Rattle.std.proofs.Common.{◌≡◌, ◌∙◌, ◌<◌, ◌≤◌, ◌+◌, ◌==◌, ◌||◌, ◌++◌, All, append-nil, get_or, take, ℕ, List, [], ◌∷◌, Bool, true, false, Some, None, is_some, length, map, refl, sym, ap, subst}
+use Rattle.std.proofs.Common.{Option, zero, suc, cond, filter, option_map, if◌then◌else◌, ◌≡◌, ◌∙◌, ◌<◌, ◌≤◌, ◌+◌, ◌==◌, ◌||◌, ◌++◌, All, append-nil, get_or, take, ℕ, List, [], ◌∷◌, Bool, true, false, Some, None, is_some, length, map, refl, sym, ap, subst}
 use Rattle.std.proofs.lemmas.Bool.{false≢true}
 use Rattle.std.proofs.lemmas.List.{take_all}
 use Rattle.std.proofs.lemmas.List.Elements.{All-head, All-more, All-tail}
 use Rattle.std.proofs.lemmas.Option.{same_Some, slice_get-get_or}
 use Rattle.std.specs.List.{slice_get}
+use Rattle.std.specs.Option.{option_map_or, option_or}
 use Rattle.account_opening.proofs.NumberedLemmas.{numbers_in_order}
 use Rattle.account_opening.proofs.PutAgainLemmas.{are_put_again, live_there, new_put, puts_more, resources_are}
 use Rattle.account_opening.proofs.RoomLemmas.{rooms_listed}
 use Rattle.account_opening.specs.Again.{AreSound, again_at, put_again, puts_of}
+use Rattle.account_opening.specs.Opening.{FitsButForObjects, IsRefusal, NamesUnsound}
+use Rattle.account_opening.specs.declared.open.OpeningError.{OpeningError}
+use Rattle.account_opening.specs.declared.open.OpeningError.TheVariants.{BadObject, NoMemory}
 use Rattle.account_rooms.proofs.CalendarsAgain.{calendar_again}
 use Rattle.account_rooms.proofs.RoomsAgain.{same_rooms}
 use Rattle.account_rooms.specs.RoomChanges.{rooms_by}
@@ -16,9 +20,9 @@ use Rattle.account_rooms.specs.Rooms.{AreRooms, BookedRoom}
 use Rattle.account_store.specs.Earlier.{live_ids}
 use Rattle.cal_model.specs.GoesOn.{GoesOn}
 use Rattle.cal_model.specs.Quota.{live_objects, live_size}
-use Rattle.cal_model.specs.SoundObjects.{is_sound_object}
+use Rattle.cal_model.specs.SoundObjects.{is_sound_object, unsound_among, unsound_object}
 use Rattle.cal_model.specs.declared.limits.TheConstants.{MAX_CHANGES, MAX_OBJECT_BYTES, MAX_OBJECTS}
-use Rattle.object_outcomes.proofs.SoundObjects.{AreSoundObjects, live_is_numbered, none_unsound_where_all_are_sound, sound_where_none_is_unsound}
+use Rattle.object_outcomes.proofs.SoundObjects.{AreSoundObjects, live_is_numbered, none_unsound_where_all_are_sound}
 use Rattle.spec_bookings.proofs.Numbered.{in_filter}
 use Rattle.spec_bookings.proofs.Tables.{same_number}
 use Rattle.spec_bookings.specs.Resources.{resources_at}
@@ -64,9 +68,92 @@ module _ (zones : List ZoneText) (cs : List Change) (kind : Kind) (ids : List �
       all_in IsSoundAt (live_ids cs kind) n (in_filter (λ m. is_some (live_object cs kind m)) (ids_at cs kind) n (ap is_some live) (live_is_numbered cs kind n (ap is_some live)))
       (subst (All IsSoundAt) (take_all k ids done ∙ are) all) t live
 
--- an object that isn't sound is a reason to refuse
-pub unsound_refused : (zones : List ZoneText) (cs : List Change) (kind : Kind) (n : ℕ) (t : Tree) → live_object cs kind n ≡ Some t → is_sound_object zones cs kind n (data_of t) ≡ false → GoesOn zones cs → ⊥
-unsound_refused zones cs kind n t live unsound goes_on = false≢true (sym unsound ∙ sound_where_none_is_unsound zones cs goes_on.objects kind n t live)
+-- ---- The first that isn't sound.
+
+module _ (zones : List ZoneText) (cs : List Change) (kind : Kind) where
+  abbrev passes : ℕ → Bool
+  passes n = option_map_or (λ t. is_sound_object zones cs kind n (data_of t)) (live_object cs kind n) true
+
+  passes_if : (n : ℕ) → ((t : Tree) → live_object cs kind n ≡ Some t → is_sound_object zones cs kind n (data_of t) ≡ true) → passes n ≡ true
+  passes_if n h = by_object (live_object cs kind n) refl
+    where
+      by_object : (o : Option Tree) → live_object cs kind n ≡ o → option_map_or (λ t. is_sound_object zones cs kind n (data_of t)) o true ≡ true
+      by_object None e = refl
+      by_object (Some t) e = h t e
+
+  among_live : (ns : List ℕ) → unsound_among zones cs kind (filter (λ n. is_some (live_object cs kind n)) ns) ≡ unsound_among zones cs kind ns
+  among_live [] = refl
+  among_live (n ∷ ns) = by_object (live_object cs kind n) refl (among_live ns)
+    where
+      live : List ℕ
+      live = filter (λ m. is_some (live_object cs kind m)) ns
+
+      by_object : (o : Option Tree) → live_object cs kind n ≡ o → unsound_among zones cs kind live ≡ unsound_among zones cs kind ns
+          → unsound_among zones cs kind (cond (is_some o) (n ∷ live) live) ≡ (if option_map_or (λ t. is_sound_object zones cs kind n (data_of t)) o true then unsound_among zones cs kind ns else Some n)
+      by_object None e rest = rest
+      by_object (Some t) e rest =
+          ap (λ p. if option_map_or (λ u. is_sound_object zones cs kind n (data_of u)) p true then unsound_among zones cs kind live else Some n) e
+          ∙ ap (λ o. if is_sound_object zones cs kind n (data_of t) then o else Some n) rest
+
+  first_among : (ns : List ℕ) (k n : ℕ) → slice_get ns k ≡ Some n → passes n ≡ false
+      → All (λ m. (t : Tree) → live_object cs kind m ≡ Some t → is_sound_object zones cs kind m (data_of t) ≡ true) (take k ns) → unsound_among zones cs kind ns ≡ Some n
+  first_among [] k n e bad before = absurd (cc e)
+  first_among (m ∷ ns) zero n e bad before =
+      let is : m ≡ n = cc e in
+      ap (λ b. if b then unsound_among zones cs kind ns else Some m) (ap passes is ∙ bad) ∙ ap Some is
+  first_among (m ∷ ns) (suc k) n e bad before =
+      let P : ℕ → Type 0 = λ i. (t : Tree) → live_object cs kind i ≡ Some t → is_sound_object zones cs kind i (data_of t) ≡ true in
+      ap (λ b. if b then unsound_among zones cs kind ns else Some m) (passes_if m (All-head P m (take k ns) before)) ∙ first_among ns k n e bad (All-tail P m (take k ns) before)
+
+  none_among : (ns : List ℕ) → AreSound zones cs kind → unsound_among zones cs kind ns ≡ None
+  none_among [] sound = refl
+  none_among (n ∷ ns) sound = ap (λ b. if b then unsound_among zones cs kind ns else Some n) (passes_if n (sound n)) ∙ none_among ns sound
+
+  first_unsound : (ids : List ℕ) (are : ids ≡ live_ids cs kind) (k : ℕ) (t : Tree) → k < length ids → live_object cs kind (get_or ids k 0) ≡ Some t → is_sound_object zones cs kind (get_or ids k 0) (data_of t) ≡ false
+      → All (IsSoundAt zones cs kind ids are) (take k ids) → unsound_among zones cs kind (ids_at cs kind) ≡ Some (get_or ids k 0)
+  first_unsound ids are k t lt live bad before =
+      sym (among_live (ids_at cs kind)) ∙ ap (unsound_among zones cs kind) (sym are)
+      ∙ first_among ids k (get_or ids k 0) (slice_get-get_or ids k 0 lt)
+      (ap (λ o. option_map_or (λ u. is_sound_object zones cs kind (get_or ids k 0) (data_of u)) o true) live ∙ bad) before
+
+-- a calendar, where those in front of it are sound
+pub unsound_calendar : (zones : List ZoneText) (cs : List Change) (ids : List ℕ) (are : ids ≡ live_ids cs Calendar) (k : ℕ) (t : Tree) → k < length ids → live_object cs Calendar (get_or ids k 0) ≡ Some t
+    → is_sound_object zones cs Calendar (get_or ids k 0) (data_of t) ≡ false → All (IsSoundAt zones cs Calendar ids are) (take k ids) → unsound_object zones cs ≡ Some (Calendar, get_or ids k 0)
+unsound_calendar zones cs ids are k t lt live bad before =
+    ap (λ (o : Option ℕ). option_or {T = Kind × ℕ} (option_map (λ n. (Calendar, n)) o) (option_map (λ n. (Event, n)) (unsound_among zones cs Event (ids_at cs Event))))
+    (first_unsound zones cs Calendar ids are k t lt live bad before)
+
+abbrev event_of : Option ℕ → Option (Kind × ℕ)
+event_of o = option_map (λ n. (Event, n)) o
+
+-- an event, where all calendars are, and the events in front of it
+pub unsound_event : (zones : List ZoneText) (cs : List Change) (ids : List ℕ) (are : ids ≡ live_ids cs Event) (k : ℕ) (t : Tree) → k < length ids → live_object cs Event (get_or ids k 0) ≡ Some t
+    → is_sound_object zones cs Event (get_or ids k 0) (data_of t) ≡ false → AreSound zones cs Calendar → All (IsSoundAt zones cs Event ids are) (take k ids) → unsound_object zones cs ≡ Some (Event, get_or ids k 0)
+unsound_event zones cs ids are k t lt live bad calendars before =
+    ap (λ (o : Option ℕ). option_or {T = Kind × ℕ} (option_map (λ n. (Calendar, n)) o) (option_map (λ n. (Event, n)) (unsound_among zones cs Event (ids_at cs Event))))
+    (none_among zones cs Calendar (ids_at cs Calendar) calendars)
+    ∙ ap event_of (first_unsound zones cs Event ids are k t lt live bad before)
+
+-- who tells of an object where something else stands against it names none
+pub named_where_unfit : (zones : List ZoneText) (cs : List Change) (e : OpeningError) → ((kind : Kind) (id : ℕ) → e ≡ BadObject kind id → FitsButForObjects zones cs → ⊥) → NamesUnsound zones cs e
+named_where_unfit zones cs (BadObject kind id) h = λ fits. absurd (h kind id refl fits)
+named_where_unfit zones cs NoMemory h = tt
+
+-- who names the first object that isn't sound refuses rightly
+pub refused_if_named : (zones : List ZoneText) (cs : List Change) (e : OpeningError) → NamesUnsound zones cs e → IsRefusal zones cs e
+refused_if_named zones cs (BadObject kind id) named = λ goes_on. none_some (kind, id) (sym goes_on.objects ∙ named (record {
+  numbered = goes_on.numbered;
+  free = goes_on.free;
+  few = goes_on.few;
+  resources = goes_on.resources;
+  changes = goes_on.changes;
+  live = goes_on.live;
+  size = goes_on.size;
+}))
+  where
+    none_some : (q : Kind × ℕ) → None ≡ Some q → ⊥
+    none_some q h = cc h
+refused_if_named zones cs NoMemory named = tt
 
 -- one calendar more
 module _ (zones : List ZoneText) (cs : List Change) (numbered : are_numbered [] cs ≡ true) (ids : List ℕ) (are : ids ≡ live_ids cs Calendar) where

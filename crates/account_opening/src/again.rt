@@ -1,7 +1,7 @@
 //! The live objects of a store, put again one after the other.
-ghost use Rattle.std.specs.Prelude.{◌≡◌, ◌+◌, ◌<◌, ◌^◌, [], IfErr, IfNone, IfOk, IfSome, OnOk, Some, slice_get, true};
+ghost use Rattle.std.specs.Prelude.{◌≡◌, ◌+◌, ◌<◌, ◌^◌, [], IfNone, IfOk, IfSome, Some, false, slice_get, true};
 ghost use Rattle.account_opening.specs.Again.{NothingStandsAgainst, again_at};
-ghost use Rattle.account_opening.specs.Opening.{IsRefusal};
+ghost use Rattle.account_opening.specs.Opening.{FitsButForObjects};
 ghost use Rattle.account_rooms.specs.Rooms.{AreRooms};
 ghost use Rattle.account_store.specs.Earlier.{live_ids};
 ghost use Rattle.account_store.specs.Store.{entries};
@@ -14,7 +14,6 @@ ghost use Rattle.spec_json.specs.TreeData.{data_of};
 ghost use Rattle.spec_recurrence.specs.SeriesOf.{series_in};
 ghost use Rattle.spec_snapshots.specs.Numbered.{are_numbered};
 
-use crate::open::OpeningError;
 use account_rooms::Rooms;
 use account_store::Store;
 use cal_model::view::CalendarsView;
@@ -63,21 +62,19 @@ impl<'a> Again<'a> {
         alloc: Global,
         id: u64,
         event: &Tree,
-    ) -> Result<Again<'a>, OpeningError>
+    ) -> Result<Option<Again<'a>>, AllocError>
         requires numbered { are_numbered [] (changes_of (entries self.store.now)) ≡ true }
         requires next { slice_get (live_ids (changes_of (entries self.store.now)) event_kind) self.events ≡ Some id }
         requires live { live_object (changes_of (entries self.store.now)) event_kind id ≡ Some event.now }
         requires few { self.events < 2 ^ 63 }
-        ensures of { IfOk result (λ a. (a.store ≡ self.entry.store) × (a.zones ≡ self.entry.zones)) }
-        ensures events { IfOk result (λ a. a.events ≡ self.entry.events + 1) }
-        ensures sound { OnOk result (is_sound_object self.entry.zones.now (changes_of (entries self.entry.store.now)) event_kind id (data_of event.now) ≡ true) }
-        ensures refused { IfErr result (IsRefusal self.entry.zones.now (changes_of (entries self.entry.store.now))) }
+        ensures of { IfOk result (λ o. IfSome o (λ a. (a.store ≡ self.entry.store) × (a.zones ≡ self.entry.zones))) }
+        ensures events { IfOk result (λ o. IfSome o (λ a. a.events ≡ self.entry.events + 1)) }
+        ensures sound { IfOk result (λ o. IfSome o (λ _. is_sound_object self.entry.zones.now (changes_of (entries self.entry.store.now)) event_kind id (data_of event.now) ≡ true)) }
+        ensures none { IfOk result (λ o. IfNone o (FitsButForObjects self.entry.zones.now (changes_of (entries self.entry.store.now))
+            → is_sound_object self.entry.zones.now (changes_of (entries self.entry.store.now)) event_kind id (data_of event.now) ≡ false)) }
     {
         let Some(series) = self.series_fit(alloc, id, event)? else {
-            return Err(OpeningError::BadObject {
-                kind: Kind::Event,
-                id,
-            });
+            return Ok(None);
         };
         let Again {
             store,
@@ -86,12 +83,12 @@ impl<'a> Again<'a> {
             events,
         } = self;
         rooms.put_event(id, event, Some(&series))?;
-        Ok(Again {
+        Ok(Some(Again {
             store,
             zones,
             rooms,
             events: events + 1,
-        })
+        }))
     }
 
     /// The rooms of these objects, which can be gone back to. Takes no memory.

@@ -1,7 +1,7 @@
 //! Live objects, judged as if they were stored anew.
 ghost use Rattle.std.specs.Prelude.{◌≡◌, ◌≤◌, [], IfErr, IfOk, OnOk, length, true};
 ghost use Rattle.account_opening.specs.Again.{AreSound, again_at};
-ghost use Rattle.account_opening.specs.Opening.{IsRefusal};
+ghost use Rattle.account_opening.specs.Opening.{NamesUnsound};
 ghost use Rattle.account_rooms.specs.Rooms.{AreRooms};
 ghost use Rattle.account_store.specs.Store.{entries};
 ghost use Rattle.spec_bookings.specs.Resources.{resources_at};
@@ -30,7 +30,7 @@ pub(crate) fn judge_calendars(
     ensures rooms { IfOk result (λ r. AreRooms zones.now (again_at (changes_of (entries store.now)) 0) r.rooms) }
     ensures sound { OnOk result (AreSound zones.now (changes_of (entries store.now)) calendar_kind) }
     ensures resources { OnOk result (length (resources_at (changes_of (entries store.now))) ≤ MAX_RESOURCES) }
-    ensures refused { IfErr result (IsRefusal zones.now (changes_of (entries store.now))) }
+    ensures named { IfErr result (NamesUnsound zones.now (changes_of (entries store.now))) }
 {
     let rooms = calendar_rooms(alloc, zones, store)?;
     let resources = rooms.calendars(alloc)?;
@@ -48,7 +48,7 @@ fn calendar_rooms(alloc: Global, zones: &Zones, store: &Store) -> Result<Rooms, 
     requires { are_numbered [] (changes_of (entries store.now)) ≡ true }
     ensures rooms { IfOk result (λ r. AreRooms zones.now (again_at (changes_of (entries store.now)) 0) r.rooms) }
     ensures sound { OnOk result (AreSound zones.now (changes_of (entries store.now)) calendar_kind) }
-    ensures refused { IfErr result (IsRefusal zones.now (changes_of (entries store.now))) }
+    ensures named { IfErr result (NamesUnsound zones.now (changes_of (entries store.now))) }
 {
     let mut rooms = Rooms::new(alloc);
     let ids = store.live_ids(alloc, Kind::Calendar)?;
@@ -76,10 +76,11 @@ pub(crate) fn judge_events(
 ) -> Result<Rooms, OpeningError>
     requires numbered { are_numbered [] (changes_of (entries store.now)) ≡ true }
     requires rooms { AreRooms zones.now (again_at (changes_of (entries store.now)) 0) rooms.rooms }
+    requires calendars { AreSound zones.now (changes_of (entries store.now)) calendar_kind }
     ensures rooms { IfOk result (λ r. AreRooms zones.now (changes_of (entries store.now)) r.rooms) }
     ensures kept { IfOk result (λ r. r.kept ≡ r.rooms) }
     ensures sound { OnOk result (AreSound zones.now (changes_of (entries store.now)) event_kind) }
-    ensures refused { IfErr result (IsRefusal zones.now (changes_of (entries store.now))) }
+    ensures named { IfErr result (NamesUnsound zones.now (changes_of (entries store.now))) }
 {
     let mut again = Again::new(store, zones, rooms);
     let ids = store.live_ids(alloc, Kind::Event)?;
@@ -87,7 +88,13 @@ pub(crate) fn judge_events(
         let Some(event) = store.object(Kind::Event, *id) else {
             unreachable!()
         };
-        again = again.with_event(alloc, *id, event)?;
+        let Some(more) = again.with_event(alloc, *id, event)? else {
+            return Err(OpeningError::BadObject {
+                kind: Kind::Event,
+                id: *id,
+            });
+        };
+        again = more;
     }
     Ok(again.into_rooms())
 }

@@ -1,6 +1,6 @@
 //! How what an account keeps beside its entries is opened.
 ghost use Rattle.std.specs.Prelude.{◌≡◌, ◌≤◌, ◌^◌, [], IfErr, IfOk, OnOk, length, true};
-ghost use Rattle.account_opening.specs.Opening.{IsOpenedFrom, IsRefusal};
+ghost use Rattle.account_opening.specs.Opening.{IsOpenedFrom, IsRefusal, NamesUnsound};
 ghost use Rattle.account_opening.specs.declared.open.OpeningError.TheVariants.{NoMemory as no_memory};
 ghost use Rattle.account_store.specs.Store.{entries, event_puts};
 ghost use Rattle.event_store.specs.ReadSeries.{AreRead};
@@ -59,6 +59,16 @@ pub fn open_parts(alloc: Global, zones: &Zones, loaded: Loaded) -> Result<Opened
     requires { IsKeptFrom loaded.told.items loaded.kept }
     ensures opened { IfOk result (IsOpenedFrom zones.now loaded.told.items) }
     ensures refused { IfErr result (IsRefusal zones.now (changes_of loaded.told.items)) }
+    ensures named { IfErr result (NamesUnsound zones.now (changes_of loaded.told.items)) }
+{
+    parts_of(alloc, zones, loaded)
+}
+
+// The same, but that it says no more of an error than that it names the first object that isn't sound.
+fn parts_of(alloc: Global, zones: &Zones, loaded: Loaded) -> Result<Opened, OpeningError>
+    requires { IsKeptFrom loaded.told.items loaded.kept }
+    ensures opened { IfOk result (IsOpenedFrom zones.now loaded.told.items) }
+    ensures named { IfErr result (NamesUnsound zones.now (changes_of loaded.told.items)) }
 {
     let store = store_of(alloc, zones, loaded)?;
     let load = weigh(alloc, &store)?;
@@ -79,7 +89,7 @@ fn store_of(alloc: Global, zones: &Zones, loaded: Loaded) -> Result<Store, Openi
     ensures read { IfOk result (λ s. AreRead zones.now (event_puts s)) }
     ensures numbered { OnOk result (are_numbered [] (changes_of loaded.told.items) ≡ true) }
     ensures few { OnOk result (length loaded.told.items ≤ 2 ^ 40) }
-    ensures refused { IfErr result (IsRefusal zones.now (changes_of loaded.told.items)) }
+    ensures named { IfErr result (NamesUnsound zones.now (changes_of loaded.told.items)) }
 {
     match open_store(alloc, zones, loaded) {
         Ok(store) => Ok(store),

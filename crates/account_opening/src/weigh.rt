@@ -1,6 +1,6 @@
 //! How much live objects take.
 ghost use Rattle.std.specs.Prelude.{◌≡◌, ◌⊎◌, ◌+◌, ◌<◌, ◌≤◌, IfErr, IfNone, IfOk, IfSome, List, length, sum_by};
-ghost use Rattle.account_opening.specs.Opening.{IsRefusal};
+ghost use Rattle.account_opening.specs.Opening.{NamesUnsound};
 ghost use Rattle.account_opening.specs.declared.open.OpeningError.TheVariants.{BadObject as bad_object};
 ghost use Rattle.account_store.specs.Store.{entries};
 ghost use Rattle.cal_model.specs.Quota.{live_objects, live_size};
@@ -31,7 +31,7 @@ pub(crate) struct LiveLoad {
 pub(crate) fn weigh(alloc: Global, store: &Store) -> Result<LiveLoad, OpeningError>
     ensures objects { IfOk result (λ l. l.objects ≡ length (live_objects (changes_of (entries store.now)))) }
     ensures bytes { IfOk result (λ l. l.bytes ≡ live_size (changes_of (entries store.now))) }
-    ensures refused { (zones : List ZoneText) → IfErr result (IsRefusal zones (changes_of (entries store.now))) }
+    ensures named { (zones : List ZoneText) → IfErr result (NamesUnsound zones (changes_of (entries store.now))) }
 {
     let none = LiveLoad {
         objects: 0,

@@ -1,6 +1,6 @@
 use Rattle.std.proofs.Common.{◌∙◌, [], List, arith, ap, subst, sym}
 use Rattle.std.specs.Option.{option_copied}
-use Rattle.account_opening.proofs.JudgeLemmas.{all_calendars, all_sound, calendar_more, object_there, sound_more, unsound_refused}
+use Rattle.account_opening.proofs.JudgeLemmas.{all_calendars, all_sound, calendar_more, object_there, sound_more, unsound_calendar}
 use Rattle.account_rooms.proofs.Following.{no_rooms}
 use Rattle.account_rooms.specs.Rooms.{AreRooms, BookedRoom}
 use Rattle.account_store.specs.Store.{entries}
@@ -19,10 +19,11 @@ unreachable-requires c =
     object_there c.args.zones.now (changes_of (entries c.args.store.now)) Calendar c.deref-id-items.result.now (c.deref-id-items.ensures.value ∙ c.in_ok-ids.ensures) c.loop-id.id-index c.loop-id-test.true
     (sym c.object.ensures ∙ ap option_copied c.in_default.is)
 
-pub returns-then-not-branch-clause-refused : goal.returns-then-not-branch-clause-refused
-returns-then-not-branch-clause-refused c =
+pub returns-then-not-branch-clause-named : goal.returns-then-not-branch-clause-named
+returns-then-not-branch-clause-named c = λ fits.
     let cs = changes_of (entries c.args.store.now) in
-    unsound_refused c.args.zones.now cs Calendar _ c.in-Some.calendar.now (sym c.object.ensures ∙ ap option_copied c.in-Some.is) (sym (c.in_ok-is_sound_calendar.ensures cs) ∙ c.if-not-branch.true)
+    unsound_calendar c.args.zones.now cs c.deref-id-items.result.now (c.deref-id-items.ensures.value ∙ c.in_ok-ids.ensures) c.loop-id.id-index c.in-Some.calendar.now c.loop-id-test.true
+    (sym c.object.ensures ∙ ap option_copied c.in-Some.is) (sym (c.in_ok-is_sound_calendar.ensures cs) ∙ c.if-not-branch.true) c.loop-id.invariant.sound
 
 pub loop-id-preserved : goal.loop-id-preserved
 loop-id-preserved c =

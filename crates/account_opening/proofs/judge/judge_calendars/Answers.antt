@@ -4,10 +4,10 @@ use Rattle.account_store.specs.Store.{entries}
 use Rattle.spec_history.specs.History.{changes_of}
 use Rattle.account_opening.proofs.judge.judge_calendars.Goals as goal
 
-pub returns-then-len-gt-MAX_RESOURCES-clause-refused : goal.returns-then-len-gt-MAX_RESOURCES-clause-refused
-returns-then-len-gt-MAX_RESOURCES-clause-refused c = λ goes_on.
+pub returns-then-len-gt-MAX_RESOURCES-clause-named : goal.returns-then-len-gt-MAX_RESOURCES-clause-named
+returns-then-len-gt-MAX_RESOURCES-clause-named c = λ fits.
     let count = resource_count c.args.zones.now (changes_of (entries c.args.store.now)) c.requires c.in_ok-rooms.rooms.rooms c.in_ok-resources.resources.items c.in_ok-rooms.ensures.rooms c.in_ok-resources.ensures in
-    omega (arith, count, goes_on.resources, c.in_ok-resources.resources.ok, c.len.ensures, c.if-len-gt-MAX_RESOURCES.true)
+    absurd (omega (arith, count, fits.resources, c.in_ok-resources.resources.ok, c.len.ensures, c.if-len-gt-MAX_RESOURCES.true))
 
 pub returns-clause-resources : goal.returns-clause-resources
 returns-clause-resources c =

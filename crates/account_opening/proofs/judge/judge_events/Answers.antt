@@ -1,8 +1,9 @@
-use Rattle.std.proofs.Common.{◌∙◌, ◌+◌, [], List, arith, ap, get_or, length, subst, sym, ℕ}
+use Rattle.std.proofs.Common.{◌≡◌, false, ◌∙◌, ◌+◌, [], List, arith, ap, get_or, length, subst, sym, ℕ}
 use Rattle.std.specs.Option.{option_copied}
 use Rattle.std.specs.List.{slice_get}
-use Rattle.account_opening.proofs.JudgeLemmas.{all_events, all_sound, at_place, object_there, sound_more}
+use Rattle.account_opening.proofs.JudgeLemmas.{all_events, all_sound, at_place, object_there, sound_more, unsound_event}
 use Rattle.account_opening.specs.Again.{again_at}
+use Rattle.account_opening.specs.Opening.{FitsButForObjects}
 use Rattle.account_rooms.specs.Rooms.{AreRooms}
 use Rattle.account_store.specs.Earlier.{live_ids}
 use Rattle.account_store.specs.Store.{entries}
@@ -42,10 +43,10 @@ loop-id-preserved c =
     let same = ap (λ (z : List ZoneText). is_sound_object z (changes_of (entries c.loop-id.again.store.now)) Event n (data_of t)) before.zones
     ∙ ap (λ (s : Store). is_sound_object zones (changes_of (entries s)) Event n (data_of t)) before.store in
     record {
-      store = ap (λ s. s.now) c.in_ok-again.ensures.of.0 ∙ before.store;
-      zones = ap (λ z. z.now) c.in_ok-again.ensures.of.1 ∙ before.zones;
-      events = c.in_ok-again.ensures.events ∙ ap (λ (i : ℕ). i + 1) before.events;
-      sound = sound_more zones cs Event ids are k t c.loop-id-test.true before.sound live (sym same ∙ c.in_ok-again.ensures.sound);
+      store = ap (λ s. s.now) (rw c.in-Some-2.is at c.in_ok-more.ensures).of.0 ∙ before.store;
+      zones = ap (λ z. z.now) (rw c.in-Some-2.is at c.in_ok-more.ensures).of.1 ∙ before.zones;
+      events = (rw c.in-Some-2.is at c.in_ok-more.ensures).events ∙ ap (λ (i : ℕ). i + 1) before.events;
+      sound = sound_more zones cs Event ids are k t c.loop-id-test.true before.sound live (sym same ∙ (rw c.in-Some-2.is at c.in_ok-more.ensures).sound);
     }
 
 pub with_event-requires-clause-numbered : goal.with_event-requires-clause-numbered
@@ -67,6 +68,24 @@ pub with_event-requires-clause-few : goal.with_event-requires-clause-few
 with_event-requires-clause-few c =
     let same = ap (λ (ns : List ℕ). length ns) c.deref-id-items.ensures.value in
     omega (arith, c.loop-id.invariant.events, c.loop-id-test.true, same, c.in_ok-ids.ids.ok, c.in_ok-ids.ids.small)
+
+pub returns-in_default-2-clause-named : goal.returns-in_default-2-clause-named
+returns-in_default-2-clause-named c = λ fits.
+    let zones = c.args.zones.now in
+    let cs = changes_of (entries c.args.store.now) in
+    let ids = c.deref-id-items.result.now in
+    let are = c.deref-id-items.ensures.value ∙ c.in_ok-ids.ensures in
+    let k = c.loop-id.id-index in
+    let n = get_or ids k 0 in
+    let t = c.in-Some.event.now in
+    let live = sym c.object.ensures ∙ ap option_copied c.in-Some.is in
+    let before = c.loop-id.invariant in
+    let same = ap (λ (z : List ZoneText). is_sound_object z (changes_of (entries c.loop-id.again.store.now)) Event n (data_of t)) before.zones
+    ∙ ap (λ (s : Store). is_sound_object zones (changes_of (entries s)) Event n (data_of t)) before.store in
+    let there = subst (λ (z : List ZoneText). FitsButForObjects z (changes_of (entries c.loop-id.again.store.now))) (sym before.zones)
+    (subst (λ (s : Store). FitsButForObjects zones (changes_of (entries s))) (sym before.store) fits) in
+    let none : is_sound_object zones cs Event n (data_of t) ≡ false = sym same ∙ (rw c.in_default-2.is at c.in_ok-more.ensures.none) there in
+    unsound_event zones cs ids are k t c.loop-id-test.true live none c.requires.calendars before.sound
 
 pub returns-clause-rooms : goal.returns-clause-rooms
 returns-clause-rooms c =

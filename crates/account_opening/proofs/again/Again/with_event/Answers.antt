@@ -1,4 +1,4 @@
-use Rattle.std.proofs.Common.{◌∙◌, ◌++◌, ◌∷◌, [], List, Some, ap, subst, sym}
+use Rattle.std.proofs.Common.{true, ◌≡◌, Bool, false, refl, ◌∙◌, ◌++◌, ◌∷◌, [], List, Some, ap, subst, sym}
 use Rattle.account_opening.proofs.CalendarLemmas.{same_sound}
 use Rattle.account_opening.proofs.FitLemmas.{none_clashes, none_full}
 use Rattle.account_opening.proofs.NumberedLemmas.{numbers_in_order}
@@ -8,7 +8,7 @@ use Rattle.account_rooms.proofs.Following.{event_follows, resource_of_room}
 use Rattle.account_rooms.specs.RoomChanges.{booked_again}
 use Rattle.account_rooms.specs.Rooms.{AreRooms, BookedRoom, has_room}
 use Rattle.account_store.specs.Store.{entries}
-use Rattle.object_outcomes.proofs.SoundObjects.{sound_where_none_is_unsound}
+use Rattle.cal_model.specs.SoundObjects.{is_sound_object}
 use Rattle.spec_history.specs.History.{changes_of, ids_at}
 use Rattle.spec_history.specs.declared.entry.Change.{Change}
 use Rattle.spec_history.specs.declared.entry.Kind.TheVariants.{Event}
@@ -16,17 +16,20 @@ use Rattle.spec_json.specs.TreeData.{data_of}
 use Rattle.std.proofs.Common.{length, map}
 use Rattle.account_opening.proofs.again.Again.with_event.Goals as goal
 
-pub returns-in_default-clause-refused : goal.returns-in_default-clause-refused
-returns-in_default-clause-refused c = λ goes_on.
+not_true : (b : Bool) → (b ≡ true → ⊥) → b ≡ false
+not_true true h = absurd (h refl)
+not_true false h = refl
+
+pub returns-in_default-clause-none : goal.returns-in_default-clause-none
+returns-in_default-clause-none c = λ fits.
     let zones = c.args.self.zones.now in
     let cs = changes_of (entries c.args.self.store.now) in
     let k = c.args.self.events in
     let t = c.args.event.now in
     let none = rw c.in_default.is at c.in_ok-series.ensures.none in
-    none
-    (same_sound zones (again_at cs k) cs (calendars_are cs k) (resources_are cs (λ q. length (ids_at cs q)) (numbers_in_order cs c.requires.numbered) k) (data_of t) c.args.id
-    ∙ sound_where_none_is_unsound zones cs goes_on.objects Event c.args.id t c.requires.live)
-    (λ s valid. (none_full zones cs goes_on k c.args.id t c.requires.next c.requires.live s valid, none_clashes zones cs goes_on k c.args.id t c.requires.next c.requires.live s valid))
+    let same = same_sound zones (again_at cs k) cs (calendars_are cs k) (resources_are cs (λ q. length (ids_at cs q)) (numbers_in_order cs c.requires.numbered) k) (data_of t) c.args.id in
+    not_true (is_sound_object zones cs Event c.args.id (data_of t)) (λ sound. none (same ∙ sound)
+    (λ s valid. (none_full zones cs fits k c.args.id t c.requires.next c.requires.live s valid, none_clashes zones cs fits k c.args.id t c.requires.next c.requires.live s valid)))
 
 pub put_event-requires : goal.put_event-requires
 put_event-requires c = λ n there named.
