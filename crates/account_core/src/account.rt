@@ -61,7 +61,7 @@ impl Account {
     ghost use Rattle.std.specs.Arc.{arc_value};
     ghost use Rattle.std.specs.Prelude.{◌≤◌, IfErr, IfNone, IfSome, drop, false, length, option_map, true};
     ghost use Rattle.account_core.specs.Trails.{AreSoundFrom};
-    ghost use Rattle.account_opening.specs.Opening.{IsRefusal};
+    ghost use Rattle.account_opening.specs.Opening.{IsRefusal, NamesUnsound};
     ghost use Rattle.account_rooms.specs.Covered.{AreCoveredOnce};
     ghost use Rattle.account_rooms.specs.Rooms.{AreFree};
     ghost use Rattle.cal_model.specs.GoesOn.{GoesOn};
@@ -94,8 +94,8 @@ impl Account {
     /// An account of this id, with these zones, in this generation of the data, that goes on from what is kept of its history. Its resources have the
     /// bookings of these entries.
     ///
-    /// `BadObject` tells an object for which no account goes on from them. The entries may be of any authors, turns and moments. Takes memory for what an account keeps
-    /// of its entries.
+    /// `BadObject` tells an object for which no account goes on from them, and the first that isn't sound, where nothing else stands against it. The entries may be of any
+    /// authors, turns and moments. Takes memory for what an account keeps of its entries.
     pub fn open_at(
         alloc: Global,
         id: Text,
@@ -107,6 +107,7 @@ impl Account {
         ensures opened { IfOk result (λ a. a ≡ (record { account_id = id; zones = arc_value zones; generation = generation }, loaded.told.items)) }
         ensures goes_on { OnOk result (GoesOn (arc_value zones) (changes_of loaded.told.items)) }
         ensures refused { IfErr result (IsRefusal (arc_value zones) (changes_of loaded.told.items)) }
+        ensures named { IfErr result (NamesUnsound (arc_value zones) (changes_of loaded.told.items)) }
     {
         Ok(Account {
             ledger: open_at(alloc, id, zones, generation, loaded)?,

@@ -2,7 +2,7 @@
 ghost use Rattle.std.specs.Arc.{arc_value};
 ghost use Rattle.std.specs.Prelude.{◌≡◌, [], IfErr, IfOk};
 ghost use Rattle.account_core.specs.Ledger.{base, ledger_entries, staged};
-ghost use Rattle.account_opening.specs.Opening.{IsRefusal};
+ghost use Rattle.account_opening.specs.Opening.{IsRefusal, NamesUnsound};
 ghost use Rattle.spec_history.specs.History.{changes_of};
 ghost use Rattle.spec_snapshots.specs.Kept.{IsKeptFrom};
 
@@ -27,6 +27,7 @@ pub(crate) fn open_at(
     ensures entries { IfOk result (λ l. ledger_entries l ≡ loaded.told.items) }
     ensures staged { IfOk result (λ l. staged l ≡ []) }
     ensures refused { IfErr result (IsRefusal (arc_value zones) (changes_of loaded.told.items)) }
+    ensures named { IfErr result (NamesUnsound (arc_value zones) (changes_of loaded.told.items)) }
 {
     let opened = open_parts(alloc, &zones, loaded)?;
     Ok(Ledger::at(alloc, id, zones, generation, opened))
