@@ -6,7 +6,7 @@ use Rattle.std.specs.Str.{bytes_eq}
 use Rattle.cal_model.specs.Calendar.{bad_properties, calendar_in, stored}
 use Rattle.cal_model.specs.Operations.{after_tests, bad_of_calendar, bad_of_event, destroyed_outcome, exceeds_resources, has_other_zone, if_holds, is_in_use, put, removal, stored_calendar_outcome, stored_event_outcome, unless, within_quota, zone_given}
 use Rattle.cal_model.specs.Quota.{exceeds_quota}
-use Rattle.cal_model.specs.Sound.{first_unsound, has_number, has_own_id, has_server_values, has_stored_form, is_sound, leaves, outcome_again, same_object, unsound_place}
+use Rattle.cal_model.specs.Sound.{first_unsound, has_number, has_own_id, has_server_values, has_stored_form, is_sound, leaves, outcome_again, same_object}
 use Rattle.cal_model.specs.declared.outcome.Outcome.{Outcome}
 use Rattle.cal_model.specs.declared.outcome.Outcome.TheVariants.{Accepted}
 use Rattle.cal_model.specs.declared.set_error.SetError.TheVariants.{CalendarHasEvent, Clashes, OverQuota}
@@ -14,7 +14,7 @@ use Rattle.calendar_model.proofs.CalendarLemmas.{read_back}
 use Rattle.spec_bookings.proofs.Tables.{number_same, same_number}
 use Rattle.spec_bookings.specs.BookedResources.{clash_of_event, has_full_resource}
 use Rattle.spec_bookings.specs.declared.clash.Clash.{Clash}
-use Rattle.spec_history.specs.History.{is_kind, live_object, names, next_number, object_from}
+use Rattle.spec_history.specs.History.{is_kind, live_object, names, next_number}
 use Rattle.spec_history.specs.ObjectId.{id_text}
 use Rattle.spec_history.specs.declared.entry.Change.{Change}
 use Rattle.spec_history.specs.declared.entry.Kind.{Kind}

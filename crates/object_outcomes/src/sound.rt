@@ -82,11 +82,13 @@ pub fn sound_event<V: CalendarsView>(
 fn has_server_values(alloc: Global, number: u64, event: &Tree) -> Result<bool, AllocError>
     ensures { IfOk result (λ b. b ≡ has_server_values event_kind number (data_of event.now)) }
 {
-    Ok(has_own_id(alloc, Kind::Event, number, event)?
-        && event.get("@type").is_some()
-        && has_moment(event, "created")
-        && has_moment(event, "updated")
-        && has_no_null(event.members_in()))
+    Ok(
+        has_own_id(alloc, Kind::Event, number, event)?
+            && event.get("@type").is_some()
+            && has_moment(event, "created")
+            && has_moment(event, "updated")
+            && has_no_null(event.members_in()),
+    )
 }
 
 fn has_own_id(alloc: Global, kind: Kind, number: u64, object: &Tree) -> Result<bool, AllocError>

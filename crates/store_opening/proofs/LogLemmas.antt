@@ -1,5 +1,5 @@
 -- Logs whose objects are made of those of a history.
-use Rattle.std.proofs.Common.{◌≡◌, ◌≤◌, ◌<◌, ◌==◌, ◌&&◌, ℕ, suc, List, [], ◌∷◌, Bool, true, false, cond, Option, Some, None, length, map, option_map, arith, refl, sym, ap, ◌∙◌}
+use Rattle.std.proofs.Common.{◌≡◌, ◌≤◌, ◌==◌, ◌&&◌, ℕ, suc, List, [], ◌∷◌, Bool, true, false, cond, Option, Some, None, length, map, option_map, arith, refl, sym, ap, ◌∙◌}
 use Rattle.std.specs.Prelude.{nat_le, nat_lt}
 use Rattle.std.proofs.lemmas.Bool.{and_from, and_parts, leb-true, lt-ltb}
 use Rattle.std.specs.List.{range_with_len}
@@ -7,7 +7,7 @@ use Rattle.object_log.proofs.HistoryLemmas.{shows_count, shows_ids}
 use Rattle.object_log.specs.Histories.{Follows, told_by, told_in}
 use Rattle.object_log.specs.Puts.{ids_put, latest, latest_from}
 use Rattle.object_log.specs.Slots.{object_in, rises}
-use Rattle.spec_history.specs.History.{is_kind, live_object, object_from}
+use Rattle.spec_history.specs.History.{is_kind, object_from}
 use Rattle.spec_history.specs.declared.entry.Change.{Change}
 use Rattle.spec_history.specs.declared.entry.Kind.{Kind}
 use Rattle.spec_json.proofs.Booleans.{eqb_sym}

@@ -86,7 +86,11 @@ fn count_in_front(kept: &KeptHistory) -> Option<u64>
 {
     let front = kept.calendars.state.checked_add(kept.events.state)?;
     let all = front.checked_add(kept.behind.len() as u64)?;
-    if all <= MOST_ENTRIES { Some(front) } else { None }
+    if all <= MOST_ENTRIES {
+        Some(front)
+    } else {
+        None
+    }
 }
 
 // A store of the entries that left these floors.
@@ -165,11 +169,7 @@ fn push(
 }
 
 // The series of the event that a change puts.
-fn series_put(
-    alloc: Global,
-    zones: &Zones,
-    change: &Change,
-) -> Result<Option<Series>, AllocError>
+fn series_put(alloc: Global, zones: &Zones, change: &Change) -> Result<Option<Series>, AllocError>
     ensures { IfOk result (λ s. s ≡ series_put zones.now change.now) }
 {
     match (change.kind, &change.object) {

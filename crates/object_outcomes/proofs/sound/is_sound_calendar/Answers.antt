@@ -1,4 +1,4 @@
-use Rattle.std.proofs.Common.{◌≡◌, ◌==◌, ◌&&◌, ◌∙◌, Bool, ap, length, sym}
+use Rattle.std.proofs.Common.{◌==◌, ◌&&◌, ◌∙◌, Bool, ap, length, sym}
 use Rattle.std.proofs.lemmas.Bool.{and_left, and_right}
 use Rattle.cal_model.specs.Calendar.{bad_properties, calendar_in, stored}
 use Rattle.cal_model.specs.Sound.{has_own_id}

@@ -1,4 +1,4 @@
-use Rattle.std.proofs.Common.{◌≡◌, ◌==◌, ◌∙◌, [], None, ap, arith, false, length, sym, vec_len}
+use Rattle.std.proofs.Common.{◌≡◌, ◌==◌, ◌∙◌, None, ap, arith, false, length, sym, vec_len}
 use Rattle.std.proofs.lemmas.Bool.{and_from, and_left, and_right}
 use Rattle.cal_model.specs.Operations.{bad_of_event}
 use Rattle.cal_model.specs.Sound.{has_server_values}

@@ -1,5 +1,4 @@
 use Rattle.std.proofs.Common.{◌≡◌, ap, length, refl, subst, suc, sym, true, List, ◌∙◌}
-use Rattle.account_store.specs.declared.kept.KeptEvent.{KeptEvent}
 use Rattle.object_log.specs.Puts.{ids_put, latest}
 use Rattle.object_log.specs.Slots.{object_in, rises}
 use Rattle.object_log.specs.declared.put.Put.{Put}
@@ -8,7 +7,6 @@ use Rattle.spec_history.specs.History.{changes_of}
 use Rattle.spec_history.specs.declared.entry.Kind.TheVariants.{Calendar}
 use Rattle.spec_json.specs.declared.tree.Tree.{Tree}
 use Rattle.store_opening.proofs.LogLemmas.{opens_at}
-use Rattle.store_opening.specs.Puts.{with_series}
 use Rattle.store_opening.proofs.logs.calendar_log.Goals as goal
 
 pub open-requires-clause-state : goal.open-requires-clause-state

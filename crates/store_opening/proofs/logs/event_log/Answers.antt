@@ -6,7 +6,6 @@ use Rattle.object_log.specs.declared.put.Put.{Put}
 use Rattle.object_log.specs.declared.slots.IdSlot.{IdSlot}
 use Rattle.spec_history.specs.History.{changes_of}
 use Rattle.spec_history.specs.declared.entry.Kind.TheVariants.{Event}
-use Rattle.spec_json.specs.declared.tree.Tree.{Tree}
 use Rattle.store_opening.proofs.LogLemmas.{opens_at}
 use Rattle.store_opening.specs.Puts.{with_series}
 use Rattle.store_opening.proofs.logs.event_log.Goals as goal

@@ -1,7 +1,6 @@
-use Rattle.std.proofs.Common.{◌≡◌, ap, length, refl, subst, sym, List, ◌∙◌}
+use Rattle.std.proofs.Common.{ap, length, refl, subst, sym, List, ◌∙◌}
 use Rattle.account_store.specs.declared.kept.KeptEvent.{KeptEvent}
 use Rattle.event_store.specs.ReadSeries.{AreRead}
-use Rattle.object_log.proofs.HistoryLemmas.{shows_count}
 use Rattle.object_log.specs.Histories.{Follows}
 use Rattle.object_log.specs.declared.put.Put.{Put}
 use Rattle.spec_history.specs.History.{changes_of}
@@ -9,7 +8,7 @@ use Rattle.spec_history.specs.declared.entry.Kind.TheVariants.{Calendar, Event}
 use Rattle.spec_json.specs.declared.tree.Tree.{Tree}
 use Rattle.store_opening.proofs.LogLemmas.{follows_by, opens_at}
 use Rattle.store_opening.proofs.ReadLemmas.{past_read}
-use Rattle.store_opening.specs.Puts.{puts_by, with_series}
+use Rattle.store_opening.specs.Puts.{with_series}
 use Rattle.store_opening.proofs.open.at_floors.Goals as goal
 
 pub new-requires-clause-calendars : goal.new-requires-clause-calendars

@@ -1,4 +1,4 @@
-use Rattle.std.proofs.Common.{◌≡◌, ◌++◌, List, ap, ◌∙◌}
+use Rattle.std.proofs.Common.{◌++◌, List, ap, ◌∙◌}
 use Rattle.account_store.specs.Kept.{event_put}
 use Rattle.account_store.specs.Opening.{opening_puts}
 use Rattle.account_store.specs.declared.kept.KeptEvent.{KeptEvent}

@@ -1,4 +1,4 @@
-use Rattle.std.proofs.Common.{◌≡◌, ◌⊎◌, ◌+◌, ◌++◌, ◌∷◌, [], List, ap, append_assoc, arith, drop, false, length, length-append, refl, rules, subst, suc, sym, true, ◌∙◌}
+use Rattle.std.proofs.Common.{◌≡◌, ◌⊎◌, ◌++◌, ◌∷◌, [], List, ap, append_assoc, arith, drop, false, length, length-append, refl, rules, subst, suc, sym, ◌∙◌}
 use Rattle.std.proofs.lemmas.Iterator.Adapters.{YieldsList-from_vec}
 use Rattle.std.proofs.lemmas.Iterator.Consumers.{YieldsList-end, YieldsList-so_far, YieldsList-turn}
 use Rattle.std.proofs.lemmas.List.{map-id}
@@ -6,7 +6,6 @@ use Rattle.std.proofs.lemmas.Result.{err_from_is_err_and}
 use Rattle.account_store.specs.Opening.{opening_entries, opening_floor}
 use Rattle.spec_history.specs.History.{changes_of}
 use Rattle.spec_history.specs.declared.entry.Entry.{Entry}
-use Rattle.spec_history.specs.declared.entry.Kind.{Kind}
 use Rattle.spec_sizes.specs.Sizes.{is_answered_from}
 use Rattle.spec_snapshots.specs.Numbered.{are_numbered}
 use Rattle.store_opening.proofs.FrontLemmas.{behind, numbered_more, unnumbered_all}
