@@ -4,7 +4,7 @@
 One client updates events of an account over and over. Behind each kill the account has what was answered, and at most the call more whose answer didn't come; its states and ids go on, and each state of the window is told from. At the end the
 file is as long as what is live and the window, and a file of the earlier version, without floors, is brought up to date.
 
-    examples/floors.py [--rounds N] [PATH_OF_THE_PROGRAM]        50 kills by default
+    examples/floors.py [--rounds N] [--earlier PROGRAM] [PATH_OF_THE_PROGRAM]        50 kills by default
 """
 
 import argparse
@@ -128,19 +128,17 @@ def kills(program, rounds, seed):
 
 
 def brought_up_to_date(program):
-    """A file without floors, as the earlier version wrote it, is read, and made shorter by the keeps that follow."""
+    """A file without floors, as the earlier version wrote it, is read, and let go of what the keeps that follow leave behind."""
     team = Team()
     with tempfile.TemporaryDirectory() as folder:
         site = Site(program, folder)
         with site.serving() as server, server.calling() as caller:
             team.begin(caller)
-            team.update(caller, EVENTS)
+            while team.state < WINDOW:
+                team.update(caller, WINDOW - team.state)
         with sqlite3.connect(site.journal(ACCOUNT)) as base:
             base.executescript(WITHOUT_FLOORS)
-        with site.serving() as server, server.calling() as caller:
-            team.check(caller)
-            team.update(caller, 1)
-        expect("version", rows(site)[1], 2)
+        grown(site, team)
         with sqlite3.connect(site.journal(ACCOUNT)) as base:
             base.execute("UPDATE about SET version = 3")
         server, serves = site.tried()
@@ -148,15 +146,44 @@ def brought_up_to_date(program):
     return "version 1 was brought up to date, and a later one refused"
 
 
+def taken_over(program, earlier):
+    """A long file that an earlier program wrote is read, and gets shorter keep by keep."""
+    team = Team()
+    with tempfile.TemporaryDirectory() as folder:
+        site = Site(earlier, folder)
+        filled(site, team)
+        site.program = program
+        grown(site, team)
+        site.program = earlier
+        server, serves = site.tried()
+        expect("the earlier program", (serves, "another version" in server.told()), (False, True))
+    return f"{team.state} changes"
+
+
+def grown(site, team):
+    """Makes more changes over the file that is there, behind which it has floors and is as long as it should be."""
+    with site.serving() as server, server.calling() as caller:
+        team.check(caller)
+        for _ in range(20):
+            team.update(caller, 50)
+    with site.serving() as server, server.calling() as caller:
+        team.check(caller)
+    expect("the file", rows(site), (1 + EVENTS + WINDOW + 1, 2, [("event", team.state - WINDOW - 1)]))
+
+
 def main():
     parser = argparse.ArgumentParser(description=__doc__, formatter_class=argparse.RawDescriptionHelpFormatter)
     parser.add_argument("program", nargs="?", default=PROGRAM)
     parser.add_argument("--rounds", type=int, default=50)
     parser.add_argument("--seed", type=int, default=0)
+    parser.add_argument("--earlier", help="a program that writes files of version 1")
     asked = parser.parse_args()
     program = os.path.abspath(asked.program)
+    cases = {"kills amid keeps": lambda: kills(program, asked.rounds, asked.seed), "earlier versions": lambda: brought_up_to_date(program)}
+    if asked.earlier:
+        cases["a file of an earlier program"] = lambda: taken_over(program, os.path.abspath(asked.earlier))
     failed = 0
-    for name, case in {"kills amid keeps": lambda: kills(program, asked.rounds, asked.seed), "earlier versions": lambda: brought_up_to_date(program)}.items():
+    for name, case in cases.items():
         try:
             print(f"passed: {name}: {case()}", flush=True)
         except (AssertionError, OSError, TimeoutError) as error:
