@@ -66,7 +66,10 @@ pub fn open_kept<K: Keeper>(
     match keeper.load(id.as_str()) {
         Ok(loaded) => match KeptAccount::open_at(alloc, id, zones, generation, loaded, keeper) {
             Ok(account) => Ok(account),
-            Err(OpeningError::BadObject { kind, id }) => Err(UnopenedAccount::BadObject { kind, id }),
+            Err(OpeningError::BadObject { kind, id }) => Err(UnopenedAccount::BadObject {
+                kind,
+                id,
+            }),
             Err(OpeningError::NoMemory) => Err(UnopenedAccount::NoMemory),
         },
         Err(JournalError::Failed) => Err(UnopenedAccount::Failed),

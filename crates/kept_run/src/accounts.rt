@@ -69,12 +69,7 @@ fn load_account<J: Keeper>(
 }
 
 // The account of an id, where it goes on from what is kept of its history.
-fn account_at(
-    alloc: Global,
-    site: &Site,
-    id: &Text,
-    loaded: Loaded,
-) -> Result<Account, KeptStatus>
+fn account_at(alloc: Global, site: &Site, id: &Text, loaded: Loaded) -> Result<Account, KeptStatus>
     requires { IsKeptFrom loaded.told.items loaded.kept }
     ensures { OpenHow site.now id.now loaded.told.items result }
 {
