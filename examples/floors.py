@@ -15,6 +15,7 @@ import sys
 import tempfile
 import threading
 import time
+from contextlib import closing
 
 from served import PROGRAM, Cut, Site
 
@@ -99,7 +100,7 @@ def filled(site, team):
 
 
 def rows(site):
-    with sqlite3.connect(site.journal(ACCOUNT)) as base:
+    with closing(sqlite3.connect(site.journal(ACCOUNT))) as base, base:
         [[count]] = base.execute("SELECT COUNT(*) FROM entry").fetchall()
         [[version]] = base.execute("SELECT version FROM about").fetchall()
         floors = base.execute("SELECT kind, state FROM floor").fetchall()
@@ -136,10 +137,10 @@ def brought_up_to_date(program):
             team.begin(caller)
             while team.state < WINDOW:
                 team.update(caller, WINDOW - team.state)
-        with sqlite3.connect(site.journal(ACCOUNT)) as base:
+        with closing(sqlite3.connect(site.journal(ACCOUNT))) as base, base:
             base.executescript(WITHOUT_FLOORS)
         grown(site, team)
-        with sqlite3.connect(site.journal(ACCOUNT)) as base:
+        with closing(sqlite3.connect(site.journal(ACCOUNT))) as base, base:
             base.execute("UPDATE about SET version = 3")
         server, serves = site.tried()
         expect("a later version", (serves, "later version" in server.told()), (False, True))
