@@ -22,6 +22,9 @@ const MAX_DEPTH: usize = 127;
 /// A list of so many items keeps the block in which it grew.
 const LONG: usize = 4096;
 
+/// Up to so many members are gathered without a block that grows. Allocators keep small blocks that grew out of use at hand, and few are asked for again.
+const FEW_MEMBERS: usize = 16;
+
 /// Reads the value that a JSON text is, as `serde_json` reads it (RFC 8259, RFC 8620 section 1.5).
 ///
 /// An object has its members in byte order of their keys. Of a key that comes twice the last value counts, and a number
@@ -125,7 +128,7 @@ fn read_members(
     ensures refused { result ≡ Err NotJson → converted members_read (members (json_value depth) (length reader.old) reader.old) ≡ None }
     ensures other { result ≢ Err NotWhole }
 {
-    let mut found = Vec::new(alloc);
+    let mut found = Vec::with_capacity(alloc, FEW_MEMBERS)?;
     'members: while let Some(name) = reader.next_key()? {
         let key = Text::from_str(alloc, name)?;
         let value = read(alloc, reader, spare, depth)?;

@@ -72,7 +72,7 @@ pub fn exceptions(alloc: Global, event: &Tree, zones: &Zones) -> Result<Exceptio
         return Err(OverrideError::BadOverrides);
     };
     if overrides.is_empty() {
-        return Ok(Exceptions::none(alloc));
+        return Ok(Exceptions::none());
     }
     let alone = Alone::of(alloc, event, zones)?;
     let exceptions = exceptions_among(alloc, &alone, overrides, zones)?;

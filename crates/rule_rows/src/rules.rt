@@ -63,7 +63,7 @@ fn told_of_rules(
     if let Some(Tree::Whole(day)) = asked.get("day") {
         return on_day(alloc, start, &rules, day.get());
     }
-    let series = hourly(alloc, start, rules);
+    let series = hourly(start, rules);
     match asked.get("times") {
         Some(Tree::Whole(times)) => asked_again(alloc, &series, asked, times.get()),
         _ => first_occurrences(alloc, &series, &last_asked(asked)),
@@ -71,7 +71,7 @@ fn told_of_rules(
 }
 
 // A series of hours from a start, without exceptions.
-fn hourly(alloc: Global, start: Wall, rules: Rules) -> Series
+fn hourly(start: Wall, rules: Rules) -> Series
     requires years { is_in_years start ≡ true }
     requires few { length rules ≤ 4 }
 {
@@ -83,7 +83,7 @@ fn hourly(alloc: Global, start: Wall, rules: Rules) -> Series
         },
         occupying: true,
         rules,
-        exceptions: Exceptions::none(alloc),
+        exceptions: Exceptions::none(),
     }
 }
 

@@ -45,7 +45,7 @@ pub(crate) fn try_day(
         length: wish.length,
         occupying: true,
         rules,
-        exceptions: Exceptions::none(alloc),
+        exceptions: Exceptions::none(),
     };
     if wants_maps(&series) {
         Ok(try_by_maps(room, wish, series, end, tried)?)

@@ -1,9 +1,16 @@
 //! Texts.
-ghost use Rattle.std.specs.Prelude.{◌≡◌, [], IfOk, string_bytes};
+ghost use Rattle.std.specs.Prelude.{◌≡◌, [], IfOk, IfSome, string_bytes};
+ghost use Rattle.spec_json.specs.Forms.{form_bytes};
 
-use crate::short::ShortText;
+use crate::inline::InlineText;
 use std::alloc::{AllocError, Global};
 use std::marker::Model;
+
+/// The most bytes of a text that lies in its own place. With its length and the tag of `Text` they fill 24 bytes, the room of a `String`.
+pub(crate) const MAX_SHORT: usize = 22;
+
+/// The most bytes of a text that lies in a block of its own size, as a UUID does. With its length they fill 40 bytes, where a `String` in a box takes two blocks.
+pub(crate) const MAX_MIDDLE: usize = 39;
 
 /// A text. Contracts see its bytes, which are UTF-8. Up to 22 bytes take no memory.
 #[derive(Drop)]
@@ -13,8 +20,9 @@ pub struct Text {
 
 #[derive(Drop)]
 pub(crate) enum Form {
-    Short(ShortText),
-    // in a box, so that it takes no more room than a short one
+    Short(InlineText<MAX_SHORT>),
+    // in boxes, so that they take no more room than a short one
+    Middle(Box<InlineText<MAX_MIDDLE>>),
     Long(Box<String>),
 }
 
@@ -27,13 +35,26 @@ impl Model for Text {
     ghost view = { λ a. form_bytes a.form };
 }
 
+// The form of a text for which it takes no `String`, if there is one.
+fn form_without_string(alloc: Global, text: &str) -> Result<Option<Form>, AllocError>
+    ensures { IfOk result (λ found. IfSome found (λ form. form_bytes form ≡ text.now)) }
+{
+    if let Some(short) = InlineText::new(text) {
+        return Ok(Some(Form::Short(short)));
+    }
+    match InlineText::new(text) {
+        Some(middle) => Ok(Some(Form::Middle(Box::new(alloc, middle)?))),
+        None => Ok(None),
+    }
+}
+
 impl Text {
     /// A text of no bytes. Takes no memory.
     pub fn empty() -> Text
         ensures { result ≡ [] }
     {
         Text {
-            form: Form::Short(ShortText::empty()),
+            form: Form::Short(InlineText::empty()),
         }
     }
 
@@ -41,12 +62,10 @@ impl Text {
     pub fn from_string(text: String) -> Result<Text, AllocError>
         ensures { IfOk result (λ t. t ≡ string_bytes text) }
     {
-        let form = match ShortText::new(text.as_str()) {
-            Some(short) => Form::Short(short),
-            None => {
-                let alloc = *text.allocator();
-                Form::Long(Box::new(alloc, text)?)
-            }
+        let alloc = *text.allocator();
+        let form = match form_without_string(alloc, text.as_str())? {
+            Some(form) => form,
+            None => Form::Long(Box::new(alloc, text)?),
         };
         Ok(Text { form })
     }
@@ -55,8 +74,8 @@ impl Text {
     pub fn from_str(alloc: Global, text: &str) -> Result<Text, AllocError>
         ensures { IfOk result (λ t. t ≡ text.now) }
     {
-        let form = match ShortText::new(text) {
-            Some(short) => Form::Short(short),
+        let form = match form_without_string(alloc, text)? {
+            Some(form) => form,
             None => Form::Long(Box::new(alloc, String::from_str(alloc, text)?)?),
         };
         Ok(Text { form })
@@ -67,7 +86,8 @@ impl Text {
         ensures { result.now ≡ self.now }
     {
         match &self.form {
-            Form::Short(short) => short.as_str(),
+            Form::Short(text) => text.as_str(),
+            Form::Middle(text) => text.as_str(),
             Form::Long(text) => text.as_str(),
         }
     }
@@ -77,7 +97,8 @@ impl Text {
         ensures { IfOk result (λ t. t ≡ self.now) }
     {
         let form = match &self.form {
-            Form::Short(short) => Form::Short(short.copy()),
+            Form::Short(text) => Form::Short(text.copy()),
+            Form::Middle(text) => Form::Middle(Box::new(*Box::allocator(text), text.copy())?),
             Form::Long(text) => Form::Long(text.clone()?),
         };
         Ok(Text { form })

@@ -14,7 +14,6 @@ use spec_json::text::Text;
 use spec_json::tree::Tree;
 use spec_snapshots::kept::{KeptHistory, KindFloor, LiveObject};
 use std::alloc::{AllocError, Global};
-use std::collections::BTreeMap;
 
 /// A row of the table.
 #[derive(Clone, Copy)]
@@ -29,8 +28,9 @@ pub(crate) struct TextRow<'a> {
 pub(crate) struct Reading {
     alloc: Global,
     rows: AccountRows,
-    calendars: BTreeMap<u64, Tree>,
-    events: BTreeMap<u64, Tree>,
+    // What is live at the floors, in the order of the rows.
+    calendars: Vec<LiveObject>,
+    events: Vec<LiveObject>,
     behind: Vec<Entry>,
 }
 
@@ -50,8 +50,8 @@ impl Reading {
                 calendars: KindRows::new(alloc, Kind::Calendar, calendars),
                 events: KindRows::new(alloc, Kind::Event, events),
             },
-            calendars: BTreeMap::new(alloc),
-            events: BTreeMap::new(alloc),
+            calendars: Vec::new(alloc),
+            events: Vec::new(alloc),
             behind: Vec::new(alloc),
         })
     }
@@ -109,11 +109,11 @@ impl Reading {
     }
 
     fn put_live(&mut self, kind: Kind, id: u64, object: Tree) -> Result<(), AllocError> {
-        match kind {
-            Kind::Calendar => self.calendars.insert(id, object)?,
-            Kind::Event => self.events.insert(id, object)?,
+        let live = match kind {
+            Kind::Calendar => &mut self.calendars,
+            Kind::Event => &mut self.events,
         };
-        Ok(())
+        Ok(live.push(LiveObject { id, object })?)
     }
 
     /// What is kept of the account's history, with the rows.
@@ -130,8 +130,8 @@ impl Reading {
             behind,
         } = self;
         let kept = KeptHistory {
-            calendars: floor(alloc, rows.calendars.floor, calendars)?,
-            events: floor(alloc, rows.events.floor, events)?,
+            calendars: floor(rows.calendars.floor, calendars),
+            events: floor(rows.events.floor, events),
             behind,
         };
         match some_history(kept) {
@@ -141,18 +141,13 @@ impl Reading {
     }
 }
 
-fn floor(
-    alloc: Global,
-    row: FloorRow,
-    objects: BTreeMap<u64, Tree>,
-) -> Result<KindFloor, AllocError> {
-    let mut live = Vec::with_capacity(alloc, objects.len())?;
-    for (id, object) in objects {
-        live.push(LiveObject { id, object })?;
-    }
-    Ok(KindFloor {
+// What is live stands in order of creation, and not in that of the rows: an object's row is as new as what it became last.
+fn floor(row: FloorRow, objects: Vec<LiveObject>) -> KindFloor {
+    let mut live = objects;
+    live.sort_unstable_by_key(|object| object.id);
+    KindFloor {
         state: row.state,
         created: row.created,
         live,
-    })
+    }
 }

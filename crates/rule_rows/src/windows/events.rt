@@ -39,7 +39,7 @@ pub fn event_in(alloc: Global, tree: &Tree) -> Result<Option<ZonedSeries>, Alloc
     let occupying = !matches!(tree.get("free"), Some(Tree::Truth(true)));
     let exceptions = match tree.get("moved") {
         Some(moved) => moved_in(alloc, moved)?,
-        None => no_exceptions(alloc),
+        None => no_exceptions(),
     };
     Ok(Some(ZonedSeries {
         series: series_of(start, length, occupying, rules, exceptions),
@@ -71,9 +71,9 @@ struct AtMostOne {
     ghost distinct: { are_distinct exceptions ≡ true },
 }
 
-fn no_exceptions(alloc: Global) -> AtMostOne {
+fn no_exceptions() -> AtMostOne {
     AtMostOne {
-        exceptions: Exceptions::none(alloc),
+        exceptions: Exceptions::none(),
     }
 }
 
@@ -91,7 +91,7 @@ fn one_exception(alloc: Global, rid: Wall, replaced: Option<Span>) -> Result<AtM
 // What an override with `rid` comes to: it leaves the occurrence out where it has no `start`.
 fn moved_in(alloc: Global, moved: &Tree) -> Result<AtMostOne, AllocError> {
     let Some(rid) = wall_in_years(moved, "rid") else {
-        return Ok(no_exceptions(alloc));
+        return Ok(no_exceptions());
     };
     one_exception(alloc, rid, span_in(moved))
 }

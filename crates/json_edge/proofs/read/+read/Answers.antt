@@ -57,7 +57,7 @@ read_items-returns-clause-ok t c =
 pub read_members-members-init : goal.read_members-members-init
 read_members-members-init t c =
     let all = converted members_read (members (value c.args.depth) (length c.args.reader.now) c.args.reader.now) in
-    (length c.args.reader.now, omega arith, no_member_yet all ∙ ap (λ vs. parse_map (λ es. map found_of vs ++ es) all) (sym c.new-found.ensures.items), omega arith)
+    (length c.args.reader.now, omega arith, no_member_yet all ∙ ap (λ vs. parse_map (λ es. map found_of vs ++ es) all) (sym c.in_ok-found.ensures.items), omega arith)
 
 pub read_members-returns-in_err-name-clause-refused : goal.read_members-returns-in_err-name-clause-refused
 read_members-returns-in_err-name-clause-refused t c never =

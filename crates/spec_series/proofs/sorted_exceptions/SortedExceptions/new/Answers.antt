@@ -5,7 +5,7 @@ use Rattle.std.proofs.lemmas.Fn.{always_returns_same}
 use Rattle.spec_series.proofs.Given.{sorted_by_key}
 use Rattle.spec_series.proofs.Searches.{sorted_alike}
 use Rattle.spec_series.specs.Given.{gives_one}
-use Rattle.spec_series.proofs.exception.Exceptions.new.Goals as goal
+use Rattle.spec_series.proofs.sorted_exceptions.SortedExceptions.new.Goals as goal
 
 pub invariant_of-result : goal.invariant_of-result
 invariant_of-result c = (

@@ -1,52 +1,48 @@
 //! Texts that lie in their own place.
 ghost use Rattle.std.specs.Prelude.{◌≡◌, ◌≤◌, ◌↔◌, [], IfSome, IsSome, length};
-ghost use Rattle.spec_json.specs.declared.short.TheConstants.{MAX_SHORT};
 
 use std::marker::Model;
 
-/// The most bytes of a text that lies in its own place. With its length and the tag of `Text` they fill 24 bytes, the room of a `String`.
-pub(crate) const MAX_SHORT: usize = 22;
-
-/// A text of at most 22 bytes, which takes no memory. Contracts see its bytes, which are UTF-8.
+/// A text of at most `N` bytes, which takes no memory. Contracts see its bytes, which are UTF-8.
 #[derive(Drop)]
-pub(crate) struct ShortText {
+pub(crate) struct InlineText<const N: usize> {
     len: u8,
-    bytes: [u8; MAX_SHORT],
+    bytes: [u8; N],
 }
 
-impl Model for ShortText {
+impl<const N: usize> Model for InlineText<N> {
     ghost use Rattle.std.specs.Prelude.{◌≡◌, ◌≤◌, IsUtf8, List, length, take, ℕ};
-    ghost use Rattle.spec_json.specs.declared.short.TheConstants.{MAX_SHORT};
 
     ghost Value = { List ℕ };
 
     ghost view = { λ s. take s.len s.bytes };
 
-    ghost invariant = { λ s. (s.len ≤ MAX_SHORT) × (length s.bytes ≡ MAX_SHORT) × ∥ IsUtf8 (take s.len s.bytes) ∥₁ };
+    ghost invariant = { λ s. (s.len ≤ N) × (length s.bytes ≡ N) × ∥ IsUtf8 (take s.len s.bytes) ∥₁ };
 }
 
-impl ShortText {
-    pub(crate) fn empty() -> ShortText
+impl<const N: usize> InlineText<N> {
+    pub(crate) fn empty() -> InlineText<N>
         ensures { result ≡ [] }
     {
-        ShortText {
+        InlineText {
             len: 0,
-            bytes: [0; MAX_SHORT],
+            bytes: [0; N],
         }
     }
 
     /// A copy of a text, where it is short enough.
-    pub(crate) fn new(text: &str) -> Option<ShortText>
-        ensures some { IsSome result ↔ length text.now ≤ MAX_SHORT }
+    pub(crate) fn new(text: &str) -> Option<InlineText<N>>
+        requires { N ≤ 255 }
+        ensures some { IsSome result ↔ length text.now ≤ N }
         ensures same { IfSome result (λ short. short ≡ text.now) }
     {
         let len = text.len();
-        if len > MAX_SHORT {
+        if len > N {
             return None;
         }
-        let mut bytes = [0; MAX_SHORT];
+        let mut bytes = [0; N];
         bytes[..len].copy_from_slice(text.as_bytes());
-        Some(ShortText {
+        Some(InlineText {
             len: len as u8,
             bytes,
         })
@@ -58,10 +54,10 @@ impl ShortText {
         unsafe { str::from_utf8_unchecked(&self.bytes[..self.len as usize]) }
     }
 
-    pub(crate) fn copy(&self) -> ShortText
+    pub(crate) fn copy(&self) -> InlineText<N>
         ensures { result ≡ self.now }
     {
-        ShortText {
+        InlineText {
             len: self.len,
             bytes: self.bytes,
         }

@@ -2,7 +2,7 @@
 use Rattle.std.proofs.Common.{◌≡◌, Bool, ℤ}
 use Rattle.std.specs.Prelude.{take}
 use Rattle.std.specs.List.{list_any}
-use Rattle.spec_series.proofs.exception.rids_of.Given as goal
+use Rattle.spec_series.proofs.sorted_exceptions.rids_of.Given as goal
 
 abbrev pub invariant-loop-x : goal.invariant-loop-x
 invariant-loop-x l = (p : ℤ → Bool) → list_any p l.rids.items ≡ list_any (λ x. p x.rid) (take l.x-index l.items)
