@@ -8,6 +8,7 @@ use Rattle.spec_json.specs.contracts.text.Text as text
 use Rattle.resource_book.specs.contracts.room.Room as room
 use Rattle.account_rooms.specs.contracts.slot.Slot as slot
 use Rattle.account_rooms.specs.contracts.rooms.Rooms as rooms
+use Rattle.spec_series.specs.contracts.exception.Exceptions as exceptions
 use Rattle.spec_series.specs.contracts.series.Series as series
 use Rattle.ghost_list.proofs.list.GhostList.TheSendSync as told
 use Rattle.account_store.specs.contracts.kept.KeptEvent as kept_event
@@ -19,8 +20,11 @@ use Rattle.spec_history.specs.contracts.entry.Change as change
 use Rattle.account_core.specs.contracts.trail.Trail as trail
 use Rattle.account_core.specs.contracts.account.Account as account
 
+exceptions_sent : IsSend exceptions.the_field.row
+exceptions_sent = search (crosses, sendable) depth 60 fits 20000
+
 room_sent : IsSend room.the_row
-room_sent = search (crosses, sendable) depth 60 fits 20000
+room_sent = search (exceptions_sent, crosses, sendable) depth 60 fits 20000
 
 slot_sent : IsSend slot.the_row
 slot_sent = search (room_sent, crosses, sendable) depth 60 fits 20000
@@ -29,7 +33,7 @@ rooms_sent : IsSend rooms.the_field.row
 rooms_sent = search (slot_sent, crosses, sendable) depth 60 fits 20000
 
 series_sent : IsSend series.the_row
-series_sent = search (crosses, sendable) depth 60 fits 20000
+series_sent = search (exceptions_sent, crosses, sendable) depth 60 fits 20000
 
 event_sent : IsSend kept_event.the_row
 event_sent = search (text_sent, series_sent, crosses, tree.crosses, sendable) depth 60 fits 20000
